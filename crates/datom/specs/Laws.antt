@@ -1,0 +1,128 @@
+-- A datom's bytes and words round-trip, and a well-formed value is told by its content.
+use Prim.Native.Nat.{ℕ, zero, suc, _+_, _-_, _*_, _/_, _%_, _^_, _≤_, _<_}
+use native.Mathlib.Nat.{div-div-eq-div-mul, mod-add-div}
+use native.Mathlib.Omega.{arith}
+use mathlib.Core.Bool.{Bool, true, false, _&&_, _||_}
+use mathlib.Core.Path.{_≡_, refl, sym, _∙_, ap, ap₂}
+use mathlib.Core.List.{List, [], _∷_, _++_, append-assoc}
+use borrow.Author.Tests.{ltb-true, leb-true, eqb-true}
+use lib.Dec.{leb, ltb, eqb}
+use lib.ListN.{length, take, drop, getD, length-append}
+use lib.Seq.{take-at, drop-at, take-append-le, take-add, take-all, drop-drop, getD-take, getD-drop, length-take-le}
+use Rattle.store.specs.Words.{little, bytesOf, wordAt}
+use Rattle.store.specs.Laws.{apart, both, bytes-length, little-bytes, low-bytes, word-back, word-small}
+use Rattle.datom.specs.declared.Datom.{Datom}
+use Rattle.datom.specs.declared.Value.{Value}
+use Rattle.datom.specs.Value.{isInt, strLen, isStr, isMax, storedValue, boundValue, Content, int, str, top, content}
+use Rattle.datom.specs.Datom.{datomAt, datomOf, datomBytes, Words}
+
+pub datom-length : (d : Datom) → length (datomBytes d) ≡ 32
+unfolding datomBytes bytesOf
+datom-length d = refl
+
+-- a datom comes back from its bytes
+pub datom-back : (d : Datom) → Words d → datomOf (datomBytes d) ≡ d
+unfolding datomOf datomAt datomBytes wordAt bytesOf
+datom-back d w =
+    let e₁ : little (bytesOf 8 (d .entity .0)) ≡ d .entity .0 = little-bytes 8 (d .entity .0) (w .entity) in
+    let e₂ : little (bytesOf 8 (d .attribute .0)) ≡ d .attribute .0 = little-bytes 8 (d .attribute .0) (w .attribute) in
+    let e₃ : little (bytesOf 8 (d .value .0)) ≡ d .value .0 = little-bytes 8 (d .value .0) (w .value) in
+    let e₄ : little (bytesOf 8 (d .«transaction_operation» .0)) ≡ d .«transaction_operation» .0 =
+      little-bytes 8 (d .«transaction_operation» .0) (w .last) in
+    rw (e₁, e₂, e₃, e₄)
+
+-- and bytes come back from the datom that they are
+pub bytes-back : (s : List ℕ) → ((i : ℕ) → getD s i 0 < 256) → length s ≡ 32 → datomBytes (datomOf s) ≡ s
+unfolding datomOf datomAt datomBytes
+bytes-back s h n =
+    rw (word-back s h 0 (omega arith), word-back s h 8 (omega arith), word-back s h 16 (omega arith), word-back s h 24 (omega arith))
+    (joined s n)
+  where
+    joined : (s : List ℕ) → length s ≡ 32 → take 8 (drop 0 s) ++ (take 8 (drop 8 s) ++ (take 8 (drop 16 s) ++ take 8 (drop 24 s))) ≡ s
+    joined s n =
+        let e₃ : take 8 (drop 16 s) ++ take 8 (drop 24 s) ≡ take 16 (drop 16 s) = rw (← drop-drop 8 16 s) (sym (take-add 8 8 (drop 16 s))) in
+        let e₂ : take 8 (drop 8 s) ++ take 16 (drop 16 s) ≡ take 24 (drop 8 s) = rw (← drop-drop 8 8 s) (sym (take-add 8 16 (drop 8 s))) in
+        rw (e₃, e₂) (sym (take-add 8 24 s) ∙ take-all 32 s (omega arith))
+
+-- what bytes give is made of words
+pub words-of : (s : List ℕ) → ((i : ℕ) → getD s i 0 < 256) → (at : ℕ) → at + 32 ≤ length s → Words (datomAt s at)
+unfolding datomAt
+words-of s h at f =
+    record {
+      entity = word-small s h at (omega arith);
+      attribute = word-small s h (at + 8) (omega arith);
+      value = word-small s h (at + 16) (omega arith);
+      last = word-small s h (at + 24) (omega arith);
+    }
+
+-- a byte string: its head, its length, its contents
+pub record Str (v : Value) : Type 0 where
+  pub head : v .0 / 2 ^ 56 ≡ 128 + strLen v
+  pub few : strLen v ≤ 7
+  pub low : v .0 % 2 ^ 56 < 256 ^ strLen v
+
+pub str-form : (v : Value) → isStr v ≡ true → Str v
+unfolding isStr strLen
+str-form v h =
+    let w₁ = both _ (ltb (v .0 % 2 ^ 56) (256 ^ ((v .0 / 2 ^ 56) % 64))) h in
+    let w₂ = both (eqb (v .0 / 2 ^ 62) 2) (leb ((v .0 / 2 ^ 56) % 64) 7) (w₁ .0) in
+    let top : v .0 / 2 ^ 56 / 64 ≡ v .0 / 2 ^ 62 = div-div-eq-div-mul (v .0) (2 ^ 56) 64 in
+    let two : v .0 / 2 ^ 62 ≡ 2 = eqb-true (v .0 / 2 ^ 62) 2 (w₂ .0) in
+    let parts : v .0 / 2 ^ 56 % 64 + 64 * (v .0 / 2 ^ 56 / 64) ≡ v .0 / 2 ^ 56 = mod-add-div (v .0 / 2 ^ 56) 64 in
+    record {
+      head = head (v .0 / 2 ^ 56) (v .0 / 2 ^ 56 % 64) parts (top ∙ two);
+      few = leb-true ((v .0 / 2 ^ 56) % 64) 7 (w₂ .1);
+      low = ltb-true (v .0 % 2 ^ 56) (256 ^ ((v .0 / 2 ^ 56) % 64)) (w₁ .1);
+    }
+  where
+    head : (x r : ℕ) → r + 64 * (x / 64) ≡ x → x / 64 ≡ 2 → x ≡ 128 + r
+    head x r p q = omega arith
+
+-- the string's bytes, as a number
+str-low : (v : Value) → Str v → little (bytesOf (strLen v) (v .0)) ≡ v .0 % 2 ^ 56
+str-low v s = low (strLen v) (s .few) (s .low)
+  where
+    low : (n : ℕ) → n ≤ 7 → v .0 % 2 ^ 56 < 256 ^ n → little (bytesOf n (v .0)) ≡ v .0 % 2 ^ 56
+    low n few small =
+        let seven : n + (7 - n) ≡ 7 = omega arith in
+        let whole : v .0 % 2 ^ 56 + 2 ^ 56 * (v .0 / 2 ^ 56) ≡ v .0 = mod-add-div (v .0) (2 ^ 56) in
+        let drops : bytesOf n (v .0 % 2 ^ 56 + 256 ^ (n + (7 - n)) * (v .0 / 2 ^ 56)) ≡ bytesOf n (v .0 % 2 ^ 56) =
+          low-bytes n (7 - n) (v .0 % 2 ^ 56) (v .0 / 2 ^ 56) in
+        let same : bytesOf n (v .0) ≡ bytesOf n (v .0 % 2 ^ 56) = ap (bytesOf n) (sym whole) ∙ (rw seven at drops) in
+        rw same (little-bytes n (v .0 % 2 ^ 56) small)
+
+-- what a value may be
+pub data Form (v : Value) : Type 0 where
+  anInt : isInt v ≡ true → content v ≡ int (v .0) → Form v
+  aStr : Str v → content v ≡ str (bytesOf (strLen v) (v .0)) → Form v
+  aMax : v .0 ≡ 0xffff_ffff_ffff_ffff → content v ≡ top → Form v
+
+pub form-of : (v : Value) → boundValue v ≡ true → Form v
+unfolding boundValue storedValue content isMax
+form-of v h = side (isInt v) refl (isStr v) refl
+  where
+    side : (a : Bool) → isInt v ≡ a → (b : Bool) → isStr v ≡ b → Form v
+    side true p b q = anInt p (rw p)
+    side false p true q = aStr (str-form v q) (rw (p, q))
+    side false p false q = aMax (eqb-true (v .0) 0xffff_ffff_ffff_ffff (rw (p, q) at h)) (rw (p, q))
+
+str-tells : (v w : Value) → Str v → Str w → bytesOf (strLen v) (v .0) ≡ bytesOf (strLen w) (w .0) → v .0 ≡ w .0
+str-tells v w s t e =
+    let len : strLen v ≡ strLen w = sym (bytes-length (strLen v) (v .0)) ∙ ap length e ∙ bytes-length (strLen w) (w .0) in
+    let low : v .0 % 2 ^ 56 ≡ w .0 % 2 ^ 56 = sym (str-low v s) ∙ ap little e ∙ str-low w t in
+    let high : v .0 / 2 ^ 56 ≡ w .0 / 2 ^ 56 = cc (s .head, t .head) in
+    sym (mod-add-div (v .0) (2 ^ 56)) ∙ ap₂ (λ (l h : ℕ). l + 2 ^ 56 * h) low high ∙ mod-add-div (w .0) (2 ^ 56)
+
+pub content-tells : (v w : Value) → boundValue v ≡ true → boundValue w ≡ true → content v ≡ content w → v ≡ w
+content-tells v w p q e = ap (λ (n : ℕ). record { 0 = n }) (side (form-of v p) (form-of w q))
+  where
+    side : Form v → Form w → v .0 ≡ w .0
+    side (anInt a c) (anInt b d) = cc
+    side (anInt a c) (aStr b d) = absurd (apart (cc))
+    side (anInt a c) (aMax b d) = absurd (apart (cc))
+    side (aStr a c) (anInt b d) = absurd (apart (cc))
+    side (aStr a c) (aStr b d) = str-tells v w a b (cc)
+    side (aStr a c) (aMax b d) = absurd (apart (cc))
+    side (aMax a c) (anInt b d) = absurd (apart (cc))
+    side (aMax a c) (aStr b d) = absurd (apart (cc))
+    side (aMax a c) (aMax b d) = cc

@@ -1,0 +1,5 @@
+-- Values, last words and datoms: what they mean, and their bytes.
+pub mod Value
+pub mod Word
+pub mod Datom
+pub mod Laws

@@ -1,0 +1,177 @@
+// Datoms and what they are made of, after datom.rs of the Rust. The heap, temporaries and text are left out.
+ghost use mathlib.Core.Path.{_≡_};
+ghost use Prim.Native.Nat.{_+_, _*_, _/_, _^_, _-_};
+ghost use Rattle.datom.specs.Value.{isInt, isMax, inlineInt};
+ghost use Rattle.datom.specs.Word.{lastWord, transactionOf, operationOf};
+
+// Entity id.
+pub struct Eid(pub u64);
+
+impl Eid {
+    pub fn min() -> Eid
+        ensures { λ r. ⌜ r .0 ≡ 0 ⌝ }
+    {
+        Eid(0)
+    }
+
+    pub fn max() -> Eid
+        ensures { λ r. ⌜ r .0 ≡ 2 ^ 64 - 1 ⌝ }
+    {
+        Eid(0xffff_ffff_ffff_ffff)
+    }
+}
+
+// Attribute id.
+pub struct Aid(pub u64);
+
+impl Aid {
+    pub fn min() -> Aid
+        ensures { λ r. ⌜ r .0 ≡ 0 ⌝ }
+    {
+        Aid(0)
+    }
+
+    pub fn max() -> Aid
+        ensures { λ r. ⌜ r .0 ≡ 2 ^ 64 - 1 ⌝ }
+    {
+        Aid(0xffff_ffff_ffff_ffff)
+    }
+}
+
+// Transaction number: an even one.
+pub struct Tid(pub u64);
+
+impl Tid {
+    pub fn min() -> Tid
+        ensures { λ r. ⌜ r .0 ≡ 0 ⌝ }
+    {
+        Tid(0)
+    }
+
+    // The largest even number.
+    pub fn max() -> Tid
+        ensures { λ r. ⌜ r .0 ≡ 2 ^ 64 - 2 ⌝ }
+    {
+        Tid(0xffff_ffff_ffff_fffe)
+    }
+}
+
+pub enum Operation {
+    Retract,
+    Assert,
+}
+
+// Transaction number and operation in one word.
+pub struct TidOp(pub u64);
+
+impl TidOp {
+    // The low bit of the word: set for an assert.
+    pub const ASSERT: u64 = 1;
+
+    // The low bit is the operation's, so an odd transaction is taken for the even one below it.
+    pub fn new(transaction: Tid, operation: Operation) -> TidOp
+        ensures { λ r. ⌜ r ≡ lastWord transaction operation ⌝ }
+    {
+        let even = transaction.0 / 2 * 2;
+        match operation {
+            Operation::Retract => TidOp(even),
+            Operation::Assert => TidOp(even + TidOp::ASSERT),
+        }
+    }
+
+    pub fn transaction(self) -> Tid
+        ensures { λ r. ⌜ r ≡ transactionOf self ⌝ }
+    {
+        Tid(self.0 / 2 * 2)
+    }
+
+    pub fn operation(self) -> Operation
+        ensures { λ r. ⌜ r ≡ operationOf self ⌝ }
+    {
+        if self.0 % 2 == TidOp::ASSERT {
+            return Operation::Assert;
+        }
+        Operation::Retract
+    }
+}
+
+// An integer or a byte string of up to seven bytes in one word, or max.
+pub struct Value(pub u64);
+
+// A value that was to stand in the word itself.
+pub enum Inline {
+    Made(Value),
+    TooLarge,
+}
+
+impl Value {
+    // Only the bit that marks a value outside the word; no value has it here but max.
+    pub const TAG_EXTERNAL: u64 = 0x4000_0000_0000_0000;
+
+    // Only the bit that marks a byte string.
+    pub const TAG_BYTES: u64 = 0x8000_0000_0000_0000;
+
+    // Both tag bits.
+    pub const TAG_MASK: u64 = 0xc000_0000_0000_0000;
+
+    pub fn min() -> Value
+        ensures { λ r. ⌜ r .0 ≡ 0 ⌝ }
+    {
+        Value(0)
+    }
+
+    // Above every other value: for bounds, never stored.
+    pub fn max() -> Value
+        ensures { λ r. ⌜ r .0 ≡ 2 ^ 64 - 1 ⌝ }
+    {
+        Value(0xffff_ffff_ffff_ffff)
+    }
+
+    pub fn is_max(self) -> bool
+        ensures { λ r. ⌜ r ≡ isMax self ⌝ }
+    {
+        self.0 == 0xffff_ffff_ffff_ffff
+    }
+
+    // Whether this is an inline integer.
+    pub fn is_u64(self) -> bool
+        ensures { λ r. ⌜ r ≡ isInt self ⌝ }
+    {
+        self.0 < Value::TAG_EXTERNAL
+    }
+
+    pub fn from_u64_inline(value: u64) -> Inline
+        ensures { λ r. ⌜ r ≡ inlineInt value ⌝ }
+    {
+        if value < Value::TAG_EXTERNAL {
+            return Inline::Made(Value(value));
+        }
+        Inline::TooLarge
+    }
+
+    pub fn from_bool(value: bool) -> Value {
+        if value { Value(1) } else { Value(0) }
+    }
+}
+
+// A fact about an entity, with the transaction that asserted or retracted it.
+pub struct Datom {
+    pub entity: Eid,
+    pub attribute: Aid,
+    pub value: Value,
+    pub transaction_operation: TidOp,
+}
+
+impl Datom {
+    pub fn new(entity: Eid, attribute: Aid, value: Value, transaction: Tid, operation: Operation) -> Datom
+        ensures { λ r. ⌜ r ≡ record { entity = entity; attribute = attribute; value = value; «transaction_operation» = lastWord transaction operation } ⌝ }
+    {
+        let word = TidOp::new(transaction, operation);
+        Datom {
+            entity,
+            attribute,
+            value,
+            transaction_operation: word,
+        }
+    }
+}

@@ -1,0 +1,3 @@
+-- The order of datoms, and its laws.
+pub mod Order
+pub mod Laws

@@ -1,0 +1,5 @@
+-- Bytes and words, page ids, page sizes.
+pub mod Words
+pub mod Page
+pub mod Size
+pub mod Laws

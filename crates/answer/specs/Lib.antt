@@ -1,0 +1,2 @@
+-- The table of numbers that a caller may get.
+pub mod Table

@@ -1,0 +1,82 @@
+-- "Numbers the caller may get": for every case of every answer its number and its four words.
+use Prim.Native.Nat.{ℕ}
+use mathlib.Core.List.{List, [], _∷_}
+use Rattle.store.specs.declared.PageId.{PageId}
+use Rattle.answer.specs.declared.Refusal.{Refusal}
+use Rattle.answer.specs.declared.Refusal.the-variants.{BadStore, TooMany, BadDatom, OutOfOrder, NoPage, Repeated, Damaged, TooTall, NoRoom, BadBound}
+use Rattle.answer.specs.declared.Answer.{Answer}
+use Rattle.answer.specs.declared.Answer.the-variants as answer
+use Rattle.answer.specs.declared.Fetch.{Fetch}
+use Rattle.answer.specs.declared.Fetch.the-variants as fetch
+use Rattle.answer.specs.declared.Start.{Start}
+use Rattle.answer.specs.declared.Start.the-variants as start
+use Rattle.answer.specs.declared.Step.{Step}
+use Rattle.answer.specs.declared.Step.the-variants as step
+use Rattle.answer.specs.declared.Check.{Check}
+use Rattle.answer.specs.declared.Check.the-variants as check
+
+-- the column "No"
+abbrev pub numberOf : Refusal → ℕ
+numberOf BadStore = 1
+numberOf TooMany = 2
+numberOf (BadDatom i) = 3
+numberOf (OutOfOrder i) = 4
+numberOf NoPage = 5
+numberOf (Repeated i) = 6
+numberOf (Damaged p) = 7
+numberOf TooTall = 8
+numberOf NoRoom = 9
+numberOf BadBound = 10
+
+-- "index or page (0 if neither)"
+abbrev pub detailOf : Refusal → ℕ
+detailOf BadStore = 0
+detailOf TooMany = 0
+detailOf (BadDatom i) = i
+detailOf (OutOfOrder i) = i
+detailOf NoPage = 0
+detailOf (Repeated i) = i
+detailOf (Damaged p) = p .0
+detailOf TooTall = 0
+detailOf NoRoom = 0
+detailOf BadBound = 0
+
+-- the four words
+pub record Words : Type 0 where
+  pub number : ℕ
+  pub root : ℕ
+  pub pages : ℕ
+  pub detail : ℕ
+
+-- "number from the table .., root (the given one if refused), pages written (0 if refused), index or page (0 if neither)"
+abbrev pub refusedWords : ℕ → Refusal → Words
+refusedWords root r = record { number = numberOf r; root = root; pages = 0; detail = detailOf r }
+
+-- "0 for Done"
+abbrev pub answerWords : PageId → Answer → Words
+answerWords given (answer.Done root pages) = record { number = 0; root = root .0; pages = pages; detail = 0 }
+answerWords given (answer.Refused r) = refusedWords (given .0) r
+
+-- a call that is given no root has 0 there, and so has one with nothing to say
+abbrev pub plain : ℕ → Words
+plain number = record { number = number; root = 0; pages = 0; detail = 0 }
+
+abbrev pub fetchWords : Fetch → Words
+fetchWords fetch.Given = plain 0
+fetchWords (fetch.Refused r) = refusedWords 0 r
+
+abbrev pub startWords : PageId → Start → Words
+startWords given start.Begun = plain 0
+startWords given (start.Refused r) = refusedWords (given .0) r
+
+-- a step that yields is 0, one that has ended 32
+abbrev pub stepWords : Step → Words
+stepWords (step.Yields d) = plain 0
+stepWords step.Ended = plain 32
+stepWords (step.Refused r) = refusedWords 0 r
+
+-- Sound is 0, Unsound 33 with its page
+abbrev pub checkWords : PageId → Check → Words
+checkWords given check.Sound = plain 0
+checkWords given (check.Unsound p) = record { number = 33; root = 0; pages = 0; detail = p .0 }
+checkWords given (check.Refused r) = refusedWords (given .0) r

@@ -1,0 +1,131 @@
+// What a call may answer. specs/Table.antt gives each case the number and the four words of document 01's table.
+use datom::Datom;
+use store::PageId;
+ghost use mathlib.Core.Path.{_≡_};
+ghost use Rattle.answer.specs.Table.{numberOf, detailOf};
+
+// The rule of a readable page that is broken first, in the order in which they are tested.
+pub enum Rule {
+    Level,
+    Count,
+    Form,
+    Order,
+    LeafChild,
+    LastChild,
+    ChildId,
+}
+
+// What is wrong with a page that is read.
+pub enum Fault {
+    Missing,
+    Breaks(Rule),
+    WrongLevel,
+}
+
+// Why a call is refused, with the batch index or the page that it names.
+pub enum Refusal {
+    BadStore,
+    TooMany,
+    BadDatom(usize),
+    OutOfOrder(usize),
+    NoPage,
+    Repeated(usize),
+    Damaged(PageId),
+    TooTall,
+    NoRoom,
+    BadBound,
+}
+
+impl Refusal {
+    pub fn number(self) -> u64
+        ensures { λ r. ⌜ r ≡ numberOf self ⌝ }
+    {
+        match self {
+            Refusal::BadStore => 1,
+            Refusal::TooMany => 2,
+            Refusal::BadDatom(_) => 3,
+            Refusal::OutOfOrder(_) => 4,
+            Refusal::NoPage => 5,
+            Refusal::Repeated(_) => 6,
+            Refusal::Damaged(_) => 7,
+            Refusal::TooTall => 8,
+            Refusal::NoRoom => 9,
+            Refusal::BadBound => 10,
+        }
+    }
+
+    // The index or the page, 0 where there is neither.
+    pub fn detail(self) -> u64
+        ensures { λ r. ⌜ r ≡ detailOf self ⌝ }
+    {
+        match self {
+            Refusal::BadDatom(i) => i as u64,
+            Refusal::OutOfOrder(i) => i as u64,
+            Refusal::Repeated(i) => i as u64,
+            Refusal::Damaged(p) => p.0,
+            Refusal::BadStore => 0,
+            Refusal::TooMany => 0,
+            Refusal::NoPage => 0,
+            Refusal::TooTall => 0,
+            Refusal::NoRoom => 0,
+            Refusal::BadBound => 0,
+        }
+    }
+}
+
+// Of an insert or an initialise.
+pub enum Answer {
+    Done { root: PageId, pages: u64 },
+    Refused(Refusal),
+}
+
+// Of the second call that names the refusal of a fetch.
+pub enum Fetch {
+    Given,
+    Refused(Refusal),
+}
+
+// Of the search for the next midpoint: the caller goes on only with a child.
+pub enum NextMidpoint {
+    Child(PageId),
+    Nothing,
+}
+
+// A listing's place: the height, and for each end an index and a page for every level.
+pub struct Cursor {
+    pub height: u64,
+    pub begin_indices: [u64; 8],
+    pub begin_pages: [PageId; 8],
+    pub end_indices: [u64; 8],
+    pub end_pages: [PageId; 8],
+}
+
+pub enum Start {
+    Begun,
+    Refused(Refusal),
+}
+
+// Of the start of a listing. The cursor of a refused start has ended.
+pub struct Started {
+    pub answer: Start,
+    pub cursor: Cursor,
+}
+
+pub enum Step {
+    Yields(Datom),
+    Ended,
+    Refused(Refusal),
+}
+
+// Of a step: an ended or refused one returns its cursor as it was.
+pub struct Stepped {
+    pub answer: Step,
+    pub cursor: Cursor,
+}
+
+// Of the check.
+pub enum Check {
+    Sound,
+    Unsound(PageId),
+    Refused(Refusal),
+}

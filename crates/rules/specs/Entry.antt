@@ -1,0 +1,42 @@
+-- "A second entry is called from the C++ replicator with numbers and byte slices": what it returns, and what it leaves.
+use Prim.Native.Nat.{ℕ}
+use mathlib.Core.Bool.{cond}
+use mathlib.Core.List.{List, [], _∷_}
+use lib.Dec.{eqb}
+use lib.ListN.{length}
+use Rattle.store.specs.declared.PageId.{PageId}
+use Rattle.store.specs.declared.Extent.{Extent}
+use Rattle.store.specs.Words.{bytesOf, spread}
+use Rattle.store.specs.Page.{none}
+use Rattle.index.specs.Order.{DatomOrd}
+use Rattle.answer.specs.Table.{Words, answerWords}
+use Rattle.rules.specs.Store.{storeAfter}
+use Rattle.rules.specs.Insert.{Outcome, insertBytes, initialiseBytes}
+
+-- "It writes four 8-byte little-endian words to a lent answer area and returns the first"
+unfoldable pub wordBytes : Words → List ℕ
+wordBytes w = spread (bytesOf 8) (w .number ∷ w .root ∷ w .pages ∷ w .detail ∷ [])
+
+-- the word returned, and the store and the answer area afterwards
+pub record Reply : Type 0 where
+  pub returns : ℕ
+  pub store : List ℕ
+  pub area : List ℕ
+
+-- "An area not 32 bytes long is 1 before all else and stays unchanged."
+unfoldable pub reply : Extent → List ℕ → List ℕ → PageId → Outcome → Reply
+reply x s area root o =
+    cond (eqb (length area) 32)
+    (record {
+      returns = answerWords root (o .answer) .number;
+      store = storeAfter x s (o .pages);
+      area = wordBytes (answerWords root (o .answer));
+    })
+    (record { returns = 1; store = s; area = area })
+
+unfoldable pub insertReply : DatomOrd → Extent → List ℕ → ℕ → PageId → List ℕ → List ℕ → Reply
+insertReply t x s scratch root batch area = reply x s area root (insertBytes t x s scratch root batch)
+
+-- an initialise is given no root: none
+unfoldable pub initialiseReply : DatomOrd → Extent → List ℕ → ℕ → List ℕ → List ℕ → Reply
+initialiseReply t x s scratch batch area = reply x s area none (initialiseBytes t x s scratch batch)

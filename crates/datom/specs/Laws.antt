@@ -28,7 +28,7 @@ datom-back d w =
     let e₂ : little (bytesOf 8 (d .attribute .0)) ≡ d .attribute .0 = little-bytes 8 (d .attribute .0) (w .attribute) in
     let e₃ : little (bytesOf 8 (d .value .0)) ≡ d .value .0 = little-bytes 8 (d .value .0) (w .value) in
     let e₄ : little (bytesOf 8 (d .«transaction_operation» .0)) ≡ d .«transaction_operation» .0 =
-      little-bytes 8 (d .«transaction_operation» .0) (w .last) in
+    little-bytes 8 (d .«transaction_operation» .0) (w .last) in
     rw (e₁, e₂, e₃, e₄)
 
 -- and bytes come back from the datom that they are
@@ -87,7 +87,7 @@ str-low v s = low (strLen v) (s .few) (s .low)
         let seven : n + (7 - n) ≡ 7 = omega arith in
         let whole : v .0 % 2 ^ 56 + 2 ^ 56 * (v .0 / 2 ^ 56) ≡ v .0 = mod-add-div (v .0) (2 ^ 56) in
         let drops : bytesOf n (v .0 % 2 ^ 56 + 256 ^ (n + (7 - n)) * (v .0 / 2 ^ 56)) ≡ bytesOf n (v .0 % 2 ^ 56) =
-          low-bytes n (7 - n) (v .0 % 2 ^ 56) (v .0 / 2 ^ 56) in
+        low-bytes n (7 - n) (v .0 % 2 ^ 56) (v .0 / 2 ^ 56) in
         let same : bytesOf n (v .0) ≡ bytesOf n (v .0 % 2 ^ 56) = ap (bytesOf n) (sym whole) ∙ (rw seven at drops) in
         rw same (little-bytes n (v .0 % 2 ^ 56) small)
 

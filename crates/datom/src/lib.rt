@@ -163,7 +163,13 @@ pub struct Datom {
 }
 
 impl Datom {
-    pub fn new(entity: Eid, attribute: Aid, value: Value, transaction: Tid, operation: Operation) -> Datom
+    pub fn new(
+        entity: Eid,
+        attribute: Aid,
+        value: Value,
+        transaction: Tid,
+        operation: Operation,
+    ) -> Datom
         ensures { λ r. ⌜ r ≡ record { entity = entity; attribute = attribute; value = value; «transaction_operation» = lastWord transaction operation } ⌝ }
     {
         let word = TidOp::new(transaction, operation);

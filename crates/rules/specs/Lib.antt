@@ -11,3 +11,9 @@ pub mod Check
 pub mod Table
 pub mod Open
 pub mod Starred
+pub mod Lists
+pub mod Round
+pub mod SplitLaws
+pub mod MergeLaws
+pub mod Sizes
+pub mod Reads

@@ -75,7 +75,7 @@ unfolding bytesOf
 low-bytes zero k v q = refl
 low-bytes (suc n) k v q =
     let e : 256 ^ (suc n + k) * q ≡ 256 * (256 ^ (n + k) * q) =
-      rw (suc-add, pow-suc, mul-comm (256 ^ (n + k)) 256) (mul-assoc 256 (256 ^ (n + k)) q) in
+    rw (suc-add, pow-suc, mul-comm (256 ^ (n + k)) 256) (mul-assoc 256 (256 ^ (n + k)) q) in
     let low : (v + 256 ^ (suc n + k) * q) % 256 ≡ v % 256 = rw e (add-mul-mod-self-left v 256 (256 ^ (n + k) * q)) in
     let high : (v + 256 ^ (suc n + k) * q) / 256 ≡ v / 256 + 256 ^ (n + k) * q = rw e (omega arith) in
     rw (low, high, low-bytes n k (v / 256) q)
@@ -83,6 +83,11 @@ low-bytes (suc n) k v q =
 pub pad-length : (n : ℕ) (s : List ℕ) → length s ≤ n → length (pad n s) ≡ n
 unfolding pad
 pad-length n s h = simp (length-append, length-replicate) (omega arith)
+
+pub cells-length : {A : Type 0} (f : List ℕ → A) (w n : ℕ) (s : List ℕ) → length (cells f w n s) ≡ n
+unfolding cells
+cells-length f w zero s = refl
+cells-length f w (suc n) s = ap suc (cells-length f w n (drop w s))
 
 -- things of w bytes each, laid out and read back
 module _ {A : Type 0} (g : A → List ℕ) (w : ℕ) (wide : (x : A) → length (g x) ≡ w) where
@@ -97,8 +102,13 @@ module _ {A : Type 0} (g : A → List ℕ) (w : ℕ) (wide : (x : A) → length 
   unfolding cells spread
   cells-spread f [] rest h = refl
   cells-spread f (x ∷ xs) rest h =
-      rw (append-assoc (g x) (spread g xs) rest, take-at (g x) (spread g xs ++ rest) w (wide x), drop-at (g x) (spread g xs ++ rest) w (wide x),
-      h 0 x (suc-le-suc zero-le), cells-spread f xs rest (λ i d k. h (suc i) d (suc-le-suc k)))
+      rw (
+        append-assoc (g x) (spread g xs) rest,
+        take-at (g x) (spread g xs ++ rest) w (wide x),
+        drop-at (g x) (spread g xs ++ rest) w (wide x),
+        h 0 x (suc-le-suc zero-le),
+        cells-spread f xs rest (λ i d k. h (suc i) d (suc-le-suc k)),
+      )
 
 pub page-length : (p : PageId) → length (pageBytes p) ≡ 8
 unfolding pageBytes

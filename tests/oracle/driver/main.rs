@@ -1,0 +1,27 @@
+//! The oracle's driver: runs both builds of noblit's tree by command, and records their answers.
+
+mod run;
+mod selftest;
+mod text;
+
+use std::env;
+use std::process::exit;
+
+const USAGE: &str = "usage:
+  oracle run [--echo]   answer the commands on standard input
+  oracle selftest       compare noblit's order with the one written to document 01";
+
+fn main() {
+    let arguments: Vec<String> = env::args().skip(1).collect();
+    let words: Vec<&str> = arguments.iter().map(String::as_str).collect();
+    let outcome = match words[..] {
+        ["run"] => run::run(false),
+        ["run", "--echo"] => run::run(true),
+        ["selftest"] => selftest::selftest(),
+        _ => Err(USAGE.to_string()),
+    };
+    if let Err(problem) = outcome {
+        eprintln!("oracle: {}", problem);
+        exit(1);
+    }
+}

@@ -1,5 +1,9 @@
 //! The oracle's driver: runs both builds of noblit's tree by command, and records their answers.
 
+mod history;
+mod record;
+mod recording;
+mod replay;
 mod run;
 mod selftest;
 mod text;
@@ -9,7 +13,9 @@ use std::process::exit;
 
 const USAGE: &str = "usage:
   oracle run [--echo]   answer the commands on standard input
-  oracle selftest       compare noblit's order with the one written to document 01";
+  oracle selftest       compare noblit's order with the one written to document 01
+  oracle record FILE    record the fixed list of answers
+  oracle replay FILE    replay a recorded list on both oracles";
 
 fn main() {
     let arguments: Vec<String> = env::args().skip(1).collect();
@@ -18,6 +24,8 @@ fn main() {
         ["run"] => run::run(false),
         ["run", "--echo"] => run::run(true),
         ["selftest"] => selftest::selftest(),
+        ["record", file] => record::record(file),
+        ["replay", file] => replay::replay(file),
         _ => Err(USAGE.to_string()),
     };
     if let Err(problem) = outcome {

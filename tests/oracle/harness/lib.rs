@@ -6,16 +6,20 @@
 #[cfg(not(all(target_pointer_width = "64", target_endian = "little")))]
 compile_error!("the Rust stores datoms as the host has them: the oracle needs a 64-bit little-endian host");
 
+mod damage;
 mod datom;
 mod node;
 mod oracle;
 mod pages;
 mod panics;
 mod random;
+mod supply;
 
+pub use damage::readable_damage;
 pub use datom::{byte_string, compare, is_bound, is_storable, Datom, Value, MAX_VALUE};
 pub use node::{capacity, Node, PAGE_SIZES};
 pub use oracle::{Oracle, Order, Verdict, Which};
 pub use pages::{Pages, NONE};
 pub use panics::Panic;
 pub use random::Random;
+pub use supply::{Held, Kind, Plan, Supply};

@@ -76,7 +76,7 @@ impl Session {
             ["height", root] => self.height(root),
             ["page", page] => Ok(hex(self.page(page)?)),
             ["node", page] => self.node(page),
-            ["count"] => Ok(format!("{} pages", self.pages.count())),
+            ["count"] => Ok(format!("pages {}", self.pages.count())),
             ["poke", page, offset, byte] => self.poke(page, offset, byte),
             ["save", file] => self.save(file),
             ["load", file] => self.load(file),
@@ -124,11 +124,11 @@ impl Session {
         match outcome {
             Ok(root) => {
                 self.last_root = root;
-                format!("root {}, {} pages written", show_page_id(root), count)
+                format!("root {}, pages written {}", show_page_id(root), count)
             }
             Err(panic) => {
                 self.pages.truncate(before);
-                format!("{} ({} pages written before it, dropped)", refusal(&panic.message), count)
+                format!("{} (pages written before it, and dropped: {})", refusal(&panic.message), count)
             }
         }
     }
@@ -137,10 +137,10 @@ impl Session {
         let (root, lower, upper) = (self.root(root)?, parse_datom(lower)?, parse_datom(upper)?);
         let mut listed = Vec::new();
         let outcome = self.oracle.list(&self.pages, root, &lower, &upper, &mut listed);
-        let datoms = format!("{} datoms:{}", listed.len(), show_all(&listed, show_datom));
+        let listing = format!("listed {}:{}", listed.len(), show_all(&listed, show_datom));
         Ok(match outcome {
-            Ok(()) => datoms,
-            Err(panic) => format!("{} after {}", refusal(&panic.message), datoms),
+            Ok(()) => listing,
+            Err(panic) => format!("{}, having {}", refusal(&panic.message), listing),
         })
     }
 
@@ -179,7 +179,7 @@ impl Session {
 
     fn save(&self, file: &str) -> Result<String, String> {
         fs::write(file, self.pages.bytes()).map_err(|error| format!("{}: {}", file, error))?;
-        Ok(format!("{} pages saved", self.pages.count()))
+        Ok(format!("pages saved {}", self.pages.count()))
     }
 
     fn load(&mut self, file: &str) -> Result<String, String> {
@@ -189,7 +189,7 @@ impl Session {
         }
         self.pages.truncate(0);
         self.pages.append(&bytes);
-        Ok(format!("{} pages loaded", self.pages.count()))
+        Ok(format!("pages loaded {}", self.pages.count()))
     }
 
     fn compare(&self, left: &str, right: &str) -> Result<String, String> {

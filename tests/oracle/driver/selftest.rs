@@ -1,8 +1,8 @@
-//! Compares noblit's order with the one written to document 01, on random pairs.
+//! Compares noblit's order and byte strings with those written to document 01, on random pairs.
 
 use std::cmp::Ordering;
 
-use harness::{byte_string, compare, is_bound, Datom, Oracle, Order, Random, Which, MAX_VALUE};
+use harness::{byte_string, compare, is_bound, Datom, Oracle, Order, Random, Value, Which, MAX_VALUE};
 
 use crate::text::show_datom;
 
@@ -13,6 +13,7 @@ pub fn selftest() -> Result<(), String> {
     let mut random = Random::new(SEED);
     let (mut less, mut equal, mut greater) = (0, 0, 0);
     for _ in 0..PAIRS {
+        agreed_string(&bytes(&mut random))?;
         let left = bound(&mut random);
         let right = neighbour(&mut random, &left);
         match agreed_order(&left, &right)? {
@@ -22,6 +23,17 @@ pub fn selftest() -> Result<(), String> {
         }
     }
     println!("{} pairs agree: {} less, {} equal, {} greater", PAIRS, less, equal, greater);
+    Ok(())
+}
+
+/// Both oracles must have the word that document 01 gives a byte string.
+fn agreed_string(bytes: &[u8]) -> Result<(), String> {
+    for which in [Which::Plain, Which::Patched] {
+        let found = Oracle { which, order: Order::Eavt }.inline_bytes(bytes);
+        if found != Some(byte_string(bytes)) {
+            return Err(format!("the {:?} Rust has {:x?} for the byte string {:x?}", which, found, bytes));
+        }
+    }
     Ok(())
 }
 
@@ -89,7 +101,7 @@ fn bytes(random: &mut Random) -> Vec<u8> {
 
 /// A byte string that differs in one byte or in length by one; another value for other kinds.
 fn similar_value(random: &mut Random, word: u64) -> u64 {
-    let Some(harness::Value::Bytes(content, length)) = harness::Value::of_word(word) else {
+    let Some(Value::Bytes(content, length)) = Value::of_word(word) else {
         return value(random);
     };
     let mut bytes = content[..length].to_vec();

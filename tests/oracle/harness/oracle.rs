@@ -55,28 +55,28 @@ impl Oracle {
     pub fn initialise(self, pages: &mut Pages, batch: &[Datom]) -> Result<u64, Panic> {
         pages.forget_last_read();
         let outcome = catching(|| at_build!(self, initialise(self.order, pages, batch)));
-        self.named(pages, outcome)
+        with_page_read(pages, outcome)
     }
 
     /// The root of the tree at `root` with these datoms added, appended to the store.
     pub fn insert(self, pages: &mut Pages, root: u64, batch: &[Datom]) -> Result<u64, Panic> {
         pages.forget_last_read();
         let outcome = catching(|| at_build!(self, insert(self.order, pages, root, batch)));
-        self.named(pages, outcome)
+        with_page_read(pages, outcome)
     }
 
     /// Appends to `listed` the datoms from `lower` on and before `upper`, as far as the Rust gets.
     pub fn list(self, pages: &Pages, root: u64, lower: &Datom, upper: &Datom, listed: &mut Vec<Datom>) -> Result<(), Panic> {
         pages.forget_last_read();
         let outcome = catching(|| at_build!(self, list(self.order, pages, root, lower, upper, listed)));
-        self.named(pages, outcome)
+        with_page_read(pages, outcome)
     }
 
     /// One more than the level of the root page.
     pub fn height(self, pages: &Pages, root: u64) -> Result<u8, Panic> {
         pages.forget_last_read();
         let outcome = catching(|| at_build!(self, height(self.order, pages, root)));
-        self.named(pages, outcome)
+        with_page_read(pages, outcome)
     }
 
     /// The invariant check. The page at fault is the one its message names; where the message names
@@ -84,7 +84,7 @@ impl Oracle {
     pub fn check(self, pages: &Pages, root: u64) -> Verdict {
         pages.forget_last_read();
         let outcome = catching(|| at_build!(self, check(self.order, pages, root)));
-        match self.named(pages, outcome) {
+        match with_page_read(pages, outcome) {
             Ok(()) => Verdict::Sound,
             Err(panic) => Verdict::Unsound(page_named(&panic.message).unwrap_or(panic.last_read), panic.message),
         }
@@ -109,10 +109,10 @@ impl Oracle {
     pub fn inline_bytes(self, bytes: &[u8]) -> Option<u64> {
         at_build!(self, inline_bytes(bytes))
     }
+}
 
-    fn named<T>(self, pages: &Pages, outcome: Result<T, String>) -> Result<T, Panic> {
-        outcome.map_err(|message| Panic { message, last_read: pages.last_read() })
-    }
+fn with_page_read<T>(pages: &Pages, outcome: Result<T, String>) -> Result<T, Panic> {
+    outcome.map_err(|message| Panic { message, last_read: pages.last_read() })
 }
 
 /// The number in "Violation at page PageId(NUMBER)".

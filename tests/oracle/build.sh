@@ -10,6 +10,8 @@ set -euo pipefail
 here=$(cd "$(dirname "${BASH_SOURCE[0]}")" && pwd)
 repo=$(cd "$here/../.." && pwd)
 noblit=${FLORINWICK_SHARED:-$repo/../shared}/docs/src/noblit/src
+# shellcheck source=steps.sh
+source "$here/steps.sh"
 
 case "${1:-}" in
     '')
@@ -23,7 +25,7 @@ case "${1:-}" in
         exit 2 ;;
 esac
 # One unit keeps the build on one core.
-flags+=(-C codegen-units=1 -L "$out")
+flags+=(-C codegen-units=1)
 
 # Copies the tree's modules and the shims into $out/source/NAME, and proves the modules unchanged.
 copy_source() {
@@ -34,12 +36,6 @@ copy_source() {
     done < "$here/noblit.sha256"
     (cd "$copy" && sha256sum --quiet --strict --check "$here/noblit.sha256")
     cp "$here"/shims/*.rs "$copy/"
-}
-
-# Noblit's own warnings are its authors' matter.
-build_noblit() {
-    rustc --edition 2015 --crate-type rlib --crate-name "noblit_$1" --cap-lints allow \
-        "${flags[@]}" --out-dir "$out" "$out/source/$1/lib.rs"
 }
 
 if [ ! -d "$noblit" ]; then
@@ -53,10 +49,6 @@ build_noblit plain
 copy_source patched
 patch --quiet --fuzz=0 --directory="$out/source/patched" --strip=1 < "$here/remainder.patch"
 build_noblit patched
-
-rustc --edition 2021 --crate-type rlib --crate-name harness -D warnings \
-    "${flags[@]}" --extern noblit_plain --extern noblit_patched \
-    --out-dir "$out" "$here/harness/lib.rs"
-rustc --edition 2021 --crate-type bin --crate-name oracle -D warnings \
-    "${flags[@]}" --extern harness --out-dir "$out" "$here/driver/main.rs"
+build_harness "$here/harness"
+build_driver
 echo "built $out/oracle"

@@ -126,3 +126,15 @@ content-tells v w p q e = ap (λ (n : ℕ). record { 0 = n }) (side (form-of v p
     side (aMax a c) (anInt b d) = absurd (apart (cc))
     side (aMax a c) (aStr b d) = absurd (apart (cc))
     side (aMax a c) (aMax b d) = cc
+
+-- a bit shifted by n bytes
+pub shifted : (n : ℕ) → n ≤ 7 → (1 * 2 ^ (8 * n)) % 18446744073709551616 ≡ 256 ^ n
+shifted zero h = refl
+shifted (suc zero) h = refl
+shifted (suc (suc zero)) h = refl
+shifted (suc (suc (suc zero))) h = refl
+shifted (suc (suc (suc (suc zero)))) h = refl
+shifted (suc (suc (suc (suc (suc zero))))) h = refl
+shifted (suc (suc (suc (suc (suc (suc zero)))))) h = refl
+shifted (suc (suc (suc (suc (suc (suc (suc zero))))))) h = refl
+shifted (suc (suc (suc (suc (suc (suc (suc (suc n)))))))) h = absurd (omega arith)

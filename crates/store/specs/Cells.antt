@@ -7,7 +7,9 @@ use mathlib.Core.List.{List, [], _∷_, _++_, append-assoc, append-nil}
 use mathlib.Core.Path.{_≡_, refl, sym, ap, _∙_}
 use lib.ListN.{length, take, drop, getD, length-take, length-drop, length-append, drop-of-length-le}
 use lib.Seq.{drop-drop, drop-cons, take-at, drop-at, take-take, length-take-le, take-length, take-all, take-nil, drop-append-le, drop-append-add}
+use Rattle.store.specs.declared.PageId.{PageId}
 use Rattle.store.specs.Words.{little, cells, wordAt, wordOf, patch}
+use Rattle.store.specs.Page.{page, pageOf}
 use Rattle.store.specs.Laws.{cells-length}
 
 run : ℕ → List ℕ → ℕ → List ℕ
@@ -41,7 +43,7 @@ drop-take zero n l = rw zero-add
 drop-take (suc m) n [] = rw (take-nil, take-nil)
 drop-take (suc m) n (x ∷ l) = rw suc-add (drop-take m n l)
 
-drop-take-le : (m n : ℕ) (l : List ℕ) → m ≤ n → drop m (take n l) ≡ take (n - m) (drop m l)
+pub drop-take-le : (m n : ℕ) (l : List ℕ) → m ≤ n → drop m (take n l) ≡ take (n - m) (drop m l)
 drop-take-le m n l h =
     let e : n ≡ m + (n - m) = omega arith in
     ap (λ (k : ℕ). drop m (take k l)) e ∙ drop-take m (n - m) l
@@ -93,6 +95,14 @@ module _ {A : Type 0} (f : List ℕ → A) (w : ℕ) where
   cells-at (suc n) zero s d h = rw mul-zero
   cells-at (suc n) (suc i) s d h = rw (cells-at n i (drop w s) d (omega arith), drop-drop, next)
 
+  -- the rest from index i on
+  pub cells-from : (n i : ℕ) (s : List ℕ) → i < n → drop i (cells f w n s) ≡ f (take w (drop (w * i) s)) ∷ drop (i + 1) (cells f w n s)
+  cells-from n i s h =
+      rw (add-one, drop-cons (cells f w n s) i (f []) (omega (arith, cells-length f w n s)), cells-at n i s (f []) h)
+
+  pub cells-end : (n i : ℕ) (s : List ℕ) → n ≤ i → drop i (cells f w n s) ≡ []
+  cells-end n i s h = drop-of-length-le (cells f w n s) {i = i} (omega (arith, cells-length f w n s))
+
   pub cells-more : (n k : ℕ) (s : List ℕ) → cells f w (n + k) s ≡ cells f w n s ++ cells f w k (drop (w * n) s)
   unfolding cells
   cells-more zero k s = rw (zero-add, mul-zero)
@@ -129,3 +139,14 @@ part d s at h =
     let n : at + length s - at ≡ length s = omega arith in
     let short : length (take (length s) (drop at d)) ≤ length s = omega (arith, length-take-le (length s) (drop at d) (simp length-drop (omega arith))) in
     rw (n, take-length, drop-of-length-le (take (length s) (drop at d)) short, append-nil, drop-drop) (sym (append-assoc (take at d) s (drop (at + length s) d)))
+
+-- page ids, from an offset on
+pub pages-at : (n i at : ℕ) (s : List ℕ) (d : PageId) → i < n → getD (cells pageOf 8 n (drop at s)) i d ≡ page (wordAt s (at + 8 * i))
+unfolding wordAt pageOf
+pages-at n i at s d h = rw (cells-at pageOf 8 n i (drop at s) d h, drop-drop)
+
+pub pages-from :
+    (n i at : ℕ) (s : List ℕ) → i < n →
+    drop i (cells pageOf 8 n (drop at s)) ≡ page (wordAt s (at + 8 * i)) ∷ drop (i + 1) (cells pageOf 8 n (drop at s))
+unfolding wordAt pageOf
+pages-from n i at s h = rw (cells-from pageOf 8 n i (drop at s) h, drop-drop)

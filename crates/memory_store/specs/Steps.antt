@@ -8,7 +8,7 @@ use borrow.Author.Tests.{eq-eqb, ne-eqb, lt-ltb, le-ltb}
 use lib.ListN.{length, drop}
 use Rattle.store.specs.declared.PageId.{PageId}
 use Rattle.store.specs.Words.{wordAt, cells}
-use Rattle.store.specs.Page.{page, isNone}
+use Rattle.store.specs.Page.{page, isNone, pageOf}
 use Rattle.store.specs.Cells.{cells-end}
 use Rattle.datom.specs.declared.Datom.{Datom}
 use Rattle.datom.specs.Value.{storedValue}
@@ -16,7 +16,9 @@ use Rattle.datom.specs.Datom.{datomAt, datomOf, datomsOf, storedDatom}
 use Rattle.datom.specs.Laws.{datoms-from}
 use Rattle.index.specs.declared.Order.the-variants.{Less, Equal, Greater}
 use Rattle.index.specs.Order.{isLess, named}
+use Rattle.answer.specs.declared.NextMidpoint.the-variants.{Child, Nothing}
 use Rattle.rules.specs.Page.{all, above, rising, older}
+use Rattle.rules.specs.Node.{nextMidpoint}
 
 -- `all` at the head of a rest, and past the end
 module _ {A : Type 0} (ok : A → Bool) where
@@ -100,3 +102,16 @@ unfolding named isLess
 greater-named Ordering·lt e = cc
 greater-named Ordering·eq e = refl
 greater-named Ordering·gt e = refl
+
+-- the next midpoint at the head of a rest, and past the end
+pub next-on : {l : List PageId} {x : PageId} {r : List PageId} → l ≡ x ∷ r → isNone x ≡ true → nextMidpoint l ≡ nextMidpoint r
+unfolding nextMidpoint
+next-on e h = rw (e, nextMidpoint, h)
+
+pub next-stop : {l : List PageId} {x : PageId} {r : List PageId} → l ≡ x ∷ r → isNone x ≡ false → nextMidpoint l ≡ Child x
+unfolding nextMidpoint
+next-stop e h = rw (e, nextMidpoint, h)
+
+pub next-end : (n i at : ℕ) (s : List ℕ) → n ≤ i → nextMidpoint (drop i (cells pageOf 8 n (drop at s))) ≡ Nothing
+unfolding nextMidpoint
+next-end n i at s h = rw (cells-end pageOf 8 n i (drop at s) h)

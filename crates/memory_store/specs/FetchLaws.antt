@@ -16,7 +16,14 @@ use Rattle.store.specs.Laws.{apart, Known, known-size}
 use Rattle.answer.specs.declared.Refusal.{Refusal}
 use Rattle.answer.specs.declared.Refusal.the-variants.{BadStore, NoPage}
 use Rattle.answer.specs.declared.Fetch.the-variants.{Given, Refused}
-use Rattle.rules.specs.Store.{badStore, fetchFault, fetchAnswer, pageAt, fetched}
+use Rattle.answer.specs.declared.Rule.{Rule}
+use Rattle.answer.specs.declared.Fault.the-variants.{Missing, Breaks}
+use Rattle.index.specs.Order.{eavt}
+use Rattle.rules.specs.Page.{readPage}
+use Rattle.rules.specs.Store.{badStore, fetchFault, fetchAnswer, pageAt, fetched, fetchPage}
+use Rattle.memory_store.specs.declared.reader.Reading.the-variants.{Broken, Good}
+use Rattle.memory_store.specs.declared.found.Found.the-variants.{Faulty, Fine}
+use Rattle.memory_store.specs.Reading.{said, told}
 
 -- a store in order
 pub record InOrder (x : Extent) (s : List ℕ) : Type 0 where
@@ -86,3 +93,22 @@ module _ (x : Extent) (s : List ℕ) (p : PageId) where
       side true u b v = rw u
       side false u true v = let k : Given ≡ Refused r = rw (u, v) at e in absurd (apart (cc))
       side false u false v = rw (u, v)
+
+-- a page as it is read during a call
+module _ (x : Extent) (s : List ℕ) (p : PageId) where
+  pub found-missing : x .count ≤ p .0 → told x s p (Faulty Missing) ≡ fetchPage eavt x s p
+  unfolding told fetchPage
+  found-missing h = rw (le-ltb (p .0) (x .count) h)
+
+  module _ (h : p .0 < x .count) where
+    pub found-broken :
+        (r : Rule) → said (capacity (x .size)) (pageAt x s p) (Broken r) ≡ readPage eavt (capacity (x .size)) p (pageAt x s p) →
+        told x s p (Faulty (Breaks r)) ≡ fetchPage eavt x s p
+    unfolding told said fetchPage
+    found-broken r e = rw (lt-ltb (p .0) (x .count) h, ← e)
+
+    pub found-fine :
+        (l k : ℕ) → said (capacity (x .size)) (pageAt x s p) (Good l k) ≡ readPage eavt (capacity (x .size)) p (pageAt x s p) →
+        told x s p (Fine l k) ≡ fetchPage eavt x s p
+    unfolding told said fetchPage
+    found-fine l k e = rw (lt-ltb (p .0) (x .count) h, ← e)

@@ -1,0 +1,4 @@
+-- What the insert and its parts leave.
+pub mod Wrote
+pub mod Told
+pub mod PutLaws

@@ -1,0 +1,2 @@
+// The hitchhiker tree, after htree.rs of the Rust.
+pub mod place;

@@ -5,3 +5,4 @@ pub mod Moves
 pub mod Spans
 pub mod Merge
 pub mod Turns
+pub mod Splice

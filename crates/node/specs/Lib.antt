@@ -1,0 +1,8 @@
+-- A node in an area: what the code promises of it, and the laws behind that.
+pub mod Area
+pub mod Stores
+pub mod Moves
+pub mod Spans
+pub mod Merge
+pub mod Turns
+pub mod Splice

@@ -2,3 +2,4 @@
 pub mod Wrote
 pub mod Told
 pub mod PutLaws
+pub mod Load

@@ -3,3 +3,4 @@ pub mod Wrote
 pub mod Told
 pub mod PutLaws
 pub mod Load
+pub mod Split

@@ -34,16 +34,16 @@ batchAt m n s = datomsOf n (drop (40 * m + 8) s)
 -- whatever the insert goes on with: it has the merged node, which stands in the area, or stops as Damaged
 pub data Loads (x : Extent) (s : List ℕ) (l : ℕ) (p : PageId) (a : List ℕ) (m n : ℕ) (a₁ : List ℕ) : Loaded → Type 0 where
   loads-node :
-    {k : ℕ} → k ≤ capacity (x .size) + n → length a₁ ≡ length a →
-    ((f : Node → List Node → Stage Node) (o : List Node) →
-    insertMerged (envOf eavt x s) p (batchAt m n a) f (fetchAt (envOf eavt x s) l p) o
-    ≡ then (f (nodeOf m l k a₁) o) λ n₁ o₁. settle (envOf eavt x s) n₁ o₁) →
-    Loads x s l p a m n a₁ (loaded.Node k)
+      {k : ℕ} → k ≤ capacity (x .size) + n → length a₁ ≡ length a →
+      ((f : Node → List Node → Stage Node) (o : List Node) →
+      insertMerged (envOf eavt x s) p (batchAt m n a) f (fetchAt (envOf eavt x s) l p) o
+      ≡ then (f (nodeOf m l k a₁) o) λ n₁ o₁. settle (envOf eavt x s) n₁ o₁) →
+      Loads x s l p a m n a₁ (loaded.Node k)
   loads-bad :
-    length a₁ ≡ length a →
-    ((f : Node → List Node → Stage Node) (o : List Node) →
-    insertMerged (envOf eavt x s) p (batchAt m n a) f (fetchAt (envOf eavt x s) l p) o ≡ stop (Damaged p) o) →
-    Loads x s l p a m n a₁ loaded.Damaged
+      length a₁ ≡ length a →
+      ((f : Node → List Node → Stage Node) (o : List Node) →
+      insertMerged (envOf eavt x s) p (batchAt m n a) f (fetchAt (envOf eavt x s) l p) o ≡ stop (Damaged p) o) →
+      Loads x s l p a m n a₁ loaded.Damaged
 
 -- a merge that meets no equal datoms
 merged :

@@ -1,5 +1,5 @@
 -- One page written, or the refusal to write it.
-use Prim.Native.Nat.{ℕ, suc, _+_, _-_, _*_, _/_, _≤_, _<_}
+use Prim.Native.Nat.{ℕ, suc, _+_, _-_, _*_, _/_, _^_, _≤_, _<_}
 use native.Mathlib.Nat.{add-mul, le-div-iff-mul-le}
 use native.Mathlib.Omega.{arith}
 use mathlib.Core.List.{List, [], _∷_, _++_, append-assoc, append-nil}
@@ -65,11 +65,11 @@ module _ (x : Extent) (s : List ℕ) (n : Node) (o : List Node) where
     put-full h = rw (lt-leb 8 (n .level) low, le-ltb (length o) (length s / x .size - x .count) h) (put-failed refl)
 
     pub put-done :
-        (w : ℕ) → length o ≡ w → w < length s / x .size - x .count → {s₁ : List ℕ} → Wrote x s w (n ∷ []) s₁ →
+        (w : ℕ) → length o ≡ w → x .count + w < 2 ^ 64 → w < length s / x .size - x .count → {s₁ : List ℕ} → Wrote x s w (n ∷ []) s₁ →
         PutTold x s s₁ n o (Placed (page (x .count + w))) (put (envOf eavt x s) n o)
     unfolding put envOf
-    put-done w l h q =
-        rw (← l, lt-leb 8 (n .level) low, lt-ltb (length o) (length s / x .size - x .count) (omega arith)) (put-placed (rw l q))
+    put-done w l f h q =
+        rw (← l, lt-leb 8 (n .level) low, lt-ltb (length o) (length s / x .size - x .count) (omega arith)) (put-placed {id = page (x .count + length o)} (rw l f) (rw l q))
 
 -- a page more fits
 pub one-fits : (x : Extent) (s : List ℕ) (w : ℕ) → 0 < x .size → w < length s / x .size - x .count → (x .count + w + 1) * x .size ≤ length s

@@ -1,5 +1,5 @@
 -- What a function that writes answers, against the stage of the rules that it carries out: for every list of pages written before.
-use Prim.Native.Nat.{ℕ, _+_, _*_, _≤_}
+use Prim.Native.Nat.{ℕ, _+_, _*_, _^_, _≤_, _<_}
 use mathlib.Core.Bool.{false}
 use mathlib.Core.List.{List, [], _∷_, _++_}
 use mathlib.Core.Path.{_≡_, refl}
@@ -26,7 +26,8 @@ pub record Ready (x : Extent) (s : List ℕ) (c w : ℕ) : Type 0 where
 
 -- one page
 pub data PutTold (x : Extent) (s s₁ : List ℕ) (n : Node) (o : List Node) : Put → Stage PageId → Type 0 where
-  put-placed : {id : PageId} → Wrote x s (length o) (n ∷ []) s₁ → PutTold x s s₁ n o (put.Placed id) (go id (o ++ (n ∷ [])))
+  put-placed :
+      {id : PageId} → id .0 < 2 ^ 64 → Wrote x s (length o) (n ∷ []) s₁ → PutTold x s s₁ n o (put.Placed id) (go id (o ++ (n ∷ [])))
   put-failed : {r : Refusal} → s₁ ≡ s → PutTold x s s₁ n o (put.Failed r) (stop r o)
 
 abbrev pub Puts : Extent → List ℕ → List ℕ → ℕ → Node → Put → Type 0
@@ -45,8 +46,10 @@ Tells x s s₁ m a₁ w r stage = (o : List Node) → length o ≡ w → Told x 
 
 -- what an answer says of the stage, and an answer from what is known of it
 module _ {x : Extent} {s s₁ : List ℕ} {n : Node} {o : List Node} where
-  pub put-is : {id : PageId} {t : Stage PageId} → PutTold x s s₁ n o (put.Placed id) t → (t ≡ go id (o ++ (n ∷ []))) × Wrote x s (length o) (n ∷ []) s₁
-  put-is (put-placed w) = (refl, w)
+  pub put-is :
+      {id : PageId} {t : Stage PageId} → PutTold x s s₁ n o (put.Placed id) t →
+      (t ≡ go id (o ++ (n ∷ []))) × Wrote x s (length o) (n ∷ []) s₁ × (id .0 < 2 ^ 64)
+  put-is (put-placed f w) = (refl, w, f)
 
   pub put-is-not : {r : Refusal} {t : Stage PageId} → PutTold x s s₁ n o (put.Failed r) t → (t ≡ stop r o) × (s₁ ≡ s)
   put-is-not (put-failed e) = (refl, e)

@@ -1,6 +1,6 @@
 // Insert into a page, and flush: they call each other, the level falling at each call.
-use answer::Refusal;
 use crate::place::Inserted;
+use answer::Refusal;
 use memory_store::found::Found;
 use node::Merged;
 use store::Extent;
@@ -20,11 +20,24 @@ pub enum Loaded {
 }
 
 // Page `page`, which is to be of this level, is merged into the area with the batch of n datoms that lies behind it.
-fn load(store: &[u8], extent: Extent, c: usize, level: usize, page: PageId, s: &mut [u8], m: usize, n: usize) -> Loaded
+fn load(
+    store: &[u8],
+    extent: Extent,
+    c: usize,
+    level: usize,
+    page: PageId,
+    s: &mut [u8],
+    m: usize,
+    n: usize,
+) -> Loaded
     requires { ⌜ (badStore extent (now store) ≡ false) × (c ≡ capacity (extent .size)) × (c + n ≤ m) × (40 * m + 8 + 32 * n ≤ length (now s)) ⌝ }
     ensures { λ r. ⌜ Loads extent (now (store .entry)) level page (now (s .entry)) m n (now (s .exit)) r ⌝ }
 {
-    let Found::Fine { level: found, count: k } = memory_store::found::node_at(store, extent, c, page) else {
+    let Found::Fine {
+        level: found,
+        count: k,
+    } = memory_store::found::node_at(store, extent, c, page)
+    else {
         return Loaded::Damaged;
     };
     if found != level {

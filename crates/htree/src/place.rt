@@ -3,11 +3,15 @@ use answer::Refusal;
 use store::Extent;
 use store::PageId;
 ghost use mathlib.Core.Path.{_≡_};
-ghost use Prim.Native.Nat.{_+_, _*_, _≤_};
+ghost use Prim.Native.Nat.{_+_, _*_, _-_, _≤_, _<_};
 ghost use lib.ListN.{length};
 ghost use Rattle.rules.specs.Page.{nodeOf};
 ghost use Rattle.memory_store.specs.Layout.{partOf};
-ghost use Rattle.htree.specs.Told.{Ready, Puts};
+ghost use Rattle.index.specs.Order.{eavt};
+ghost use Rattle.rules.specs.Tree.{split};
+ghost use Rattle.rules.specs.Store.{envOf};
+ghost use Rattle.htree.specs.Told.{Ready, Puts, Tells};
+ghost use Rattle.htree.specs.Split.{Parted};
 
 // A page's id, or why it is not written.
 pub enum Put {
@@ -49,4 +53,83 @@ pub fn put_part(
     let at = written as usize * size;
     memory_store::writer::write_page(&mut store[start..], at, size, c, level, area, m, n, i, a);
     Put::Placed(PageId(extent.count + written))
+}
+
+// Part p of a split, with k children from index i on: its page is written, its midpoint and page id go up to index p of the area.
+fn split_part(
+    store: &mut [u8],
+    extent: Extent,
+    c: usize,
+    written: u64,
+    level: usize,
+    s: &mut [u8],
+    m: usize,
+    n: usize,
+    p: usize,
+    i: usize,
+    k: usize,
+) -> Put
+    requires { ⌜ Ready extent (now store) c written × (40 * m + 8 ≤ length (now s)) × (n ≤ m) × (0 < k) × (i + k ≤ n) × (k ≤ c + 1) × (p ≤ i) ⌝ }
+    ensures { λ r. ⌜ Parted extent (now (store .entry)) (now (store .exit)) written level m p i k (now (s .entry)) (now (s .exit)) r ⌝ }
+{
+    match put_part(store, extent, c, written, level, s, m, n, i, k - 1) {
+        Put::Placed(id) => {
+            node::put_midpoint(s, m, p, i + k - 1);
+            node::put_child(s, m, p, id);
+            Put::Placed(id)
+        }
+        Put::Failed(refusal) => Put::Failed(refusal),
+    }
+}
+
+// The node of n datoms in the area, more than c, becomes as many pages as need be; what stands in the area then is the node of the
+// midpoints between them, one level up.
+pub fn split(
+    store: &mut [u8],
+    extent: Extent,
+    c: usize,
+    written: u64,
+    level: usize,
+    s: &mut [u8],
+    m: usize,
+    n: usize,
+) -> Inserted
+    requires { ⌜ Ready extent (now store) c written × (40 * m + 8 ≤ length (now s)) × (n ≤ m) × (c < n) ⌝ }
+    ensures { λ r. ⌜ Tells extent (now (store .entry)) (now (store .exit)) m (now (s .exit)) written r (split (envOf eavt extent (now (store .entry))) (nodeOf m level n (now (s .entry)))) ⌝ }
+{
+    let pages = (n + (c - 1)) / c;
+    let each = (n + 1) / pages;
+    let more = (n + 1) % pages;
+    let mut p = 0;
+    let mut i = 0;
+    let mut next = written;
+    while p + 1 < pages {
+        let k = node::share_of(each, more, p);
+        match split_part(store, extent, c, next, level, s, m, n, p, i, k) {
+            Put::Placed(_) => {
+                next += 1;
+                i += k;
+                p += 1;
+            }
+            Put::Failed(refusal) => {
+                return Inserted::Failed {
+                    refusal,
+                    written: next,
+                };
+            }
+        }
+    }
+    match put_part(store, extent, c, next, level, s, m, n, i, n - i) {
+        Put::Placed(id) => {
+            node::put_child(s, m, p, id);
+            Inserted::Placed {
+                datoms: p,
+                written: next + 1,
+            }
+        }
+        Put::Failed(refusal) => Inserted::Failed {
+            refusal,
+            written: next,
+        },
+    }
 }

@@ -27,37 +27,37 @@ enum-told : tie.Need-enum-told
 enum-told c = search needs
 
 returns : tie.Need-returns
-returns c = 
+returns c =
     let a = c .before .before .before .before .before .args in
     load-faulty (a .extent) (a .store .now) (a .level) (a .page) (a .s .now) (a .m) (a .n) _
     (sym (ap (told (a .extent) (a .store .now) (a .page)) (c .enum-told .given .1)) ∙ c .before .before .node-at .ensures)
 
 returns-2 : tie.Need-returns-2
-returns-2 c = 
+returns-2 c =
     let a = c .before .before .before .before .before .before .before .args in
     let f = c .before .before .found .given .0 .0 in
     let k = c .before .before .found .given .0 .1 .0 in
     let e : told (a .extent) (a .store .now) (a .page) (Fine f k) ≡ fetchPage eavt (a .extent) (a .store .now) (a .page) =
-      sym (ap (told (a .extent) (a .store .now) (a .page)) (c .before .before .found .given .1)) ∙ c .before .before .before .before .node-at .ensures in
+    sym (ap (told (a .extent) (a .store .now) (a .page)) (c .before .before .found .given .1)) ∙ c .before .before .before .before .node-at .ensures in
     load-other (a .extent) (a .store .now) (a .level) (a .page) (a .s .now) (a .m) (a .n) f k e (c .if1 .taken)
 
 mul-at : tie.Need-mul-at
-mul-at c = 
+mul-at c =
     let a = c .before .before .before .before .before .before .before .args in
     let f = c .before .before .found .given .0 .0 in
     let k = c .before .before .found .given .0 .1 .0 in
     let e : told (a .extent) (a .store .now) (a .page) (Fine f k) ≡ fetchPage eavt (a .extent) (a .store .now) (a .page) =
-      sym (ap (told (a .extent) (a .store .now) (a .page)) (c .before .before .found .given .1)) ∙ c .before .before .before .before .node-at .ensures in
+    sym (ap (told (a .extent) (a .store .now) (a .page)) (c .before .before .found .given .1)) ∙ c .before .before .before .before .node-at .ensures in
     let o = in-order (a .extent) (a .store .now) (c .before .before .before .before .before .before .before .pre .0) in
     let i = page-inside (a .extent) (a .store .now) (a .page .0) o (load-below (a .extent) (a .store .now) (a .level) (a .page) (a .s .now) (a .m) (a .n) f k e) in omega arith
 
 add-merge : tie.Need-add-merge
-add-merge c = 
+add-merge c =
     let a = c .before .before .before .before .before .before .before .args in
     let f = c .before .before .found .given .0 .0 in
     let k = c .before .before .found .given .0 .1 .0 in
     let e : told (a .extent) (a .store .now) (a .page) (Fine f k) ≡ fetchPage eavt (a .extent) (a .store .now) (a .page) =
-      sym (ap (told (a .extent) (a .store .now) (a .page)) (c .before .before .found .given .1)) ∙ c .before .before .before .before .node-at .ensures in
+    sym (ap (told (a .extent) (a .store .now) (a .page)) (c .before .before .found .given .1)) ∙ c .before .before .before .before .node-at .ensures in
     let o = in-order (a .extent) (a .store .now) (c .before .before .before .before .before .before .before .pre .0) in
     let i = page-inside (a .extent) (a .store .now) (a .page .0) o (load-below (a .extent) (a .store .now) (a .level) (a .page) (a .s .now) (a .m) (a .n) f k e) in omega arith
 
@@ -68,12 +68,12 @@ part-merge-start : tie.Need-part-merge-start
 part-merge-start c = search needs
 
 part-merge-end : tie.Need-part-merge-end
-part-merge-end c = 
+part-merge-end c =
     let a = c .before .before .before .before .before .before .before .args in
     let f = c .before .before .found .given .0 .0 in
     let k = c .before .before .found .given .0 .1 .0 in
     let e : told (a .extent) (a .store .now) (a .page) (Fine f k) ≡ fetchPage eavt (a .extent) (a .store .now) (a .page) =
-      sym (ap (told (a .extent) (a .store .now) (a .page)) (c .before .before .found .given .1)) ∙ c .before .before .before .before .node-at .ensures in
+    sym (ap (told (a .extent) (a .store .now) (a .page)) (c .before .before .found .given .1)) ∙ c .before .before .before .before .node-at .ensures in
     let o = in-order (a .extent) (a .store .now) (c .before .before .before .before .before .before .before .pre .0) in
     let i = page-inside (a .extent) (a .store .now) (a .page .0) o (load-below (a .extent) (a .store .now) (a .level) (a .page) (a .s .now) (a .m) (a .n) f k e) in omega arith
 
@@ -84,28 +84,29 @@ add-merge-2 : tie.Need-add-merge-2
 add-merge-2 c = search needs
 
 merge-requires : tie.Need-merge-requires
-merge-requires c κs = 
+merge-requires c κs =
     let a = c .before .before .before .before .before .before .before .before .before .args in
     let f = c .before .before .before .before .found .given .0 .0 in
     let k = c .before .before .before .before .found .given .0 .1 .0 in
     let e : told (a .extent) (a .store .now) (a .page) (Fine f k) ≡ fetchPage eavt (a .extent) (a .store .now) (a .page) =
-      sym (ap (told (a .extent) (a .store .now) (a .page)) (c .before .before .before .before .found .given .1)) ∙ c .before .before .before .before .before .before .node-at .ensures in
+    sym (ap (told (a .extent) (a .store .now) (a .page)) (c .before .before .before .before .found .given .1)) ∙ c .before .before .before .before .before .before .node-at .ensures in
     let o = in-order (a .extent) (a .store .now) (c .before .before .before .before .before .before .before .before .before .pre .0) in
     let i = page-inside (a .extent) (a .store .now) (a .page .0) o (load-below (a .extent) (a .store .now) (a .level) (a .page) (a .s .now) (a .m) (a .n) f k e) in
-    let few = load-few (a .extent) (a .store .now) (a .level) (a .page) (a .s .now) (a .m) (a .n) f k e in
-    (simp (add-sub-cancel-left, length-take, length-drop) (omega (arith, o .known .fits, c .before .before .before .before .before .before .before .before .before .pre .1)),
-    (omega (arith, c .before .before .before .before .before .before .before .before .before .pre .1), (search needs, (omega (arith, c .before .before .before .before .before .before .before .before .before .pre .1), search needs))))
+    let few = load-few (a .extent) (a .store .now) (a .level) (a .page) (a .s .now) (a .m) (a .n) f k e in (
+      simp (add-sub-cancel-left, length-take, length-drop) (omega (arith, o .known .fits, c .before .before .before .before .before .before .before .before .before .pre .1)),
+      (omega (arith, c .before .before .before .before .before .before .before .before .before .pre .1), (search needs, (omega (arith, c .before .before .before .before .before .before .before .before .before .pre .1), search needs))),
+    )
 
 enum-told-2 : tie.Need-enum-told-2
 enum-told-2 c = search needs
 
 add-t26 : tie.Need-add-t26
-add-t26 c = 
+add-t26 c =
     let a = c .before .before .before .before .before .before .before .before .before .before .before .before .before .before .args in
     let f = c .before .before .before .before .before .before .before .before .before .found .given .0 .0 in
     let k = c .before .before .before .before .before .before .before .before .before .found .given .0 .1 .0 in
     let e : told (a .extent) (a .store .now) (a .page) (Fine f k) ≡ fetchPage eavt (a .extent) (a .store .now) (a .page) =
-      sym (ap (told (a .extent) (a .store .now) (a .page)) (c .before .before .before .before .before .before .before .before .before .found .given .1)) ∙ c .before .before .before .before .before .before .before .before .before .before .before .node-at .ensures in
+    sym (ap (told (a .extent) (a .store .now) (a .page)) (c .before .before .before .before .before .before .before .before .before .found .given .1)) ∙ c .before .before .before .before .before .before .before .before .before .before .before .node-at .ensures in
     let few = load-few (a .extent) (a .store .now) (a .level) (a .page) (a .s .now) (a .m) (a .n) f k e in
     omega (arith, c .before .before .before .before .before .before .before .before .before .before .before .before .before .before .pre .1)
 
@@ -117,12 +118,12 @@ same-length c = search needs
 
 returns-3 : tie.Need-returns-3
 unfolding pageAt
-returns-3 c = 
+returns-3 c =
     let a = c .before .before .before .before .before .before .before .before .before .before .before .before .before .before .args in
     let f = c .before .before .before .before .before .before .before .before .before .found .given .0 .0 in
     let k = c .before .before .before .before .before .before .before .before .before .found .given .0 .1 .0 in
     let e : told (a .extent) (a .store .now) (a .page) (Fine f k) ≡ fetchPage eavt (a .extent) (a .store .now) (a .page) =
-      sym (ap (told (a .extent) (a .store .now) (a .page)) (c .before .before .before .before .before .before .before .before .before .found .given .1)) ∙ c .before .before .before .before .before .before .before .before .before .before .before .node-at .ensures in
+    sym (ap (told (a .extent) (a .store .now) (a .page)) (c .before .before .before .before .before .before .before .before .before .found .given .1)) ∙ c .before .before .before .before .before .before .before .before .before .before .before .node-at .ensures in
     let M = rw add-sub-cancel-left at (c .before .before .before .before .merge .ensures) in
     load-whole (a .extent) (a .store .now) (a .level) (a .page) (a .s .now) (a .m) (a .n) f k e (c .before .before .before .before .before .before .before .if1 .left) _ (M .same)
     (is-whole _ (sym (M .answer) ∙ c .enum-told2 .given .1)) (rw (c .before .before .before .before .before .before .before .before .before .before .before .before .before .before .pre .1) at (M .node (c .enum-told2 .given .1) (a .level)))
@@ -132,12 +133,12 @@ same-length-2 c = search needs
 
 returns-4 : tie.Need-returns-4
 unfolding pageAt
-returns-4 c = 
+returns-4 c =
     let a = c .before .before .before .before .before .before .before .before .before .before .before .before .before .before .args in
     let f = c .before .before .before .before .before .before .before .before .before .found .given .0 .0 in
     let k = c .before .before .before .before .before .before .before .before .before .found .given .0 .1 .0 in
     let e : told (a .extent) (a .store .now) (a .page) (Fine f k) ≡ fetchPage eavt (a .extent) (a .store .now) (a .page) =
-      sym (ap (told (a .extent) (a .store .now) (a .page)) (c .before .before .before .before .before .before .before .before .before .found .given .1)) ∙ c .before .before .before .before .before .before .before .before .before .before .before .node-at .ensures in
+    sym (ap (told (a .extent) (a .store .now) (a .page)) (c .before .before .before .before .before .before .before .before .before .found .given .1)) ∙ c .before .before .before .before .before .before .before .before .before .before .before .node-at .ensures in
     let M = rw add-sub-cancel-left at (c .before .before .before .before .merge .ensures) in
     load-met (a .extent) (a .store .now) (a .level) (a .page) (a .s .now) (a .m) (a .n) f k e (c .before .before .before .before .before .before .before .if1 .left) _ (M .same)
     (is-met _ (sym (M .answer) ∙ c .enum-told3 .given .1))

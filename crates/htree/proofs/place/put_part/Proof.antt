@@ -96,7 +96,7 @@ returns-3 c =
     (part-lens (a .m) (a .level) (a .n) (a .i) (a .a) (a .area .now) (omega arith)
     ∙ ap suc (sym (part-few (a .m) (a .level) (a .n) (a .i) (a .a) (a .area .now) (omega arith)))) in
     λ q l.
-    put-done (a .extent) (a .store .now) n q (omega arith) (a .written) l (omega arith)
+    put-done (a .extent) (a .store .now) n q (omega arith) (a .written) l (omega (arith, div-le-self (length (a .store .now)) (a .extent .size))) (omega arith)
     (rw (c .before .before .before .write-page .ensures, back, ← g, R .cap)
     (wrote-one (a .extent) (a .store .now) (a .written) n (rw (R .cap) at size) f))
 

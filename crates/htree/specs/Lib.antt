@@ -4,3 +4,4 @@ pub mod Told
 pub mod PutLaws
 pub mod Load
 pub mod Split
+pub mod Settle

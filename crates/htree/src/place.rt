@@ -8,7 +8,7 @@ ghost use lib.ListN.{length};
 ghost use Rattle.rules.specs.Page.{nodeOf};
 ghost use Rattle.memory_store.specs.Layout.{partOf};
 ghost use Rattle.index.specs.Order.{eavt};
-ghost use Rattle.rules.specs.Tree.{split};
+ghost use Rattle.rules.specs.Tree.{split, settle};
 ghost use Rattle.rules.specs.Store.{envOf};
 ghost use Rattle.htree.specs.Told.{Ready, Puts, Tells};
 ghost use Rattle.htree.specs.Split.{Parted};
@@ -131,5 +131,34 @@ pub fn split(
             refusal,
             written: next,
         },
+    }
+}
+
+// The node of n datoms in the area is split if it is over c, else it becomes one page, and that page's id is what goes up.
+pub fn settle(
+    store: &mut [u8],
+    extent: Extent,
+    c: usize,
+    written: u64,
+    level: usize,
+    s: &mut [u8],
+    m: usize,
+    n: usize,
+) -> Inserted
+    requires { ⌜ Ready extent (now store) c written × (40 * m + 8 ≤ length (now s)) × (n ≤ m) ⌝ }
+    ensures { λ r. ⌜ Tells extent (now (store .entry)) (now (store .exit)) m (now (s .exit)) written r (settle (envOf eavt extent (now (store .entry))) (nodeOf m level n (now (s .entry)))) ⌝ }
+{
+    if c < n {
+        return split(store, extent, c, written, level, s, m, n);
+    }
+    match put_part(store, extent, c, written, level, s, m, n, 0, n) {
+        Put::Placed(id) => {
+            node::put_child(s, m, 0, id);
+            Inserted::Placed {
+                datoms: 0,
+                written: written + 1,
+            }
+        }
+        Put::Failed(refusal) => Inserted::Failed { refusal, written },
     }
 }

@@ -41,7 +41,7 @@ use Rattle.htree.specs.Load.{batchAt, Loads, loads-node, loads-bad}
 abbrev pub below : Extent → List ℕ → ℕ → Below
 below x s l = λ p ds o. insertInto (envOf eavt x s) (l - 1) p ds o
 
-node-count : (m l n : ℕ) (a : List ℕ) → length (nodeOf m l n a .datoms) ≡ n
+pub node-count : (m l n : ℕ) (a : List ℕ) → length (nodeOf m l n a .datoms) ≡ n
 unfolding nodeOf
 node-count m l n a = cells-length datomOf 32 n a
 
@@ -156,7 +156,7 @@ pub is-not-over : (x : Extent) (s : List ℕ) (m l n : ℕ) (a : List ℕ) → n
 unfolding isOver envOf nodeOf
 is-not-over x s m l n a h = le-ltb (capacity (x .size)) (length (cells datomOf 32 n a)) (omega (arith, cells-length datomOf 32 n a))
 
-node-level : (m l n : ℕ) (a : List ℕ) → nodeOf m l n a .level ≡ l
+pub node-level : (m l n : ℕ) (a : List ℕ) → nodeOf m l n a .level ≡ l
 unfolding nodeOf
 node-level m l n a = refl
 

@@ -7,3 +7,4 @@ pub mod Split
 pub mod Settle
 pub mod Flush
 pub mod Cycle
+pub mod Root

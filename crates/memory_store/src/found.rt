@@ -1,6 +1,6 @@
 // A page as it is read during a call.
-use answer::Fault;
 use crate::reader::Reading;
+use answer::Fault;
 use store::Extent;
 use store::PageId;
 ghost use mathlib.Core.Bool.{false};

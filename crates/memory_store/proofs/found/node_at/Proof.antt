@@ -31,7 +31,7 @@ part-read-page-end : tie.Need-part-read-page-end
 part-read-page-end c = omega (arith, page-inside _ _ (c .before .before .before .before .args .page .0) (in-order _ _ (c .before .before .before .before .pre .0)) (omega arith))
 
 read-page-requires : tie.Need-read-page-requires
-read-page-requires c κs = 
+read-page-requires c κs =
     let a = c .before .before .before .before .before .args in
     let o = in-order (a .extent) (a .store .now) (c .before .before .before .before .before .pre .0) in
     simp (add-sub-cancel-left, length-take, length-drop) (omega (arith, page-inside (a .extent) (a .store .now) (a .page .0) o (omega arith), o .known .fits, c .before .before .before .before .before .pre .1))
@@ -44,14 +44,14 @@ enum-known-level c = search needs
 
 returns-2 : tie.Need-returns-2
 unfolding pageAt
-returns-2 c = 
+returns-2 c =
     let a = c .before .before .before .before .before .before .before .before .before .args in
     let e = ap (said (a .c) (take (a .page .0 * a .extent .size + a .extent .size - a .page .0 * a .extent .size) (drop (a .page .0 * a .extent .size) (a .store .now)))) (c .before .rule .given .1) in
     found-broken (a .extent) (a .store .now) (a .page) (omega arith) _ (rw (add-sub-cancel-left, c .before .before .before .before .before .before .before .before .before .pre .1) at (sym e ∙ c .before .before .before .read-page .ensures))
 
 returns-3 : tie.Need-returns-3
 unfolding pageAt
-returns-3 c = 
+returns-3 c =
     let a = c .before .before .before .before .before .before .before .before .before .args in
     let e = ap (said (a .c) (take (a .page .0 * a .extent .size + a .extent .size - a .page .0 * a .extent .size) (drop (a .page .0 * a .extent .size) (a .store .now)))) (c .before .level .given .1) in
     found-fine (a .extent) (a .store .now) (a .page) (omega arith) _ _ (rw (add-sub-cancel-left, c .before .before .before .before .before .before .before .before .before .pre .1) at (sym e ∙ c .before .before .before .read-page .ensures))

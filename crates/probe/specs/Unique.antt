@@ -9,8 +9,7 @@ use Rattle.store.specs.declared.Extent.{Extent}
 use Rattle.store.specs.Size.{capacity}
 use Rattle.store.specs.Laws.{apart, cells-length}
 use Rattle.datom.specs.Datom.{datomOf}
-use Rattle.rules.specs.Page.{Node, nodeOf, broken, good}
-use Rattle.rules.specs.Tree.{faulty, fine}
+use Rattle.rules.specs.Page.{Node, nodeOf}
 use Rattle.rules.specs.Store.{pageAt}
 use Rattle.memory_store.specs.declared.reader.Reading.{Reading}
 use Rattle.memory_store.specs.declared.reader.Reading.the-variants.{Broken, Good}

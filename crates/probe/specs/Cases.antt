@@ -1,0 +1,363 @@
+-- What the rules answer to the inputs of docs/DIFFERENCES.md, and where document 01 has a sentence that no starred example shows.
+use Prim.Native.Nat.{ℕ}
+use mathlib.Core.Bool.{true}
+use mathlib.Core.List.{List, [], _∷_, map}
+use mathlib.Core.Path.{_≡_, refl}
+use lib.ListN.{set}
+use Rattle.store.specs.declared.PageId.{PageId}
+use Rattle.store.specs.Words.{zeros}
+use Rattle.store.specs.Size.{capacity, scratchNeed}
+use Rattle.store.specs.Page.{page, none}
+use Rattle.datom.specs.declared.Datom.{Datom}
+use Rattle.index.specs.Order.{eavt}
+use Rattle.answer.specs.declared.Refusal.the-variants.{BadStore, TooMany, BadDatom, OutOfOrder, NoPage, Repeated, Damaged, TooTall, NoRoom, BadBound}
+use Rattle.answer.specs.declared.Answer.{Answer}
+use Rattle.answer.specs.declared.Answer.the-variants.{Done, Refused}
+use Rattle.answer.specs.declared.Cursor.{Cursor}
+use Rattle.answer.specs.declared.Step.the-variants as step
+use Rattle.answer.specs.declared.Stepped.{Stepped}
+use Rattle.answer.specs.declared.Check.{Check}
+use Rattle.answer.specs.declared.Check.the-variants.{Sound, Unsound}
+use Rattle.rules.specs.Page.{Node}
+use Rattle.rules.specs.Tree.{stop, put}
+use Rattle.rules.specs.Store.{badStore, envOf, storeAfter}
+use Rattle.rules.specs.Insert.{Outcome, leafOf, insert, initialise, insertBytes}
+use Rattle.rules.specs.Listing.{eight, Listed, whole, cut, startList, stepList, listing}
+use Rattle.rules.specs.Check.{checkTree}
+use Rattle.rules.specs.Table.{d, run, scratch, Place, went, calls}
+use Rattle.rules.specs.Open.{rules}
+
+-- a datom with entity and attribute 0
+abbrev valued : ℕ → Datom
+valued v = record { entity = record { 0 = 0 }; attribute = record { 0 = 0 }; value = record { 0 = v }; «transaction_operation» = record { 0 = 0 } }
+
+-- an initialise of an empty store with room for n pages
+abbrev fresh : ℕ → List Datom → Outcome
+fresh n ds = initialise eavt (record { size = 256; count = 0 }) (zeros n) scratch ds
+
+abbrev initialised : List Datom → Answer
+initialised ds = fresh 2048 ds .answer
+
+-- calls at a place where calls have come to
+abbrev inserted : Place → PageId → List Datom → Answer
+inserted p root ds = insert eavt (p .extent) (p .store) scratch root ds .answer
+
+abbrev listed : Place → PageId → Datom → Datom → Listed
+listed p root lo hi = listing eavt (p .extent) (p .store) 20 (startList eavt (p .extent) (p .store) root lo hi)
+
+abbrev checked : Place → PageId → Check
+checked p root = checkTree eavt (p .extent) (p .store) root
+
+-- a byte of the store set
+abbrev poked : Place → ℕ → ℕ → Place
+poked p at b = record { extent = p .extent; store = set (p .store) at b; root = p .root; answer = p .answer }
+
+abbrev c : Place
+c = calls (run 0 7) []
+
+-- 3: malformed values, and max
+stores-no-external : initialised (valued 0x4000_0000_0000_0000 ∷ []) ≡ Refused (BadDatom 0)
+unfolding rules
+stores-no-external = refl
+
+stores-no-long-string : initialised (valued 0x8000_0000_0000_0000 ∷ valued 0x8000_0000_0000_0061 ∷ []) ≡ Refused (BadDatom 1)
+unfolding rules
+stores-no-long-string = refl
+
+stores-no-max : initialised (valued 0xffff_ffff_ffff_ffff ∷ []) ≡ Refused (BadDatom 0)
+unfolding rules
+stores-no-max = refl
+
+-- 4: a page that is not readable
+level-damaged : inserted (poked c 760 8) (page 2) [] ≡ Refused (Damaged (page 2))
+unfolding rules
+level-damaged = refl
+
+level-unsound : checked (poked c 760 8) (page 2) ≡ Unsound (page 2)
+unfolding rules
+level-unsound = refl
+
+order-damaged : listed (poked c 0 9) (page 2) (d 0) (d 99) ≡ cut (Damaged (page 0)) []
+unfolding rules
+order-damaged = refl
+
+-- its last child is page 9: the page that names it is at fault
+child-unsound : checked (poked c 712 9) (page 2) ≡ Unsound (page 2)
+unfolding rules
+child-unsound = refl
+
+-- 5: root none
+inserts-at-none : inserted (calls [] []) none (run 0 7) ≡ Done (page 2) 3
+unfolding rules
+inserts-at-none = refl
+
+inserts-nothing-at-none : inserted (calls [] []) none [] ≡ Done none 0
+unfolding rules
+inserts-nothing-at-none = refl
+
+-- after insert's own checks
+checks-at-none : inserted (calls [] []) none (d 1 ∷ d 0 ∷ []) ≡ Refused (OutOfOrder 1)
+unfolding rules
+checks-at-none = refl
+
+lists-at-none : listed c none (d 0) (d 9) ≡ whole []
+unfolding rules
+lists-at-none = refl
+
+-- 6: a repeat that no merged page shows, and one that comes second
+repeats-below : inserted c (page 2) (d 0 ∷ []) ≡ Refused (Repeated 0)
+unfolding rules
+repeats-below = refl
+
+repeats-second : inserted c (page 2) (valued 0 ∷ d 6 ∷ []) ≡ Refused (Repeated 1)
+unfolding rules
+repeats-second = refl
+
+-- 7: a lower bound above the upper
+lists-backwards : listed c (page 2) (d 5) (d 3) ≡ whole []
+unfolding rules
+lists-backwards = refl
+
+-- 8: equal datoms, by their indices in the batch as given
+equal-refused : initialised (d 0 ∷ d 0 ∷ []) ≡ Refused (OutOfOrder 1)
+unfolding rules
+equal-refused = refl
+
+equal-later : initialised (d 4 ∷ d 1 ∷ d 0 ∷ d 1 ∷ []) ≡ Refused (OutOfOrder 3)
+unfolding rules
+equal-later = refl
+
+-- "Initialise sorts its batch first"
+sorts : fresh 2048 (d 2 ∷ d 0 ∷ d 1 ∷ []) .pages ≡ leafOf (run 0 3) ∷ []
+unfolding rules
+sorts = refl
+
+-- 9: an insert that does not increase
+falls : inserted c (page 2) (d 9 ∷ d 8 ∷ []) ≡ Refused (OutOfOrder 1)
+unfolding rules
+falls = refl
+
+stays : inserted c (page 2) (d 8 ∷ d 8 ∷ []) ≡ Refused (OutOfOrder 1)
+unfolding rules
+stays = refl
+
+-- 10: more than 128 datoms, by either call; 128 are taken
+many-initialised : initialised (run 0 129) ≡ Refused TooMany
+unfolding rules
+many-initialised = refl
+
+many-inserted : inserted c (page 2) (run 7 129) ≡ Refused TooMany
+unfolding rules
+many-inserted = refl
+
+-- 11: page 5 of level 1 has page 2, of level 1, for a child
+abbrev crossed : Place
+crossed = poked (went (c .extent) (c .store) none (insert eavt (c .extent) (c .store) scratch none (run 20 7))) 1472 2
+
+level-lost : inserted crossed (page 5) (d 7 ∷ []) ≡ Refused (Damaged (page 2))
+unfolding rules
+level-lost = refl
+
+level-unlisted : listed crossed (page 5) (d 0) (d 20) ≡ cut (Damaged (page 2)) []
+unfolding rules
+level-unlisted = refl
+
+level-wrong : checked crossed (page 5) ≡ Unsound (page 2)
+unfolding rules
+level-wrong = refl
+
+-- 12: level 8 goes before a lack of room, and level 7 does not
+abbrev ofLevel : ℕ → Node
+ofLevel l = record { level = l; datoms = []; children = page 0 ∷ [] }
+
+too-tall : put (envOf eavt (record { size = 256; count = 1 }) (zeros 256)) (ofLevel 8) [] ≡ stop TooTall []
+unfolding rules
+too-tall = refl
+
+no-room : put (envOf eavt (record { size = 256; count = 1 }) (zeros 511)) (ofLevel 7) [] ≡ stop NoRoom []
+unfolding rules
+no-room = refl
+
+-- 13: a malformed bound; max is none
+bad-bound : listed c (page 2) (valued 0x4000_0000_0000_0000) (d 9) ≡ cut BadBound []
+unfolding rules
+bad-bound = refl
+
+bad-upper : listed c (page 2) (d 0) (valued 0x8000_0000_0000_0061) ≡ cut BadBound []
+unfolding rules
+bad-upper = refl
+
+max-bound : listed c (page 2) (valued 0xffff_ffff_ffff_ffff) (d 9) ≡ whole (run 0 7)
+unfolding rules
+max-bound = refl
+
+-- 14: a root past the count
+no-page : inserted c (page 3) (d 7 ∷ []) ≡ Refused NoPage
+unfolding rules
+no-page = refl
+
+-- 15: d0 pending in page 3 and in page 0 below it, as the Rust leaves it
+abbrev twice : Place
+twice =
+    record {
+      extent = record { size = 256; count = 4 };
+      store = storeAfter (c .extent) (c .store) (record { level = 1; datoms = d 0 ∷ d 3 ∷ []; children = none ∷ page 0 ∷ page 1 ∷ [] } ∷ []);
+      root = page 3;
+      answer = Done (page 3) 1;
+    }
+
+twice-sound : checked twice (page 3) ≡ Sound
+unfolding rules
+twice-sound = refl
+
+twice-listed : listed twice (page 3) (d 0) (d 7) ≡ cut (Damaged (page 3)) []
+unfolding rules
+twice-listed = refl
+
+-- entity 0 and attribute 2, between d0 and d3
+abbrev beside : ℕ → Datom
+beside k = record { entity = record { 0 = 0 }; attribute = record { 0 = 2 }; value = record { 0 = k }; «transaction_operation» = record { 0 = 3 } }
+
+twice-merged : inserted twice (page 3) (beside 0 ∷ beside 1 ∷ beside 2 ∷ beside 3 ∷ beside 4 ∷ []) ≡ Refused (Damaged (page 0))
+unfolding rules
+twice-merged = refl
+
+-- 16: page 3 does not rise, and page 0 below it stands outside its bounds
+unreadable-first : checked (poked (poked (calls (run 0 7) (run 7 2 ∷ [])) 832 1) 64 9) (page 3) ≡ Unsound (page 3)
+unfolding rules
+unreadable-first = refl
+
+-- 17: what was written until the room ended
+left-behind : fresh 512 (run 0 7) ≡ record { answer = Refused NoRoom; pages = leafOf (run 0 3) ∷ leafOf (run 4 3) ∷ [] }
+unfolding rules
+left-behind = refl
+
+-- made-up cursors over a store of three pages: a leaf of d5, above it d3 pending at level 1, and above that d5 pending at level 2
+abbrev tower : List ℕ
+tower =
+    storeAfter (record { size = 256; count = 0 }) (zeros 1024)
+    (leafOf (run 5 1) ∷ record { level = 1; datoms = run 3 1; children = none ∷ page 0 ∷ [] }
+    ∷ record { level = 2; datoms = run 5 1; children = none ∷ page 1 ∷ [] } ∷ [])
+
+abbrev steps : Cursor → Stepped
+steps k = stepList eavt (record { size = 256; count = 3 }) tower k
+
+abbrev pages : ℕ → ℕ → ℕ → List PageId
+pages p q r = eight (page 0) (page p ∷ page q ∷ page r ∷ [])
+
+abbrev indices : ℕ → ℕ → ℕ → List ℕ
+indices i j k = eight 0 (i ∷ j ∷ k ∷ [])
+
+-- of a height, at the indices and pages of the begin, up to index 1 in each page
+abbrev cursor : ℕ → List ℕ → List PageId → Cursor
+cursor h is ps =
+    record { height = h; «begin_indices» = is; «begin_pages» = ps; «end_indices» = indices 1 1 1; «end_pages» = pages 0 1 2 }
+
+-- the running smallest from level 0 up: d5, then d3; the two d5 are never compared
+least-of-three : steps (cursor 3 (indices 0 0 0) (pages 0 1 2)) ≡ record { answer = step.Yields (d 3); cursor = cursor 3 (indices 0 1 0) (pages 0 1 2) }
+unfolding rules
+least-of-three = refl
+
+-- past d3 they meet: "the first equal pair is Damaged, naming the page of the higher level"
+equal-pair : steps (cursor 3 (indices 0 1 0) (pages 0 1 2)) ≡ record { answer = step.Refused (Damaged (page 2)); cursor = cursor 3 (indices 0 1 0) (pages 0 1 2) }
+unfolding rules
+equal-pair = refl
+
+-- "Only places below the height are used; the others are written as zero."
+zeros-past :
+    steps (cursor 2 (indices 0 0 7) (pages 0 1 7)) ≡ record {
+      answer = step.Yields (d 3);
+      cursor = record {
+        height = 2;
+        «begin_indices» = indices 0 1 0;
+        «begin_pages» = pages 0 1 0;
+        «end_indices» = indices 1 1 0;
+        «end_pages» = pages 0 1 0;
+      };
+    }
+unfolding rules
+zeros-past = refl
+
+-- "a height over 8 (Damaged, id none), then the end": nine is refused, though no index differs
+over-eight : steps (cursor 9 (indices 1 1 1) (pages 0 1 2)) .answer ≡ step.Refused (Damaged none)
+unfolding rules
+over-eight = refl
+
+-- the end goes before the pages, and the cursor stays as it was
+ends-first : steps (cursor 3 (indices 1 1 1) (pages 9 9 9)) ≡ record { answer = step.Ended; cursor = cursor 3 (indices 1 1 1) (pages 9 9 9) }
+unfolding rules
+ends-first = refl
+
+ends-flat : steps (cursor 0 (indices 4 4 4) (pages 9 9 9)) ≡ record { answer = step.Ended; cursor = cursor 0 (indices 4 4 4) (pages 9 9 9) }
+unfolding rules
+ends-flat = refl
+
+-- "then the begin pages from the top": page 9 is missing, page 0 has another level, index 2 lies past one datom
+page-missing : steps (cursor 3 (indices 0 0 0) (pages 9 9 2)) .answer ≡ step.Refused (Damaged (page 9))
+unfolding rules
+page-missing = refl
+
+page-level : steps (cursor 3 (indices 0 0 0) (pages 9 0 2)) .answer ≡ step.Refused (Damaged (page 0))
+unfolding rules
+page-level = refl
+
+index-past : steps (cursor 3 (indices 0 0 2) (pages 9 9 2)) .answer ≡ step.Refused (Damaged (page 2))
+unfolding rules
+index-past = refl
+
+-- an index at the count is a page used up; "No candidate left is Damaged, id none."
+nothing-left :
+    steps (record {
+      height = 1;
+      «begin_indices» = indices 1 0 0;
+      «begin_pages» = pages 0 0 0;
+      «end_indices» = indices 0 0 0;
+      «end_pages» = pages 0 0 0;
+    }) .answer ≡ step.Refused (Damaged none)
+unfolding rules
+nothing-left = refl
+
+-- refusals in the table's order. 1: exact arithmetic, where 64 bits would wrap to 0; scratch one byte short, and just enough
+counts-exactly : badStore (record { size = 256; count = 0x0100_0000_0000_0000 }) (zeros 256) ≡ true
+unfolding rules
+counts-exactly = refl
+
+scratch-short : insert eavt (c .extent) (c .store) 62015 (page 2) [] .answer ≡ Refused BadStore
+unfolding rules
+scratch-short = refl
+
+scratch-enough : insert eavt (c .extent) (c .store) 62016 (page 2) [] .answer ≡ Done (page 3) 1
+unfolding rules
+scratch-enough = refl
+
+-- "at most 64 KiB for 256-byte pages, 512 KiB for others"
+scratch-needs : map (λ size. scratchNeed (capacity size)) (256 ∷ 568 ∷ 4096 ∷ []) ≡ 62016 ∷ 81728 ∷ 332352 ∷ []
+unfolding rules
+scratch-needs = refl
+
+-- 2: "or its bytes no multiple of 32"
+odd-bytes : insertBytes eavt (c .extent) (c .store) scratch (page 2) (zeros 33) .answer ≡ Refused TooMany
+unfolding rules
+odd-bytes = refl
+
+-- 2 before 3, 3 before 4, 4 before 5
+many-first : inserted c (page 9) (valued 0xffff_ffff_ffff_ffff ∷ run 0 128) ≡ Refused TooMany
+unfolding rules
+many-first = refl
+
+form-first : inserted c (page 9) (d 1 ∷ d 0 ∷ valued 0xffff_ffff_ffff_ffff ∷ []) ≡ Refused (BadDatom 2)
+unfolding rules
+form-first = refl
+
+order-first : inserted c (page 9) (d 1 ∷ d 0 ∷ []) ≡ Refused (OutOfOrder 1)
+unfolding rules
+order-first = refl
+
+-- "6 and 7 come in whichever order they are met": page 1 has a bad count, and then page 0
+repeated-before-damaged : inserted (poked c 505 7) (page 2) (d 0 ∷ d 8 ∷ []) ≡ Refused (Repeated 0)
+unfolding rules
+repeated-before-damaged = refl
+
+damaged-before-repeated : inserted (poked c 249 7) (page 2) (valued 0 ∷ d 6 ∷ []) ≡ Refused (Damaged (page 0))
+unfolding rules
+damaged-before-repeated = refl

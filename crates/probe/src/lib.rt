@@ -1,0 +1,191 @@
+// Entries for tests: what the page reader and the access functions say of any bytes, asked from C or Rust. Each takes every input;
+// where there is nothing to say the answer is 2^64-1.
+use answer::Fetch;
+use answer::NextMidpoint;
+use answer::Rule;
+use index::Order;
+use memory_store::reader::Reading;
+use store::Extent;
+use store::PageId;
+ghost use mathlib.Core.Path.{_≡_};
+ghost use Rattle.answer.specs.Table.{fetchWords};
+ghost use Rattle.rules.specs.Store.{fetchAnswer};
+ghost use Rattle.probe.specs.Seen.{seen, shown, ruleNumber, ruleOf, levelOf, countOf, wordOf, childOf, nextOf, firstOf, orderOf, wroteOf, rewritten};
+
+const NOTHING: u64 = 0xffff_ffff_ffff_ffff;
+
+// What bytes are as a page: not readable, with the number of the first broken rule, or readable with a level and a count.
+enum Look {
+    Unread(u64),
+    Good(usize, usize),
+}
+
+// 1 to 7 in document 01's order.
+fn number(rule: Rule) -> u64
+    ensures { λ r. ⌜ r ≡ ruleNumber rule ⌝ }
+{
+    match rule {
+        Rule::Level => 1,
+        Rule::Count => 2,
+        Rule::Form => 3,
+        Rule::Order => 4,
+        Rule::LeafChild => 5,
+        Rule::LastChild => 6,
+        Rule::ChildId => 7,
+    }
+}
+
+fn look_at(bytes: &[u8], id: u64) -> Look
+    ensures { λ r. ⌜ shown (now (bytes .entry)) r ≡ seen (now (bytes .entry)) id ⌝ }
+{
+    let c = store::capacity_of(bytes.len() as u64);
+    if c == 0 {
+        return Look::Unread(NOTHING);
+    }
+    match memory_store::reader::read_page(bytes, c, PageId(id)) {
+        Reading::Broken(rule) => Look::Unread(number(rule)),
+        Reading::Good { level, count } => Look::Good(level, count),
+    }
+}
+
+// The first rule of document 01's "Readable" that the bytes break as page `id`, 1 to 7; 0 for a readable page; 2^64-1 where no page
+// has that many bytes.
+#[no_mangle]
+pub extern "C" fn probe_rule(bytes: &[u8], id: u64) -> u64
+    ensures { λ r. ⌜ r ≡ ruleOf (seen (now (bytes .entry)) id) ⌝ }
+{
+    match look_at(bytes, id) {
+        Look::Unread(rule) => rule,
+        Look::Good(_, _) => 0,
+    }
+}
+
+// The level of a readable page.
+#[no_mangle]
+pub extern "C" fn probe_level(bytes: &[u8], id: u64) -> u64
+    ensures { λ r. ⌜ r ≡ levelOf (seen (now (bytes .entry)) id) ⌝ }
+{
+    let Look::Good(level, _) = look_at(bytes, id) else {
+        return NOTHING;
+    };
+    level as u64
+}
+
+// The number of its datoms.
+#[no_mangle]
+pub extern "C" fn probe_count(bytes: &[u8], id: u64) -> u64
+    ensures { λ r. ⌜ r ≡ countOf (seen (now (bytes .entry)) id) ⌝ }
+{
+    let Look::Good(_, count) = look_at(bytes, id) else {
+        return NOTHING;
+    };
+    count as u64
+}
+
+// Word j of the datom at index i: 0 entity, 1 attribute, 2 value, 3 last word.
+#[no_mangle]
+pub extern "C" fn probe_word(bytes: &[u8], id: u64, i: usize, j: usize) -> u64
+    ensures { λ r. ⌜ r ≡ wordOf i j (seen (now (bytes .entry)) id) ⌝ }
+{
+    let Look::Good(_, count) = look_at(bytes, id) else {
+        return NOTHING;
+    };
+    if count <= i {
+        return NOTHING;
+    }
+    if 3 < j {
+        return NOTHING;
+    }
+    store::word(bytes, 32 * i + 8 * j)
+}
+
+// The child at index i.
+#[no_mangle]
+pub extern "C" fn probe_child(bytes: &[u8], id: u64, i: usize) -> u64
+    ensures { λ r. ⌜ r ≡ childOf i (seen (now (bytes .entry)) id) ⌝ }
+{
+    let Look::Good(_, count) = look_at(bytes, id) else {
+        return NOTHING;
+    };
+    if count < i {
+        return NOTHING;
+    }
+    let c = store::capacity_of(bytes.len() as u64);
+    let child = memory_store::access::child_at(bytes, c, i);
+    child.0
+}
+
+// The first real child at or after an index.
+#[no_mangle]
+pub extern "C" fn probe_next(bytes: &[u8], id: u64, from: usize) -> u64
+    ensures { λ r. ⌜ r ≡ nextOf from (seen (now (bytes .entry)) id) ⌝ }
+{
+    let Look::Good(_, count) = look_at(bytes, id) else {
+        return NOTHING;
+    };
+    let c = store::capacity_of(bytes.len() as u64);
+    match memory_store::access::next_midpoint(bytes, c, count, from) {
+        NextMidpoint::Child(child) => child.0,
+        NextMidpoint::Nothing => NOTHING,
+    }
+}
+
+// The index of the first datom that is not below the one whose 32 bytes are given.
+#[no_mangle]
+pub extern "C" fn probe_first(bytes: &[u8], id: u64, sought: &[u8]) -> u64
+    ensures { λ r. ⌜ r ≡ firstOf (now (sought .entry)) (seen (now (bytes .entry)) id) ⌝ }
+{
+    let Look::Good(_, count) = look_at(bytes, id) else {
+        return NOTHING;
+    };
+    if sought.len() != 32 {
+        return NOTHING;
+    }
+    memory_store::access::first_not_below(bytes, count, datom::datom_at(sought, 0)) as u64
+}
+
+// How two datoms compare, each given by its 32 bytes: 0 below, 1 equal, 2 above.
+#[no_mangle]
+pub extern "C" fn probe_order(a: &[u8], b: &[u8]) -> u64
+    ensures { λ r. ⌜ r ≡ orderOf (now (a .entry)) (now (b .entry)) ⌝ }
+{
+    if a.len() != 32 {
+        return NOTHING;
+    }
+    if b.len() != 32 {
+        return NOTHING;
+    }
+    match index::order_of(datom::datom_at(a, 0), datom::datom_at(b, 0)) {
+        Order::Less => 0,
+        Order::Equal => 1,
+        Order::Greater => 2,
+    }
+}
+
+// The number that a fetch answers: 0 for a page that is given, else document 01's.
+#[no_mangle]
+pub extern "C" fn probe_fetch(store: &[u8], size: u64, count: u64, page: u64) -> u64
+    ensures { λ r. ⌜ r ≡ fetchWords (fetchAnswer (record { size = size; count = count }) (now (store .entry)) (record { 0 = page })) .number ⌝ }
+{
+    match memory_store::fetch_refusal(store, Extent { size, count }, PageId(page)) {
+        Fetch::Given => 0,
+        Fetch::Refused(refusal) => refusal.number(),
+    }
+}
+
+// A readable page is written anew into a free one of the same length: 1 if so, and 0 with nothing changed if not.
+#[no_mangle]
+pub extern "C" fn probe_write(bytes: &[u8], id: u64, free: &mut [u8]) -> u64
+    ensures { λ r. ⌜ (r ≡ wroteOf (now (bytes .entry)) (now (free .entry)) (seen (now (bytes .entry)) id)) × (now (free .exit) ≡ rewritten (now (bytes .entry)) (now (free .entry)) (seen (now (bytes .entry)) id)) ⌝ }
+{
+    let Look::Good(level, count) = look_at(bytes, id) else {
+        return 0;
+    };
+    let size = bytes.len();
+    if free.len() != size {
+        return 0;
+    }
+    let c = store::capacity_of(size as u64);
+    memory_store::writer::write_page(free, 0, size, c, level, bytes, c, count, 0, count);
+    1
+}

@@ -1,0 +1,66 @@
+//! What the answers are to be, from document 01's text by way of the harness and not of the proved code.
+
+use std::cmp::Ordering;
+
+use harness::{capacity, compare, is_storable, Datom, Node, NONE};
+
+use crate::probe::NOTHING;
+
+/// The first rule of "Readable" that a page breaks, numbered 1 to 7 in document 01's order, or the page's content.
+pub fn read(page: &[u8], id: u64) -> Result<Node, u64> {
+    let cap = capacity(page.len()).ok_or(NOTHING)?;
+    if page[40 * cap + 8] > 7 {
+        return Err(1);
+    }
+    let node = Node::decode(page).ok_or(2u64)?;
+    if !node.datoms.iter().all(is_storable) {
+        return Err(3);
+    }
+    if node.datoms.windows(2).any(|pair| compare(&pair[0], &pair[1]) != Ordering::Less) {
+        return Err(4);
+    }
+    let (last, real): (u64, Vec<u64>) =
+        (node.children[node.datoms.len()], node.children.iter().copied().filter(|&child| child != NONE).collect());
+    if node.level == 0 && !real.is_empty() {
+        return Err(5);
+    }
+    if node.level > 0 && last == NONE {
+        return Err(6);
+    }
+    if real.iter().any(|&child| child >= id) {
+        return Err(7);
+    }
+    Ok(node)
+}
+
+pub fn first_not_below(datoms: &[Datom], sought: &Datom) -> u64 {
+    datoms.iter().take_while(|datom| compare(datom, sought) == Ordering::Less).count() as u64
+}
+
+pub fn order(a: &Datom, b: &Datom) -> u64 {
+    match compare(a, b) {
+        Ordering::Less => 0,
+        Ordering::Equal => 1,
+        Ordering::Greater => 2,
+    }
+}
+
+pub fn next_child(children: &[u64], from: usize) -> u64 {
+    children.iter().skip(from).copied().find(|&child| child != NONE).unwrap_or(NONE)
+}
+
+/// A fetch checks 1, then 5, in exact arithmetic.
+pub fn fetch(length: usize, size: u64, count: u64, page: u64) -> u64 {
+    let known = usize::try_from(size).ok().and_then(capacity).is_some();
+    if !known || count as u128 * size as u128 > length as u128 {
+        return 1;
+    }
+    if page >= count { 5 } else { 0 }
+}
+
+/// The page that a node is written as: zeros where it has nothing.
+pub fn encode(node: &Node, page_size: usize) -> Vec<u8> {
+    let mut page = vec![0; page_size];
+    node.encode_over(&mut page);
+    page
+}

@@ -1,0 +1,8 @@
+-- What a history of calls promises, stated and proved.
+pub mod Order
+pub mod Tree
+pub mod Pages
+pub mod Child
+pub mod Look
+pub mod Merge
+pub mod Step

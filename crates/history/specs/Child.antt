@@ -14,7 +14,7 @@ use Rattle.rules.specs.Lookup.{childOf}
 use Rattle.rules.specs.Lists.{In}
 use Rattle.history.specs.Order.{clash, Front, AtMost}
 use Rattle.history.specs.Tree.{Tree, blank, last, item, InTree, own, Real, Good, own-in}
-use Rattle.history.specs.Pages.{Place, page, child, Holds, noPage, aPage, hLast, hItem, Stored, holds-real}
+use Rattle.history.specs.Pages.{page, Holds, noPage, aPage, hLast, hItem, Stored, holds-real}
 
 -- a child, or what comes after it where it is none
 abbrev pub orNext : Tree → Tree → Tree

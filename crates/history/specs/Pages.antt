@@ -2,26 +2,23 @@
 use Prim.Native.Nat.{ℕ, zero, suc}
 use mathlib.Core.Bool.{Bool, true, false}
 use mathlib.Core.List.{List, [], _∷_, _++_}
+use mathlib.Core.Logic.{_⊎_, inl, inr}
 use mathlib.Core.Path.{_≡_, refl, ap}
-use lib.ListN.{length, replicate}
+use lib.ListN.{length, getD, replicate}
 use Rattle.store.specs.declared.PageId.{PageId}
 use Rattle.store.specs.Page.{none, isNone}
 use Rattle.store.specs.Laws.{apart}
 use Rattle.datom.specs.declared.Datom.{Datom}
 use Rattle.rules.specs.Page.{Node}
 use Rattle.rules.specs.Tree.{Fetched, faulty, fine, atLevel}
+use Rattle.rules.specs.Lists.{In}
 use Rattle.history.specs.Order.{clash}
-use Rattle.history.specs.Tree.{Tree, blank, last, item, own, Real, pending}
+use Rattle.history.specs.Tree.{Tree, blank, last, item, InTree, own, Real, Ends, pending}
 
 -- where a tree may stand: in the datoms and children of a page of level l, or as a child in such a page
 pub data Place : Type 0 where
   page : ℕ → List Datom → List PageId → Place
   child : ℕ → PageId → Place
-
--- "above, the last child real"
-abbrev pub Ends : ℕ → Tree → Type 0
-Ends zero t = Unit {0}
-Ends (suc l) t = Real t
 
 -- the pages that can be fetched hold the tree; "at level 0 every child none"
 pub data Holds (f : PageId → Fetched) : Place → Tree → Type 0 where
@@ -75,6 +72,26 @@ module _ {f : PageId → Fetched} where
   pub child-blank : {l : ℕ} {c : PageId} {t : Tree} → Holds f (child l c) t → isNone c ≡ true → t ≡ blank
   child-blank (noPage n) q = refl
   child-blank (aPage r e h) q = absurd (clash r q)
+
+  -- the children one by one
+  pub holds-child :
+      {l : ℕ} {ds : List Datom} {cs : List PageId} {t : Tree} → Holds f (page l ds cs) t → (c : PageId) → In c cs → (k : Tree) × Holds f (child l c) k
+  holds-child (hLast {t} k e) c (inl i) = (t, rw i k)
+  holds-child (hLast k e) c (inr i) = absurd i
+  holds-child (hItem {t} d k h) c (inl i) = (t, rw i k)
+  holds-child (hItem d k h) c (inr i) = holds-child h c i
+
+  -- "at level 0 every child none": all is in the page itself
+  pub leaf-own : {ds : List Datom} {cs : List PageId} {t : Tree} (x : Datom) → Holds f (page 0 ds cs) t → InTree x t → In x (own t)
+  leaf-own x (hLast (noPage n) e) i = i
+  leaf-own x (hItem d (noPage n) h) (inr (inl i)) = inl i
+  leaf-own x (hItem d (noPage n) h) (inr (inr i)) = inr (leaf-own x h i)
+
+  -- "above, the last child real"
+  pub real-last : {l : ℕ} {ds : List Datom} {cs : List PageId} {t : Tree} → Holds f (page (suc l) ds cs) t → isNone (getD cs (length ds) none) ≡ false
+  real-last (hLast (noPage n) e) = absurd e
+  real-last (hLast (aPage r q h) e) = r
+  real-last (hItem d k h) = real-last h
 
 pub none-is : isNone none ≡ true
 unfolding isNone

@@ -31,6 +31,17 @@ Real blank = ⊥
 Real (last t) = Unit {0}
 Real (item t d r) = Unit {0}
 
+-- what level l asks of a last child: "above, the last child real"
+abbrev pub Ends : ℕ → Tree → Type 0
+Ends zero t = Unit {0}
+Ends (suc l) t = Real t
+
+-- a page of level l that may be cut behind any child
+abbrev pub Full : ℕ → Tree → Type 0
+Full l blank = ⊥
+Full l (last t) = Ends l t
+Full l (item t d r) = Ends l t × Full l r
+
 -- how a datom stands between the child before it and the rest of its page: above the child, below the later datoms of the page and
 -- equal to nothing in the rest; a midpoint is below all of the rest
 pub record Between (cmp : Datom → Datom → Ordering) (t : Tree) (d : Datom) (r : Tree) : Type 0 where
@@ -86,6 +97,12 @@ module _ (cmp : Datom → Datom → Ordering) where
       {d : Datom} {r : Tree} → ((x : Datom) → In x (own r) → cmp d x ≡ Ordering·lt) → ((x : Datom) → InTree x r → cmp d x ≡ Ordering·eq → ⊥) →
       Between cmp blank d r
   alone n a = record { left = λ x i. absurd i; next = n; apart = a; right = λ u. absurd u }
+
+  -- a datom below all that is behind it
+  pub midpoint :
+      {t : Tree} {d : Datom} {r : Tree} → ((x : Datom) → InTree x t → cmp x d ≡ Ordering·lt) → ((x : Datom) → InTree x r → cmp d x ≡ Ordering·lt) →
+      Between cmp t d r
+  midpoint {r} a b = record { left = a; next = λ x i. b x (own-in x r i); apart = λ x i. not-both cmp (b x i); right = λ u. b }
 
   pub pending-good :
       (ds : List Datom) (t : Tree) → Good cmp t → Rising cmp ds → Apart cmp ds t →

@@ -1,0 +1,152 @@
+-- What a history of calls promises: the statement that the desk bought the product for, in the words of demand 3. Demand proves it.
+use Prim.Native.Nat.{ℕ, _+_, _*_, _%_, _^_, _≤_, _<_, Ordering, Ordering·eq}
+use mathlib.Core.Bool.{Bool, true, false, _&&_, not, cond}
+use mathlib.Core.List.{List, [], _∷_, _++_}
+use mathlib.Core.Logic.{_⊎_, _↔_}
+use mathlib.Core.Path.{_≡_}
+use lib.ListN.{length, take, getD}
+use Rattle.store.specs.declared.PageId.{PageId}
+use Rattle.store.specs.declared.Extent.{Extent}
+use Rattle.store.specs.Page.{none}
+use Rattle.datom.specs.declared.Datom.{Datom}
+use Rattle.index.specs.Order.{DatomOrd}
+use Rattle.answer.specs.declared.Refusal.the-variants.{Repeated, TooTall, NoRoom}
+use Rattle.answer.specs.declared.Answer.{Answer}
+use Rattle.answer.specs.declared.Answer.the-variants.{Done, Refused}
+use Rattle.answer.specs.declared.Check.the-variants.{Sound}
+use Rattle.rules.specs.Page.{Node}
+use Rattle.rules.specs.Node.{below}
+use Rattle.rules.specs.Tree.{fine}
+use Rattle.rules.specs.Store.{badScratch, fetchPage, storeAfter}
+use Rattle.rules.specs.Insert.{Outcome, sort, batchOf, insertBytes, initialiseBytes}
+use Rattle.rules.specs.Listing.{startList, listing, whole}
+use Rattle.rules.specs.Check.{checkTree}
+use Rattle.rules.specs.Lists.{In, Rising}
+
+-- a root that may be used, with the batches that led to it, the last one first
+pub record Known : Type 0 where
+  pub root : PageId
+  pub batches : List (List ℕ)
+
+-- where a history has come to: what the next call is handed, and the roots that it may use
+pub record Moment : Type 0 where
+  pub extent : Extent
+  pub store : List ℕ
+  pub roots : List Known
+
+-- "Start from no pages and no root."
+abbrev pub noRoot : Known
+noRoot = record { root = none; batches = [] }
+
+abbrev pub beginning : ℕ → List ℕ → Moment
+beginning size s = record { extent = record { size = size; count = 0 }; store = s; roots = noRoot ∷ [] }
+
+-- "hand each call the page count the last one left"
+abbrev pub extentAfter : Extent → Answer → Extent
+extentAfter x (Done root n) = record { size = x .size; count = x .count + n }
+extentAfter x (Refused r) = x
+
+abbrev pub rootsAfter : Known → List ℕ → Answer → List Known → List Known
+rootsAfter k b (Done root n) ks = record { root = root; batches = b ∷ k .batches } ∷ ks
+rootsAfter k b (Refused r) ks = ks
+
+abbrev pub after : Moment → Known → List ℕ → Outcome → Moment
+after m k b o =
+    record {
+      extent = extentAfter (m .extent) (o .answer);
+      store = storeAfter (m .extent) (m .store) (o .pages);
+      roots = rootsAfter k b (o .answer) (m .roots);
+    }
+
+-- what the machine gives: a batch of bytes, and fewer than 2^64 of them in a slice
+pub record Lent (s b : List ℕ) : Type 0 where
+  pub short : length s < 2 ^ 64
+  pub bytes : (i : ℕ) → getD b i 0 < 256
+
+pub data Next (t : DatomOrd) (m : Moment) : Moment → Type 0 where
+  -- "let nobody else write below it": the bytes at or past the count may change between calls, and so may the slice's length
+  others :
+    (s : List ℕ) → take (m .extent .count * m .extent .size) s ≡ take (m .extent .count * m .extent .size) (m .store) →
+    Next t m (record { extent = m .extent; store = s; roots = m .roots })
+  -- "Insert only at none or at a root an accepted call returned.", accepted or refused, with any scratch
+  inserts :
+    (k : Known) → In k (m .roots) → (b : List ℕ) (scratch : ℕ) → Lent (m .store) b →
+    Next t m (after m k b (insertBytes t (m .extent) (m .store) scratch (k .root) b))
+  initialises :
+    (b : List ℕ) (scratch : ℕ) → Lent (m .store) b → Next t m (after m noRoot b (initialiseBytes t (m .extent) (m .store) scratch b))
+
+pub data Later (t : DatomOrd) (m : Moment) : Moment → Type 0 where
+  now : Later t m m
+  step : {m₁ m₂ : Moment} → Later t m m₁ → Next t m₁ m₂ → Later t m m₂
+
+-- a history with one page size and one order
+abbrev pub History : DatomOrd → ℕ → Moment → Type 0
+History t size m = (s : List ℕ) × Later t (beginning size s) m
+
+-- "the datoms of the accepted batches"
+abbrev pub gathered : List (List ℕ) → List Datom
+gathered [] = []
+gathered (b ∷ bs) = batchOf b ++ gathered bs
+
+-- "from the lower bound up to but not including the upper"
+unfoldable pub within : (Datom → Datom → Ordering) → Datom → Datom → List Datom → List Datom
+within cmp lo hi [] = []
+within cmp lo hi (d ∷ ds) = let rest = within cmp lo hi ds in cond (not (below cmp lo d) && below cmp hi d) (d ∷ rest) rest
+
+-- "A well-formed batch": what 2, 3 and 4 of the table let through
+pub record WellFormed (t : DatomOrd) (b : List ℕ) : Type 0 where
+  pub even : length b % 32 ≡ 0
+  pub few : length (batchOf b) ≤ 128
+  pub form : (d : Datom) → In d (batchOf b) → t .stored d ≡ true
+  pub order : Rising (t .cmp) (batchOf b)
+
+-- a datom equal to one of a list
+abbrev pub Shared : (Datom → Datom → Ordering) → List Datom → Datom → Type 0
+Shared cmp u d = (y : Datom) × In y u × (cmp y d ≡ Ordering·eq)
+
+-- datom i of a batch is the first of it that is shared
+pub record FirstShared (cmp : Datom → Datom → Ordering) (u b : List Datom) (i : ℕ) : Type 0 where
+  pub before : List Datom
+  pub datom : Datom
+  pub rest : List Datom
+  pub batch : b ≡ before ++ (datom ∷ rest)
+  pub index : length before ≡ i
+  pub shared : Shared cmp u datom
+  pub first : (d : Datom) → In d before → Shared cmp u d → ⊥
+
+-- what a well-formed batch b is answered at a root that the datoms u led to
+pub record Answered (cmp : Datom → Datom → Ordering) (u b : List Datom) (a : Answer) : Type 0 where
+  -- "is answered Repeated exactly if it shares a datom with them"
+  pub repeated : ((i : ℕ) × (a ≡ Refused (Repeated i))) ↔ ((d : Datom) × In d b × Shared cmp u d)
+  -- and the index is that of the first
+  pub first : (i : ℕ) → a ≡ Refused (Repeated i) → FirstShared cmp u b i
+  -- else it is Done, TooTall or NoRoom, so never Damaged
+  pub otherwise :
+    ((d : Datom) → In d b → Shared cmp u d → ⊥) →
+    ((root : PageId) × (n : ℕ) × (a ≡ Done root n)) ⊎ ((a ≡ Refused TooTall) ⊎ (a ≡ Refused NoRoom))
+
+-- what is promised of a root at a moment
+pub record Promise (t : DatomOrd) (m : Moment) (k : Known) : Type 0 where
+  -- "each once, ascending": the datoms that led to the root can be put into one rising list
+  pub ascending : Rising (t .cmp) (sort (t .cmp) (gathered (k .batches)))
+  pub exactly : (x : Datom) → In x (sort (t .cmp) (gathered (k .batches))) ↔ In x (gathered (k .batches))
+  -- "a listing between well-formed bounds at any such root, older ones too, hands out exactly the datoms of the accepted batches that
+  -- led to that root, from the lower bound up to but not including the upper, each once, ascending, and ends": n + 1 steps suffice for n
+  pub listed :
+    (lo hi : Datom) → t .bound lo ≡ true → t .bound hi ≡ true → (n : ℕ) →
+    length (within (t .cmp) lo hi (sort (t .cmp) (gathered (k .batches)))) ≤ n →
+    listing t (m .extent) (m .store) n (startList t (m .extent) (m .store) (k .root) lo hi)
+    ≡ whole (within (t .cmp) lo hi (sort (t .cmp) (gathered (k .batches))))
+  -- "Later calls, accepted or refused, change none of it."
+  pub kept :
+    (m₁ : Moment) → Later t m m₁ → (lo hi : Datom) → t .bound lo ≡ true → t .bound hi ≡ true → (n : ℕ) →
+    length (within (t .cmp) lo hi (sort (t .cmp) (gathered (k .batches)))) ≤ n →
+    listing t (m₁ .extent) (m₁ .store) n (startList t (m₁ .extent) (m₁ .store) (k .root) lo hi)
+    ≡ listing t (m .extent) (m .store) n (startList t (m .extent) (m .store) (k .root) lo hi)
+  -- "A well-formed batch inserted there, with store and scratch in order": the store is, in a history
+  pub answered :
+    (b : List ℕ) → Lent (m .store) b → WellFormed t b → (scratch : ℕ) → badScratch (m .extent) scratch ≡ false →
+    Answered (t .cmp) (gathered (k .batches)) (batchOf b) (insertBytes t (m .extent) (m .store) scratch (k .root) b .answer)
+  -- the check finds no fault, and every page below the count can be read
+  pub sound : checkTree t (m .extent) (m .store) (k .root) ≡ Sound
+  pub readable : (p : PageId) → p .0 < m .extent .count → (n : Node) × (fetchPage t (m .extent) (m .store) p ≡ fine n)

@@ -143,6 +143,10 @@ unfolding then
 goes-then s k (stops x) h = stops x
 goes-then s k (goes {a} {o} q) h = h a o q
 
+pub goes-map : {A : Type 0} {Q P : A → List Node → Type 0} {s : Stage A} → ((a : A) (o : List Node) → Q a o → P a o) → Goes Q s → Goes P s
+goes-map h (stops x) = stops x
+goes-map h (goes {a} {o} q) = goes (h a o q)
+
 -- the reader's rules for the children
 module _ (f : PageId → Fetched) (id : PageId) (below : (p : PageId) (n : Node) → f p ≡ fine n → p .0 < id .0) where
   child-older : {l : ℕ} {c : PageId} {t : Tree} → Holds f (child l c) t → older id c ≡ true

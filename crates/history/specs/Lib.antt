@@ -11,3 +11,7 @@ pub mod Step
 pub mod Lists
 pub mod Held
 pub mod Split
+pub mod Span
+pub mod Graft
+pub mod Flush
+pub mod Grow

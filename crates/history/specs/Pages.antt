@@ -4,6 +4,8 @@ use mathlib.Core.Bool.{Bool, true, false}
 use mathlib.Core.List.{List, [], _∷_, _++_}
 use mathlib.Core.Logic.{_⊎_, inl, inr}
 use mathlib.Core.Path.{_≡_, refl, ap}
+use borrow.Author.Tests.{eqb-true}
+use lib.Dec.{eqb}
 use lib.ListN.{length, getD, replicate}
 use Rattle.store.specs.declared.PageId.{PageId}
 use Rattle.store.specs.Page.{none, isNone}
@@ -13,7 +15,7 @@ use Rattle.rules.specs.Page.{Node}
 use Rattle.rules.specs.Tree.{Fetched, faulty, fine, atLevel}
 use Rattle.rules.specs.Lists.{In}
 use Rattle.history.specs.Order.{clash}
-use Rattle.history.specs.Tree.{Tree, blank, last, item, InTree, own, Real, Ends, pending}
+use Rattle.history.specs.Tree.{Tree, blank, last, item, InTree, own, Real, Ends, Full, pending}
 
 -- where a tree may stand: in the datoms and children of a page of level l, or as a child in such a page
 pub data Place : Type 0 where
@@ -44,11 +46,26 @@ level-extends {f} {g} x l c n e = side (f c) refl e
     side (faulty q) h k = absurd (apart (cc))
     side (fine m) h k = rw (x c m h) k
 
+pub level-is : (l : ℕ) (r : Fetched) (n : Node) → atLevel l r ≡ fine n → n .level ≡ l
+unfolding atLevel
+level-is l (faulty x) n q = absurd (apart (cc))
+level-is l (fine m) n q = side (eqb (m .level) l) refl
+  where
+    side : (b : Bool) → eqb (m .level) l ≡ b → n .level ≡ l
+    side true v = let k : fine m ≡ fine n = rw v at q in let y : m ≡ n = cc in rw (← y) (eqb-true (m .level) l v)
+    side false v = let k : faulty _ ≡ fine n = rw v at q in absurd (apart (cc))
+
 pub holds-extends : {f g : PageId → Fetched} {w : Place} {t : Tree} → Extends f g → Holds f w t → Holds g w t
 holds-extends x (noPage n) = noPage n
 holds-extends x (aPage {l} {c} {n} r e h) = aPage r (level-extends x l c n e) (holds-extends x h)
 holds-extends x (hLast k e) = hLast (holds-extends x k) e
 holds-extends x (hItem d k h) = hItem d (holds-extends x k) (holds-extends x h)
+
+-- a page that is read at a level and holds a tree
+pub record Stored (f : PageId → Fetched) (l : ℕ) (p : PageId) (t : Tree) : Type 0 where
+  pub node : Node
+  pub read : atLevel l (f p) ≡ fine node
+  pub holds : Holds f (page l (node .datoms) (node .children)) t
 
 module _ {f : PageId → Fetched} where
   -- the datoms of the page are the tree's own, and it has one child more
@@ -73,6 +90,10 @@ module _ {f : PageId → Fetched} where
   child-blank (noPage n) q = refl
   child-blank (aPage r e h) q = absurd (clash r q)
 
+  pub child-page : {l : ℕ} {c : PageId} {t : Tree} → Holds f (child (suc l) c) t → isNone c ≡ false → Stored f l c t
+  child-page (noPage n) q = absurd (clash q n)
+  child-page (aPage {n} r e h) q = record { node = n; read = e; holds = h }
+
   -- the children one by one
   pub holds-child :
       {l : ℕ} {ds : List Datom} {cs : List PageId} {t : Tree} → Holds f (page l ds cs) t → (c : PageId) → In c cs → (k : Tree) × Holds f (child l c) k
@@ -86,6 +107,10 @@ module _ {f : PageId → Fetched} where
   leaf-own x (hLast (noPage n) e) i = i
   leaf-own x (hItem d (noPage n) h) (inr (inl i)) = inl i
   leaf-own x (hItem d (noPage n) h) (inr (inr i)) = inr (leaf-own x h i)
+
+  pub leaf-full : {ds : List Datom} {cs : List PageId} {t : Tree} → Holds f (page 0 ds cs) t → Full 0 t
+  leaf-full (hLast k e) = tt
+  leaf-full (hItem d k h) = (tt, leaf-full h)
 
   -- "above, the last child real"
   pub real-last : {l : ℕ} {ds : List Datom} {cs : List PageId} {t : Tree} → Holds f (page (suc l) ds cs) t → isNone (getD cs (length ds) none) ≡ false
@@ -103,9 +128,3 @@ pub holds-pending :
     Holds f (page l (new ++ ds) (replicate (length new) none ++ cs)) (pending new t)
 holds-pending [] h = h
 holds-pending (d ∷ new) h = hItem d (noPage none-is) (holds-pending new h)
-
--- a page that is read at a level and holds a tree
-pub record Stored (f : PageId → Fetched) (l : ℕ) (p : PageId) (t : Tree) : Type 0 where
-  pub node : Node
-  pub read : atLevel l (f p) ≡ fine node
-  pub holds : Holds f (page l (node .datoms) (node .children)) t

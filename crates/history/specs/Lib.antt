@@ -15,3 +15,6 @@ pub mod Span
 pub mod Graft
 pub mod Flush
 pub mod Grow
+pub mod After
+pub mod Sort
+pub mod Checks

@@ -1,0 +1,167 @@
+-- The store after a call: what could be fetched still can, and the pages written are fetched as the nodes that they were written from.
+-- Rests on Held and on the rules' round trip.
+use Prim.Native.Nat.{ℕ, zero, suc, _+_, _-_, _*_, _/_, _^_, _≤_, _<_, zero-le, suc-le-suc}
+use native.Mathlib.Nat.{add-zero, suc-mul, mul-le-mul-left, mul-le-mul-right, div-le-self}
+use native.Mathlib.Omega.{arith}
+use mathlib.Core.Bool.{Bool, true, false, _||_, cond}
+use mathlib.Core.List.{List, [], _∷_, _++_, append-assoc, append-nil}
+use mathlib.Core.Path.{_≡_, refl, sym, _∙_, ap, subst}
+use borrow.Author.Tests.{eqb-true, ne-eqb, ltb-false, lt-ltb, le-ltb}
+use lib.Dec.{ltb, eqb}
+use lib.ListN.{length, take, drop, length-append, length-take, take-append-drop}
+use lib.Seq.{take-at, take-add, take-take, length-take-le, drop-append-seam, drop-append-add}
+use Rattle.store.specs.declared.PageId.{PageId}
+use Rattle.store.specs.declared.Extent.{Extent}
+use Rattle.store.specs.Words.{spread, patch}
+use Rattle.store.specs.Page.{page as pageId}
+use Rattle.store.specs.Size.{capacity}
+use Rattle.store.specs.Laws.{apart}
+use Rattle.index.specs.Order.{DatomOrd}
+use Rattle.index.specs.Laws.{Preorder}
+use Rattle.rules.specs.Page.{Node, readPage, encodePage}
+use Rattle.rules.specs.Tree.{Fetched, fine, Env}
+use Rattle.rules.specs.Store.{badStore, pageAt, fetchPage, envOf, storeAfter}
+use Rattle.rules.specs.Round.{Writable, encoded-length, read-back}
+use Rattle.rules.specs.Reads.{fetch-tells}
+use Rattle.history.specs.Pages.{Extends}
+use Rattle.history.specs.Held.{nth, nth-lt, held, EnvOk, Written}
+
+-- a part of a list that lies in a front that two lists share
+segment : (k m : ℕ) (b : List ℕ) → take m (drop k b) ≡ drop (length (take k b)) (take (k + m) b)
+segment k m b = rw (take-add k m b) (sym (drop-append-seam (take k b) (take m (drop k b))))
+
+same-part : (n k m : ℕ) (b b₁ : List ℕ) → take n b₁ ≡ take n b → k + m ≤ n → take m (drop k b₁) ≡ take m (drop k b)
+same-part n k m b b₁ e h =
+    let u : take (k + m) b₁ ≡ take (k + m) b = sym (take-take (k + m) n b₁ h) ∙ ap (take (k + m)) e ∙ take-take (k + m) n b h in
+    let v : take k b₁ ≡ take k b = sym (take-take k n b₁ (omega arith)) ∙ ap (take k) e ∙ take-take k n b (omega arith) in
+    let w : drop (length (take k b₁)) (take (k + m) b₁) ≡ drop (length (take k b)) (take (k + m) b) = cc in
+    segment k m b₁ ∙ w ∙ sym (segment k m b)
+
+-- "let nobody else write below it"
+pub fetch-kept :
+    (t : DatomOrd) (x x₁ : Extent) (s s₁ : List ℕ) → x₁ .size ≡ x .size → x .count ≤ x₁ .count →
+    take (x .count * x .size) s₁ ≡ take (x .count * x .size) s → Extends (fetchPage t x s) (fetchPage t x₁ s₁)
+unfolding fetchPage pageAt
+fetch-kept t x x₁ s s₁ z c b p n e =
+    let k : p .0 < x .count = fetch-tells t x s p n e .0 in
+    let u : take (x .size) (drop (p .0 * x .size) s₁) ≡ take (x .size) (drop (p .0 * x .size) s) =
+    same-part (x .count * x .size) (p .0 * x .size) (x .size) s s₁ b
+    (omega (arith, mul-le-mul-right {m = suc (p .0)} {n = x .count} (x .size) k, suc-mul (p .0) (x .size))) in
+    rw (lt-ltb (p .0) (x₁ .count) (omega arith), z, u) (rw (lt-ltb (p .0) (x .count) k) at e)
+
+-- a store that is in order
+pub long-enough : (n : ℕ) (s s₁ : List ℕ) → take n s₁ ≡ take n s → n ≤ length s → n ≤ length s₁
+long-enough n s s₁ e h = omega (arith, length-take n s₁, length-take n s, ap length e)
+
+pub in-order : (x : Extent) (s : List ℕ) → (capacity (x .size) ≡ 0 → ⊥) → x .count * x .size ≤ length s → badStore x s ≡ false
+unfolding badStore
+in-order x s c f = rw (ne-eqb (capacity (x .size)) 0 c, le-ltb (length s) (x .count * x .size) f)
+
+module _ (x : Extent) (s : List ℕ) (fits : x .count * x .size ≤ length s) where
+  pub store-keeps : (o : List Node) → take (x .count * x .size) (storeAfter x s o) ≡ take (x .count * x .size) s
+  unfolding storeAfter patch
+  store-keeps o =
+      rw append-assoc (take-at (take (x .count * x .size) s) _ (x .count * x .size) (length-take-le (x .count * x .size) s fits))
+
+
+-- a call that writes no page leaves every byte
+pub store-same : (x : Extent) (s : List ℕ) → storeAfter x s [] ≡ s
+unfolding storeAfter patch spread
+store-same x s = rw (append-nil, add-zero) (take-append-drop (x .count * x .size) s)
+
+positive : (z : ℕ) → (capacity z ≡ 0 → ⊥) → 0 < z
+unfolding capacity
+positive zero c = absurd (c refl)
+positive (suc z) c = suc-le-suc zero-le
+
+-- a header fits behind datoms and children
+pub big-of : (size : ℕ) → (capacity size ≡ 0 → ⊥) → 40 * capacity size + 10 ≤ size
+unfolding capacity
+big-of size c = side (eqb size 256) refl (eqb size 568) refl (eqb size 4096) refl
+  where
+    side : (a : Bool) → eqb size 256 ≡ a → (b : Bool) → eqb size 568 ≡ b → (d : Bool) → eqb size 4096 ≡ d → 40 * capacity size + 10 ≤ size
+    side true u b v d w = rw u (omega (arith, eqb-true size 256 u))
+    side false u true v d w = rw (u, v) (omega (arith, eqb-true size 568 v))
+    side false u false v true w = rw (u, v, w) (omega (arith, eqb-true size 4096 w))
+    side false u false v false w = absurd (c (rw (u, v, w)))
+
+pub env-ok :
+    (t : DatomOrd) → Preorder (t .cmp) → (x : Extent) (s : List ℕ) → (capacity (x .size) ≡ 0 → ⊥) → x .count * x .size ≤ length s →
+    length s < 2 ^ 64 → EnvOk (envOf t x s)
+unfolding envOf
+env-ok t L x s c fits h =
+    let one : 0 < x .size = positive (x .size) c in
+    let few : x .count ≤ length s = omega (arith, mul-le-mul-left {m = 1} {n = x .size} (x .count) one) in
+    record {
+      laws = L;
+      bound = λ p n e. fetch-tells t x s p n e .0;
+      small = omega (arith, div-le-self (length s) (x .size));
+      pos = omega (arith, c);
+    }
+
+-- the pages that Done has written
+module _
+    (t : DatomOrd) (x : Extent) (s : List ℕ) (fits : x .count * x .size ≤ length s) (big : 40 * capacity (x .size) + 10 ≤ x .size)
+  where
+    abbrev bytes : List Node → List ℕ
+    bytes o = spread (encodePage (x .size) (capacity (x .size))) o
+
+    abbrev Pages : ℕ → List Node → Type 0
+    Pages count o = (i : ℕ) (n : Node) → nth o i ≡ fine n → Writable t (capacity (x .size)) (pageId (count + i)) n
+
+    rest-pages : (count : ℕ) (m : Node) (o : List Node) → Pages count (m ∷ o) → Pages (suc count) o
+    unfolding nth
+    rest-pages count m o w i n e = subst (λ (q : ℕ). Writable t (capacity (x .size)) (pageId q) n) (omega arith) (w (suc i) n e)
+
+    page-long : (count : ℕ) (m : Node) (o : List Node) → Pages count (m ∷ o) → length (encodePage (x .size) (capacity (x .size)) m) ≡ x .size
+    unfolding nth
+    page-long count m o w = encoded-length t (x .size) (capacity (x .size)) (pageId (count + 0)) m (w 0 m refl) big
+
+    bytes-long : (count : ℕ) (o : List Node) → Pages count o → length (bytes o) ≡ length o * x .size
+    unfolding spread
+    bytes-long count [] w = omega arith
+    bytes-long count (m ∷ o) w =
+        simp length-append (omega (arith, suc-mul (length o) (x .size), page-long count m o w, bytes-long (suc count) o (rest-pages count m o w)))
+
+    page-there :
+        (count : ℕ) (o : List Node) (rest : List ℕ) → Pages count o → (i : ℕ) (n : Node) → nth o i ≡ fine n →
+        take (x .size) (drop (i * x .size) (bytes o ++ rest)) ≡ encodePage (x .size) (capacity (x .size)) n
+    unfolding spread nth
+    page-there count [] rest w i n e = absurd (apart (cc))
+    page-there count (m ∷ o) rest w zero n e =
+        let q : m ≡ n = cc in
+        let z : 0 * x .size ≡ 0 = omega arith in
+        rw (z, append-assoc)
+        (take-at (encodePage (x .size) (capacity (x .size)) m) (bytes o ++ rest) (x .size) (page-long count m o w)
+        ∙ ap (encodePage (x .size) (capacity (x .size))) q)
+    page-there count (m ∷ o) rest w (suc i) n e =
+        let z : suc i * x .size ≡ length (encodePage (x .size) (capacity (x .size)) m) + i * x .size =
+        omega (arith, suc-mul i (x .size), page-long count m o w) in
+        rw (z, append-assoc, drop-append-add) (page-there (suc count) o rest (rest-pages count m o w) i n e)
+
+    module _ (o : List Node) (w : Pages (x .count) o) where
+      abbrev extent : Extent
+      extent = record { size = x .size; count = x .count + length o }
+
+      front : length (take (x .count * x .size) s) ≡ x .count * x .size
+      front = length-take-le (x .count * x .size) s fits
+
+      pub fetch-new : (i : ℕ) (n : Node) → nth o i ≡ fine n → fetchPage t extent (storeAfter x s o) (pageId (x .count + i)) ≡ fine n
+      unfolding fetchPage pageAt storeAfter patch
+      fetch-new i n e =
+          let z : (x .count + i) * x .size ≡ length (take (x .count * x .size) s) + i * x .size = omega (arith, front) in
+          rw (lt-ltb (x .count + i) (x .count + length o) (omega (arith, nth-lt o i n e)), z, append-assoc, drop-append-add, page-there (x .count) o _ w i n e, read-back t (x .size) (capacity (x .size)) (pageId (x .count + i)) n (w i n e) big)
+
+      pub after-fits : (x .count + length o) * x .size ≤ length (storeAfter x s o)
+      unfolding storeAfter patch
+      after-fits = simp length-append (omega (arith, front, bytes-long (x .count) o w))
+
+      pub held-after : Extends (held (envOf t x s) o) (fetchPage t extent (storeAfter x s o))
+      unfolding held envOf
+      held-after p n e = side (ltb (p .0) (x .count)) refl
+        where
+          side : (b : Bool) → ltb (p .0) (x .count) ≡ b → fetchPage t extent (storeAfter x s o) p ≡ fine n
+          side true u = fetch-kept t x extent s (storeAfter x s o) refl (omega arith) (store-keeps x s fits o) p n (rw u at e)
+          side false u =
+              let q : pageId (x .count + (p .0 - x .count)) ≡ p = ap pageId (omega (arith, ltb-false (p .0) (x .count) u)) in
+              subst (λ (z : PageId). fetchPage t extent (storeAfter x s o) z ≡ fine n) q (fetch-new (p .0 - x .count) n (rw u at e))

@@ -22,13 +22,13 @@ use Rattle.history.specs.Order.{clash}
 use Rattle.history.specs.Tree.{Tree, last, InTree, Full, Good, own-in, Exactly, Apart}
 use Rattle.history.specs.Pages.{Place, page, child, level-is, Holds, hLast, hItem, Stored, Extends, holds-extends, holds-own, holds-lengths, holds-real, leaf-full, real-last}
 use Rattle.history.specs.Merge.{mergeTree, merge-holds, merge-in, merge-good, merge-clear}
-use Rattle.history.specs.Held.{held, EnvOk, held-old, Storable, Written, none-written, More, more-more, Grown, Goes, stops, goes, goes-then, goes-map, put-ok}
+use Rattle.history.specs.Held.{held, EnvOk, held-old, Storable, Written, none-written, More, same-more, more-more, Grown, Goes, stops, goes, goes-then, goes-map, put-ok}
 use Rattle.history.specs.Split.{Made, split-ok}
 use Rattle.history.specs.Span.{Spotted, longest-ok, Cuts, cuts}
 use Rattle.history.specs.Flush.{Row, row-of, row-holds, pendings, row-pendings, row-full, Rebuilt, Target, target, pendings-fewer, no-pendings}
 
 -- the same pages for a larger start and other words for the contents
-abbrev regrown :
+abbrev pub regrown :
     {t : DatomOrd} {e : Env} {P Q : Datom → Type 0} {w : Place} {o₀ o o₁ : List Node} →
     ((x : Datom) → P x ↔ Q x) → More t e o₀ o → Grown t e P w o o₁ → Grown t e Q w o₀ o₁
 regrown s m g =
@@ -192,7 +192,7 @@ module _ (t : DatomOrd) (e : Env) (E : EnvOk e) where
           (k-ok (mergeNode (e .cmp) (s .node) ds) (mergeTree (e .cmp) tr ds) o (level-is l (e .fetch p) (s .node) (s .read))
           (merge-holds (e .cmp) (s .holds) ds) (merge-good (e .cmp) (E .laws) tr ds g r a) (λ x i. b x (M x .0 i)) ws)
           λ m o₁ w. settle-ok l (λ x. InTree x tr ⊎ In x ds) o m o₁ b
-          (record { level = w .level; grown = regrown M (record { extends = λ p n q. q; written = ws }) (w .grown); full = w .full }))
+          (record { level = w .level; grown = regrown M (same-more ws) (w .grown); full = w .full }))
         where
           clear : meets (e .cmp) (s .node .datoms) ds ≡ false
           clear = merge-clear (e .cmp) (E .laws) (s .node .datoms) ds (λ x y i j. a x y i (own-in y tr (rw (holds-own (s .holds)) j)))
@@ -209,7 +209,7 @@ module _ (t : DatomOrd) (e : Env) (E : EnvOk e) where
           holds = holds-extends (held-old e E o) h;
           good = g;
           exactly = λ x. (λ i. i, λ i. i);
-          more = record { extends = λ p m z. z; written = ws };
+          more = same-more ws;
         };
         full = λ v. leaf-full h;
       })
@@ -218,7 +218,7 @@ module _ (t : DatomOrd) (e : Env) (E : EnvOk e) where
       λ n tr o q h g a ws.
       let w = row-of false (held-old e E o) h in
       flush-all-ok l (insertInto e l) (insert-into-ok l) (λ x. InTree x tr) a o (length (n .datoms)) n tr o q w g (λ x. (λ i. i, λ i. i))
-      (record { extends = λ p m z. z; written = ws }) (row-pendings w)
+      (same-more ws) (row-pendings w)
 
 -- a root: none or a page, a child of no page
 pub record Rooted (t : DatomOrd) (e : Env) (P : Datom → Type 0) (o : List Node) (root : PageId) (o₁ : List Node) : Type 0 where

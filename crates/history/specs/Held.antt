@@ -117,6 +117,9 @@ pub record More (t : DatomOrd) (e : Env) (o o₁ : List Node) : Type 0 where
   pub extends : Extends (held e o) (held e o₁)
   pub written : Written t e o₁
 
+pub same-more : {t : DatomOrd} {e : Env} {o : List Node} → Written t e o → More t e o o
+same-more w = record { extends = λ p n q. q; written = w }
+
 pub more-more : {t : DatomOrd} {e : Env} {o o₁ o₂ : List Node} → More t e o o₁ → More t e o₁ o₂ → More t e o o₂
 more-more a b = record { extends = λ p n q. b .extends p n (a .extends p n q); written = b .written }
 

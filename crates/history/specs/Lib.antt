@@ -18,3 +18,5 @@ pub mod Grow
 pub mod After
 pub mod Sort
 pub mod Checks
+pub mod Batch
+pub mod Calls

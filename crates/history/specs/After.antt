@@ -63,7 +63,6 @@ module _ (x : Extent) (s : List ℕ) (fits : x .count * x .size ≤ length s) wh
   store-keeps o =
       rw append-assoc (take-at (take (x .count * x .size) s) _ (x .count * x .size) (length-take-le (x .count * x .size) s fits))
 
-
 -- a call that writes no page leaves every byte
 pub store-same : (x : Extent) (s : List ℕ) → storeAfter x s [] ≡ s
 unfolding storeAfter patch spread

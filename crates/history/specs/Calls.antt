@@ -50,11 +50,11 @@ pub record RootIs (t : DatomOrd) (x : Extent) (s : List ℕ) (root : PageId) (u 
 data Lookups (cmp : Datom → Datom → Ordering) (tr : Tree) (i : ℕ) (b : List Datom) : Finding → Type 0 where
   noneMet : Apart cmp b tr → Lookups cmp tr i b clear
   someMet :
-    {j : ℕ} (before : List Datom) (d : Datom) (rest : List Datom) → b ≡ before ++ (d ∷ rest) → length before + i ≡ j → Has cmp d tr →
-    ((y : Datom) → In y before → Has cmp y tr → ⊥) → Lookups cmp tr i b (found (Repeated j))
+      {j : ℕ} (before : List Datom) (d : Datom) (rest : List Datom) → b ≡ before ++ (d ∷ rest) → length before + i ≡ j → Has cmp d tr →
+      ((y : Datom) → In y before → Has cmp y tr → ⊥) → Lookups cmp tr i b (found (Repeated j))
 
 module _ (e : Env) (L : Preorder (e .cmp)) (l : ℕ) (root : PageId) (n : Node) (tr : Tree) (g : Good (e .cmp) tr)
-  (h : Holds (e .fetch) (page l (n .datoms) (n .children)) tr)
+    (h : Holds (e .fetch) (page l (n .datoms) (n .children)) tr)
   where
     lookups-ok : (i : ℕ) (b : List Datom) → Lookups (e .cmp) tr i b (lookupAll e l root (fine n) i b)
     unfolding lookupAll afterLook
@@ -80,15 +80,15 @@ pub data Inserted (t : DatomOrd) (x : Extent) (s : List ℕ) (scratch : ℕ) (u 
   met : {i : ℕ} → FirstShared (t .cmp) u (batchOf b) i → Inserted t x s scratch u b (refuse (Repeated i))
   stays : {r : Refusal} {o : List Node} → Excused r → Fresh (t .cmp) (batchOf b) u → Inserted t x s scratch u b (record { answer = Refused r; pages = o })
   done :
-    {root : PageId} {o : List Node} → WellFormed t b → Fresh (t .cmp) (batchOf b) u →
-    Rooted t (envOf t x s) (λ y. In y u ⊎ In y (batchOf b)) [] root o → Inserted t x s scratch u b (record { answer = Done root (length o); pages = o })
+      {root : PageId} {o : List Node} → WellFormed t b → Fresh (t .cmp) (batchOf b) u →
+      Rooted t (envOf t x s) (λ y. In y u ⊎ In y (batchOf b)) [] root o → Inserted t x s scratch u b (record { answer = Done root (length o); pages = o })
 
 -- what any call leaves: a refusal, or a root that holds the datoms that it held and the batch
 pub data Called (t : DatomOrd) (x : Extent) (s : List ℕ) (u b : List Datom) : Outcome → Type 0 where
   refuses : {r : Refusal} {o : List Node} → Called t x s u b (record { answer = Refused r; pages = o })
   accepts :
-    {root : PageId} {o : List Node} → Distinct (t .cmp) b → ((y : Datom) → In y b → Storable t y) → Fresh (t .cmp) b u →
-    Rooted t (envOf t x s) (λ y. In y u ⊎ In y b) [] root o → Called t x s u b (record { answer = Done root (length o); pages = o })
+      {root : PageId} {o : List Node} → Distinct (t .cmp) b → ((y : Datom) → In y b → Storable t y) → Fresh (t .cmp) b u →
+      Rooted t (envOf t x s) (λ y. In y u ⊎ In y b) [] root o → Called t x s u b (record { answer = Done root (length o); pages = o })
 
 -- past a check
 check :
@@ -122,7 +122,7 @@ module _ (t : DatomOrd) (e : Env) (E : EnvOk e) where
       (omega arith)
 
 -- "5 NoPage: root neither none nor below the count"
-root-known : (t : DatomOrd) (x : Extent) (s : List ℕ) {l : ℕ} {tr : Tree} (root : PageId) → Holds (fetchPage t x s) (child l root) tr → badRoot x root ≡ false
+pub root-known : (t : DatomOrd) (x : Extent) (s : List ℕ) {l : ℕ} {tr : Tree} (root : PageId) → Holds (fetchPage t x s) (child l root) tr → badRoot x root ≡ false
 unfolding badRoot
 root-known t x s root (noPage n) = rw n
 root-known t x s root (aPage {l} {n} r q h) =
@@ -169,7 +169,7 @@ module _
                 finish w (λ y z i j. a y z i (ex z .1 j)) _
                 (goes-map
                 (λ r o q. rerooted (λ y.
-                  (λ i. elim i [ inl j ↦ inl (ex y .0 j) | inr j ↦ inr j ], λ i. elim i [ inl j ↦ inl (ex y .1 j) | inr j ↦ inr j ])) q)
+                (λ i. elim i [ inl j ↦ inl (ex y .0 j) | inr j ↦ inr j ], λ i. elim i [ inl j ↦ inl (ex y .1 j) | inr j ↦ inr j ])) q)
                 (insert-tree-ok t (envOf t x s) E (n .level) root (batchOf b) tr st g (w .order) a
                 (λ y i. elim i [ inl j ↦ stored y (ex y .0 j) | inr j ↦ may w y j ])))
             side (someMet {j} before d rest p z m c) =

@@ -109,9 +109,10 @@ module _ (cmp : Datom → Datom → Ordering) (L : Preorder cmp) where
     where
       more : {f : Finding} → ((y : Datom) → In y seen → cmp y d ≡ Ordering·eq → ⊥) → Finds (Apart (d ∷ seen) ds) f → Finds (Apart seen (d ∷ ds)) f
       more n (isClear w) =
-          isClear
-          (λ x y j k q. elim j [ inl h ↦ n y k (rw h at q) | inr h ↦ w .0 x y h (inr k) q ],
-          (λ x j q. w .0 x d j (inl refl) q, w .1))
+          isClear (
+            λ x y j k q. elim j [ inl h ↦ n y k (rw h at q) | inr h ↦ w .0 x y h (inr k) q ],
+            (λ x j q. w .0 x d j (inl refl) q, w .1),
+          )
       more n (isFound r w) = isFound r λ a. w (λ x y j k q. elim k [ inl h ↦ a .1 .0 x j (rw h at q) | inr h ↦ a .0 x y (inr j) h q ], a .1 .1)
 
       side : Told d seen → Finds (Apart (d ∷ seen) ds) (twinFault cmp (suc i) (d ∷ seen) ds) → Finds (Apart seen (d ∷ ds)) (twinFault cmp i seen (d ∷ ds))

@@ -20,8 +20,13 @@ from-front :
 unfolding framesFrom
 from-front [] i p = refl
 from-front (a ∷ fs) i p =
-    rw (reversed (λ (f : Frame). f .at) a fs i, reversed (λ (f : Frame). f .page) a fs p,
-    nth-last (λ (f : Frame). f .at) a fs i 0, nth-last (λ (f : Frame). f .page) a fs p (page 0), from-front fs (a .at ∷ i) (a .page ∷ p))
+    rw (
+      reversed (λ (f : Frame). f .at) a fs i,
+      reversed (λ (f : Frame). f .page) a fs p,
+      nth-last (λ (f : Frame). f .at) a fs i 0,
+      nth-last (λ (f : Frame). f .page) a fs p (page 0),
+      from-front fs (a .at ∷ i) (a .page ∷ p),
+    )
 
 pub frames-back : (fs : List Frame) → framesFrom (length fs) (indicesOf fs) (pagesOf fs) ≡ fs
 unfolding eight

@@ -21,7 +21,6 @@ use Rattle.history.specs.Graft.{isBlank, real-flag, prepend, Tail, nothi
 use Rattle.history.specs.Pages.{page, child, Holds, noPage, aPage, hLast, hItem, Stored, Extends, holds-extends, holds-real, child-real, child-blank, child-page}
 use Rattle.history.specs.Span.{Nones, Closed}
 
-
 abbrev pub choose : Bool → (PageId → Fetched) → (PageId → Fetched) → (PageId → Fetched)
 choose true f g = f
 choose false f g = g
@@ -42,8 +41,8 @@ choose-grow f false x p n q = x p n q
 pub data Row (f g : PageId → Fetched) (l : ℕ) : Bool → List Datom → List PageId → Tree → Type 0 where
   rLast : {v : Bool} {c : PageId} {t : Tree} → Holds (choose v f g) (child (suc l) c) t → Real t → Row f g l v [] (c ∷ []) (last t)
   rItem :
-    {v : Bool} {c : PageId} {t : Tree} {ds : List Datom} {cs : List PageId} {r : Tree} (d : Datom) → Holds (choose v f g) (child (suc l) c) t →
-    Row f g l (isBlank t) ds cs r → Row f g l v (d ∷ ds) (c ∷ cs) (item t d r)
+      {v : Bool} {c : PageId} {t : Tree} {ds : List Datom} {cs : List PageId} {r : Tree} (d : Datom) → Holds (choose v f g) (child (suc l) c) t →
+      Row f g l (isBlank t) ds cs r → Row f g l v (d ∷ ds) (c ∷ cs) (item t d r)
 
 module _ {f : PageId → Fetched} {l : ℕ} where
   pub row-of :
@@ -69,7 +68,6 @@ module _ {f : PageId → Fetched} {l : ℕ} where
 unfoldable pub pendings : List PageId → ℕ
 pendings [] = 0
 pendings (c ∷ cs) = elim (isNone c) [ true ↦ suc (pendings cs) | false ↦ pendings cs ]
-
 
 module _ {f g : PageId → Fetched} {l : ℕ} where
   pub row-pendings : {v : Bool} {ds : List Datom} {cs : List PageId} {t : Tree} → Row f g l v ds cs t → pendings cs ≤ length ds
@@ -105,8 +103,8 @@ module _ (f g : PageId → Fetched) (l : ℕ) where
   data Front : Bool → List Datom → List PageId → List (Tree × Datom) → Bool → Type 0 where
     fNil : {v : Bool} → Front v [] [] [] v
     fItem :
-      {v w : Bool} {c : PageId} {k : Tree} {ds : List Datom} {cs : List PageId} {ks : List (Tree × Datom)} (d : Datom) →
-      Holds (choose v f g) (child (suc l) c) k → Front (isBlank k) ds cs ks w → Front v (d ∷ ds) (c ∷ cs) ((k, d) ∷ ks) w
+        {v w : Bool} {c : PageId} {k : Tree} {ds : List Datom} {cs : List PageId} {ks : List (Tree × Datom)} (d : Datom) →
+        Holds (choose v f g) (child (suc l) c) k → Front (isBlank k) ds cs ks w → Front v (d ∷ ds) (c ∷ cs) ((k, d) ∷ ks) w
 
   data Fronted (v : Bool) (pD ds : List Datom) (pC cs : List PageId) : Tree → Type 0 where
     fronted : {w : Bool} {r : Tree} (ks : List (Tree × Datom)) → Front v pD pC ks w → Row f g l w ds cs r → Fronted v pD ds pC cs (prepend ks r)
@@ -173,14 +171,14 @@ pub record Rebuilt (cmp : Datom → Datom → Ordering) (f g : PageId → Fetche
 pub record Target
     (cmp : Datom → Datom → Ordering) (f g : PageId → Fetched) (l : ℕ) (t : Tree) (pD : List Datom) (pC : List PageId) (b : List Datom) (c : PageId)
     (qD : List Datom) (qC : List PageId)
-  : Type 0 where
-    pub kid : Tree
-    pub stored : Stored f l c kid
-    pub good : Good cmp kid
-    pub rising : Rising cmp b
-    pub apart : Apart cmp b kid
-    pub inside : (x : Datom) → InTree x kid ⊎ In x b → InTree x t
-    pub rebuild :
+    : Type 0 where
+  pub kid : Tree
+  pub stored : Stored f l c kid
+  pub good : Good cmp kid
+  pub rising : Rising cmp b
+  pub apart : Apart cmp b kid
+  pub inside : (x : Datom) → InTree x kid ⊎ In x b → InTree x t
+  pub rebuild :
       {g₁ : PageId → Fetched} → Extends g g₁ → {mD : List Datom} {mC : List PageId} {t₁ : Tree} → Holds g₁ (page (suc l) mD mC) t₁ → Full (suc l) t₁ →
       Good cmp t₁ → Exactly (λ x. InTree x kid ⊎ In x b) t₁ → Rebuilt cmp f g₁ l t (pD ++ (mD ++ qD)) (pC ++ (mC ++ qC))
 
@@ -208,12 +206,12 @@ module _ (cmp : Datom → Datom → Ordering) (L : Preorder cmp) {f g : PageId �
         rising = A .rising;
         apart = A .apart;
         inside = λ x i. prepend-has ks (pending b (join t q)) x
-          (pending-in b (join t q) x .1 (elim i [ inl j ↦ inl (join-in t q x .1 (inl j)) | inr j ↦ inr j ]));
+            (pending-in b (join t q) x .1 (elim i [ inl j ↦ inl (join-in t q x .1 (inl j)) | inr j ↦ inr j ]));
         rebuild = λ y {mD} {mC} {t₁} m u gd ex. record {
           tree = prepend ks (graft t₁ q);
           row = front-row y a (row-graft y m u w);
           good = prepend-good cmp L (pending b (join t q)) (graft t₁ q) (same t₁ u ex) false ks k g₀
-            (graft-good cmp L l t₁ q u gd (A .goodTail) (λ x i. A .before x (ex x .0 i)));
+              (graft-good cmp L l t₁ q u gd (A .goodTail) (λ x i. A .before x (ex x .0 i)));
           exactly = prepend-in (pending b (join t q)) (graft t₁ q) ks (same t₁ u ex);
         };
       }
@@ -222,15 +220,16 @@ module _ (cmp : Datom → Datom → Ordering) (L : Preorder cmp) {f g : PageId �
       A = run-around cmp L b t q e (prepend-rest cmp ks (pending b (join t q)) g₀)
 
       same : (t₁ : Tree) → Full (suc l) t₁ → Exactly (λ x. InTree x t ⊎ In x b) t₁ → Exactly (λ x. InTree x (pending b (join t q))) (graft t₁ q)
-      same t₁ u ex x =
-          (λ i. pending-in b (join t q) x .1 (elim (graft-in (suc l) t₁ q u x .0 i) [
-            | inl j ↦ elim (ex x .0 j) [ inl v ↦ inl (join-in t q x .1 (inl v)) | inr v ↦ inr v ]
-            | inr j ↦ inl (join-in t q x .1 (inr j))
-          ]),
-          λ i. graft-in (suc l) t₁ q u x .1 (elim (pending-in b (join t q) x .0 i) [
-            | inl j ↦ elim (join-in t q x .0 j) [ inl v ↦ inl (ex x .1 (inl v)) | inr v ↦ inr v ]
-            | inr j ↦ inl (ex x .1 (inr j))
-          ]))
+      same t₁ u ex x = (
+        λ i. pending-in b (join t q) x .1 (elim (graft-in (suc l) t₁ q u x .0 i) [
+          | inl j ↦ elim (ex x .0 j) [ inl v ↦ inl (join-in t q x .1 (inl v)) | inr v ↦ inr v ]
+          | inr j ↦ inl (join-in t q x .1 (inr j))
+        ]),
+        λ i. graft-in (suc l) t₁ q u x .1 (elim (pending-in b (join t q) x .0 i) [
+          | inl j ↦ elim (join-in t q x .0 j) [ inl v ↦ inl (ex x .1 (inl v)) | inr v ↦ inr v ]
+          | inr j ↦ inl (ex x .1 (inr j))
+        ]),
+      )
 
   pub target :
       {qD : List Datom} {c : PageId} {qC : List PageId} {t : Tree} (pD b : List Datom) (pC nC : List PageId) → length pC ≡ length pD →

@@ -66,22 +66,24 @@ pub graft-in : (l : ℕ) (t : Tree) (q : Tail) → Full l t → Exactly (λ x. I
 graft-in l blank q u x = absurd u
 graft-in l (last t) q u x = join-in t q x
 graft-in l (item t d r) q u x =
-    let ih = graft-in l r q (u .1) x in
-    (λ i. elim i [
-      | inl j ↦ inl (inl j)
-      | inr j ↦ elim j [ inl k ↦ inl (inr (inl k)) | inr k ↦ elim (ih .0 k) [ inl v ↦ inl (inr (inr v)) | inr v ↦ inr v ] ]
-    ],
-    λ i. elim i [
-      | inl j ↦ elim j [ inl k ↦ inl k | inr k ↦ inr (elim k [ inl v ↦ inl v | inr v ↦ inr (ih .1 (inl v)) ]) ]
-      | inr j ↦ inr (inr (ih .1 (inr j)))
-    ])
+    let ih = graft-in l r q (u .1) x in (
+      λ i. elim i [
+        | inl j ↦ inl (inl j)
+        | inr j ↦ elim j [ inl k ↦ inl (inr (inl k)) | inr k ↦ elim (ih .0 k) [ inl v ↦ inl (inr (inr v)) | inr v ↦ inr v ] ]
+      ],
+      λ i. elim i [
+        | inl j ↦ elim j [ inl k ↦ inl k | inr k ↦ inr (elim k [ inl v ↦ inl v | inr v ↦ inr (ih .1 (inl v)) ]) ]
+        | inr j ↦ inr (inr (ih .1 (inr j)))
+      ],
+    )
 
 pub prepend-in : (t t₁ : Tree) (ks : List (Tree × Datom)) → Exactly (λ x. InTree x t) t₁ → Exactly (λ x. InTree x (prepend ks t)) (prepend ks t₁)
 prepend-in t t₁ [] e x = e x
 prepend-in t t₁ (k ∷ ks) e x =
-    let ih = prepend-in t t₁ ks e x in
-    (λ i. elim i [ inl j ↦ inl j | inr j ↦ inr (elim j [ inl v ↦ inl v | inr v ↦ inr (ih .0 v) ]) ],
-    λ i. elim i [ inl j ↦ inl j | inr j ↦ inr (elim j [ inl v ↦ inl v | inr v ↦ inr (ih .1 v) ]) ])
+    let ih = prepend-in t t₁ ks e x in (
+      λ i. elim i [ inl j ↦ inl j | inr j ↦ inr (elim j [ inl v ↦ inl v | inr v ↦ inr (ih .0 v) ]) ],
+      λ i. elim i [ inl j ↦ inl j | inr j ↦ inr (elim j [ inl v ↦ inl v | inr v ↦ inr (ih .1 v) ]) ],
+    )
 
 pub prepend-has : (ks : List (Tree × Datom)) (t : Tree) (x : Datom) → InTree x t → InTree x (prepend ks t)
 prepend-has [] t x i = i
@@ -106,10 +108,12 @@ module _ (cmp : Datom → Datom → Ordering) (L : Preorder cmp) where
   graft-good l blank q u g k b = absurd u
   graft-good l (last t) nothing u g k b = g
   graft-good l (last t) (then d r) u g k b = (midpoint cmp b (k .0), g, k .1)
-  graft-good l (item t d r) q u g k b =
-      (midpoint cmp (g .0 .left)
-      (λ x i. elim (graft-in (suc l) r q (u .1) x .0 i) [ inl j ↦ g .0 .right (u .0) x j | inr j ↦ above-tail d q k (b d (inr (inl refl))) x j ]),
-      g .1, graft-good l r q (u .1) (g .2) k (λ x i. b x (inr (inr i))))
+  graft-good l (item t d r) q u g k b = (
+    midpoint cmp (g .0 .left)
+        (λ x i. elim (graft-in (suc l) r q (u .1) x .0 i) [ inl j ↦ g .0 .right (u .0) x j | inr j ↦ above-tail d q k (b d (inr (inl refl))) x j ]),
+    g .1,
+    graft-good l r q (u .1) (g .2) k (λ x i. b x (inr (inr i))),
+  )
 
   -- what a run, its child and their tail are known to be
   pub record Around (b : List Datom) (t : Tree) (q : Tail) : Type 0 where
@@ -176,14 +180,16 @@ module _ (cmp : Datom → Datom → Ordering) (L : Preorder cmp) where
 
     pub prepend-good : (v : Bool) (ks : List (Tree × Datom)) → ClosedItems v ks → Good cmp (prepend ks t) → Good cmp t₁ → Good cmp (prepend ks t₁)
     prepend-good v [] u g w = w
-    prepend-good v (k ∷ ks) u g w =
-        (record {
-          left = g .0 .left;
-          next = side (isBlank (k .0)) refl;
-          apart = λ x i. g .0 .apart x (prepend-in t t₁ ks same x .0 i);
-          right = λ z x i. g .0 .right z x (prepend-in t t₁ ks same x .0 i);
-        },
-        g .1, prepend-good (isBlank (k .0)) ks u (g .2) w)
+    prepend-good v (k ∷ ks) u g w = (
+      record {
+        left = g .0 .left;
+        next = side (isBlank (k .0)) refl;
+        apart = λ x i. g .0 .apart x (prepend-in t t₁ ks same x .0 i);
+        right = λ z x i. g .0 .right z x (prepend-in t t₁ ks same x .0 i);
+      },
+      g .1,
+      prepend-good (isBlank (k .0)) ks u (g .2) w,
+    )
       where
         side : (b : Bool) → isBlank (k .0) ≡ b → (x : Datom) → In x (own (prepend ks t₁)) → cmp (k .1) x ≡ Ordering·lt
         side true e = prepend-next ks (rw e at u) (g .2) (k .1) (g .0 .next)

@@ -83,18 +83,19 @@ module _ (t : DatomOrd) (e : Env) (E : EnvOk e) where
           rw v
           (goes-then (put e n o₁) _
           (put-ok t e E l n (G .tree) o₁ (w .level) (G .holds) (G .good) b (ltb-false (e .cap) (length (n .datoms)) v) (G .more .written))
-          λ id o₂ q. goes
-          (ap suc (w .level),
-          record {
-            grown = record {
-              tree = last (G .tree);
-              holds = hLast (q .0) (holds-real (G .holds));
-              good = G .good;
-              exactly = G .exactly;
-              more = more-more (G .more) (q .1);
-            };
-            full = holds-real (G .holds);
-          }))
+          λ id o₂ q. goes (
+            ap suc (w .level),
+            record {
+              grown = record {
+                tree = last (G .tree);
+                holds = hLast (q .0) (holds-real (G .holds));
+                good = G .good;
+                exactly = G .exactly;
+                more = more-more (G .more) (q .1);
+              };
+              full = holds-real (G .holds);
+            },
+          ))
 
   -- an insert into a page of level l that does what is asked of it
   abbrev Inserts : ℕ → Below → Type 0
@@ -154,8 +155,8 @@ module _ (t : DatomOrd) (e : Env) (E : EnvOk e) where
               exactly = λ x. Iff·trans (R .exactly x) (ex x);
               more = more-more m (G .more);
               fewer = rw (C .front, C .behind)
-                (subst (λ (z : ℕ). pendings (S .before ++ (n₁ .children ++ S .behind)) < z) (ap pendings (sym (S .parts)))
-                (pendings-fewer (S .before) (S .run) (S .end) (S .behind) (S .nones) (S .some) (G .holds) (M .full)));
+                  (subst (λ (z : ℕ). pendings (S .before ++ (n₁ .children ++ S .behind)) < z) (ap pendings (sym (S .parts)))
+                  (pendings-fewer (S .before) (S .run) (S .end) (S .behind) (S .nones) (S .some) (G .holds) (M .full)));
             }
 
     flush-all-ok :
@@ -179,7 +180,7 @@ module _ (t : DatomOrd) (e : Env) (E : EnvOk e) where
             λ n₁ o₁ r. ih n₁ (r .tree) o₁ (r .level) (r .row) (r .good) (r .exactly) (r .more) (omega (arith, r .fewer)))
 
   module _ (l : ℕ) (k : Node → List Node → Stage Node)
-    (k-ok :
+      (k-ok :
       (n : Node) (tr : Tree) (o : List Node) → n .level ≡ l → Holds (e .fetch) (page l (n .datoms) (n .children)) tr → Good (e .cmp) tr →
       ((x : Datom) → InTree x tr → Storable t x) → Written t e o → Goes (Settling t e (λ x. InTree x tr) l o) (k n o))
     where

@@ -199,9 +199,10 @@ module _ (t : DatomOrd) (e : Env) (E : EnvOk e) where
           let x : Extends (held e o) (held e (o ++ (n ∷ []))) = held-extends e o (n ∷ []) in
           let z : atLevel l (held e (o ++ (n ∷ [])) (pageId (e .count + length o))) ≡ fine n = rw (held-new e o n) (at-own l n q) in
           rw (u, v)
-          (goes
-          (aPage (real-id (e .count + length o) k) z (holds-extends x h),
-          record { extends = x; written = λ i m z. elim (nth-one o n m i z) [ inl j ↦ ws i m j | inr j ↦ rw (j .0, ← j .1) (one k) ] }))
+          (goes (
+            aPage (real-id (e .count + length o) k) z (holds-extends x h),
+            record { extends = x; written = λ i m z. elim (nth-one o n m i z) [ inl j ↦ ws i m j | inr j ↦ rw (j .0, ← j .1) (one k) ] },
+          ))
         where
           one : e .count + length o < 0xffff_ffff_ffff_ffff → Writable (ordOf t e) (e .cap) (pageId (e .count + length o)) n
           one k =

@@ -20,3 +20,7 @@ pub mod Sort
 pub mod Checks
 pub mod Batch
 pub mod Calls
+pub mod Sound
+pub mod Roots
+pub mod Invariant
+pub mod Demand

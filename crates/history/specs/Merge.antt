@@ -72,22 +72,24 @@ module _ (cmp : Datom → Datom → Ordering) where
           InTree y (mergeTree cmp (item t d r) xs) ↔ (InTree y (item t d r) ⊎ In y xs) →
           InTree y (mergeTree cmp (item t d r) (x ∷ xs)) ↔ (InTree y (item t d r) ⊎ In y (x ∷ xs))
       side true e u v =
-          rw (e, mergeTree)
-          (λ i. elim i [
-            | inl j ↦ inl (inl j)
-            | inr j ↦ elim j [ inl k ↦ inl (inr (inl k)) | inr k ↦ elim (u .0 k) [ inl q ↦ inl (inr (inr q)) | inr q ↦ inr q ] ]
-          ],
-          λ i. elim i [
-            | inl j ↦ elim j [ inl k ↦ inl k | inr k ↦ inr (elim k [ inl q ↦ inl q | inr q ↦ inr (u .1 (inl q)) ]) ]
-            | inr j ↦ inr (inr (u .1 (inr j)))
-          ])
+          rw (e, mergeTree) (
+            λ i. elim i [
+              | inl j ↦ inl (inl j)
+              | inr j ↦ elim j [ inl k ↦ inl (inr (inl k)) | inr k ↦ elim (u .0 k) [ inl q ↦ inl (inr (inr q)) | inr q ↦ inr q ] ]
+            ],
+            λ i. elim i [
+              | inl j ↦ elim j [ inl k ↦ inl k | inr k ↦ inr (elim k [ inl q ↦ inl q | inr q ↦ inr (u .1 (inl q)) ]) ]
+              | inr j ↦ inr (inr (u .1 (inr j)))
+            ],
+          )
       side false e u v =
-          rw (e, mergeTree)
-          (λ i. elim i [
-            | inl j ↦ absurd j
-            | inr j ↦ elim j [ inl k ↦ inr (inl k) | inr k ↦ elim (v .0 k) [ inl q ↦ inl q | inr q ↦ inr (inr q) ] ]
-          ],
-          λ i. inr (elim i [ inl j ↦ inr (v .1 (inl j)) | inr j ↦ elim j [ inl k ↦ inl k | inr k ↦ inr (v .1 (inr k)) ] ]))
+          rw (e, mergeTree) (
+            λ i. elim i [
+              | inl j ↦ absurd j
+              | inr j ↦ elim j [ inl k ↦ inr (inl k) | inr k ↦ elim (v .0 k) [ inl q ↦ inl q | inr q ↦ inr (inr q) ] ]
+            ],
+            λ i. inr (elim i [ inl j ↦ inr (v .1 (inl j)) | inr j ↦ elim j [ inl k ↦ inl k | inr k ↦ inr (v .1 (inr k)) ] ]),
+          )
 
 module _ (cmp : Datom → Datom → Ordering) (L : Preorder cmp) where
   -- it is good
@@ -105,23 +107,28 @@ module _ (cmp : Datom → Datom → Ordering) (L : Preorder cmp) where
           Good cmp (mergeTree cmp (item t d s) (x ∷ xs))
       side true e u v =
           let k : (y : Datom) → In y (x ∷ xs) → cmp d y ≡ Ordering·lt = below-all cmp L d x xs (less cmp d x e) r in
-          rw (e, mergeTree)
-          (record {
-            left = g .0 .left;
-            next = λ y i. elim (merge-out cmp y (own s) (x ∷ xs) (rw (merge-own cmp s (x ∷ xs)) at i)) [ inl j ↦ g .0 .next y j | inr j ↦ k y j ];
-            apart = λ y i. elim (merge-in cmp s (x ∷ xs) y .0 i) [ inl j ↦ g .0 .apart y j | inr j ↦ not-both cmp (k y j) ];
-            right = λ z y i. elim (merge-in cmp s (x ∷ xs) y .0 i) [ inl j ↦ g .0 .right z y j | inr j ↦ k y j ];
-          },
-          g .1, u)
+          rw (e, mergeTree) (
+            record {
+              left = g .0 .left;
+              next = λ y i. elim (merge-out cmp y (own s) (x ∷ xs) (rw (merge-own cmp s (x ∷ xs)) at i)) [ inl j ↦ g .0 .next y j | inr j ↦ k y j ];
+              apart = λ y i. elim (merge-in cmp s (x ∷ xs) y .0 i) [ inl j ↦ g .0 .apart y j | inr j ↦ not-both cmp (k y j) ];
+              right = λ z y i. elim (merge-in cmp s (x ∷ xs) y .0 i) [ inl j ↦ g .0 .right z y j | inr j ↦ k y j ];
+            },
+            g .1,
+            u,
+          )
       side false e u v =
           let k : cmp x d ≡ Ordering·lt = other cmp L d x e (a x d (inl refl) (inr (inl refl))) in
-          rw (e, mergeTree)
-          (alone cmp
-          (λ y i. elim (merge-out cmp y (d ∷ own s) xs (rw (merge-own cmp (item t d s) xs) at i)) [
-            | inl j ↦ elim j [ inl q ↦ rw q k | inr q ↦ L .trans x d y k (g .0 .next y q) ]
-            | inr j ↦ r .0 y j
-          ])
-          (λ y i. elim (merge-in cmp (item t d s) xs y .0 i) [ inl j ↦ a x y (inl refl) j | inr j ↦ not-both cmp (r .0 y j) ]), tt, v)
+          rw (e, mergeTree) (
+            alone cmp
+                (λ y i. elim (merge-out cmp y (d ∷ own s) xs (rw (merge-own cmp (item t d s) xs) at i)) [
+                  | inl j ↦ elim j [ inl q ↦ rw q k | inr q ↦ L .trans x d y k (g .0 .next y q) ]
+                  | inr j ↦ r .0 y j
+                ])
+                (λ y i. elim (merge-in cmp (item t d s) xs y .0 i) [ inl j ↦ a x y (inl refl) j | inr j ↦ not-both cmp (r .0 y j) ]),
+            tt,
+            v,
+          )
 
   -- and the merge meets no two equal datoms
   pub merge-clear : (ds new : List Datom) → ((x y : Datom) → In x new → In y ds → cmp x y ≡ Ordering·eq → ⊥) → meets cmp ds new ≡ false

@@ -26,12 +26,12 @@ pub data Place : Type 0 where
 pub data Holds (f : PageId → Fetched) : Place → Tree → Type 0 where
   noPage : {l : ℕ} {c : PageId} → isNone c ≡ true → Holds f (child l c) blank
   aPage :
-    {l : ℕ} {c : PageId} {n : Node} {t : Tree} → isNone c ≡ false → atLevel l (f c) ≡ fine n →
-    Holds f (page l (n .datoms) (n .children)) t → Holds f (child (suc l) c) t
+      {l : ℕ} {c : PageId} {n : Node} {t : Tree} → isNone c ≡ false → atLevel l (f c) ≡ fine n →
+      Holds f (page l (n .datoms) (n .children)) t → Holds f (child (suc l) c) t
   hLast : {l : ℕ} {c : PageId} {t : Tree} → Holds f (child l c) t → Ends l t → Holds f (page l [] (c ∷ [])) (last t)
   hItem :
-    {l : ℕ} {c : PageId} {t : Tree} {ds : List Datom} {cs : List PageId} {r : Tree} (d : Datom) → Holds f (child l c) t →
-    Holds f (page l ds cs) r → Holds f (page l (d ∷ ds) (c ∷ cs)) (item t d r)
+      {l : ℕ} {c : PageId} {t : Tree} {ds : List Datom} {cs : List PageId} {r : Tree} (d : Datom) → Holds f (child l c) t →
+      Holds f (page l ds cs) r → Holds f (page l (d ∷ ds) (c ∷ cs)) (item t d r)
 
 -- reading is monotone: what could be fetched still can
 abbrev pub Extends : (PageId → Fetched) → (PageId → Fetched) → Type 0

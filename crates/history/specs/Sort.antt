@@ -41,9 +41,10 @@ module _ (cmp : Datom → Datom → Ordering) where
       side : (b : Bool) → isLess (cmp y d) ≡ b → In x (place cmp d s) ↔ In x (d ∷ s) → In x (place cmp d (y ∷ s)) ↔ In x (d ∷ y ∷ s)
       side false e ih = rw e (λ i. i, λ i. i)
       side true e ih =
-          rw e
-          (λ i. elim i [ inl j ↦ inr (inl j) | inr j ↦ elim (ih .0 j) [ inl k ↦ inl k | inr k ↦ inr (inr k) ] ],
-          λ i. elim i [ inl j ↦ inr (ih .1 (inl j)) | inr j ↦ elim j [ inl k ↦ inl k | inr k ↦ inr (ih .1 (inr k)) ] ])
+          rw e (
+            λ i. elim i [ inl j ↦ inr (inl j) | inr j ↦ elim (ih .0 j) [ inl k ↦ inl k | inr k ↦ inr (inr k) ] ],
+            λ i. elim i [ inl j ↦ inr (ih .1 (inl j)) | inr j ↦ elim j [ inl k ↦ inl k | inr k ↦ inr (ih .1 (inr k)) ] ],
+          )
 
   pub sort-in : (ds : List Datom) (x : Datom) → In x (sort cmp ds) ↔ In x ds
   unfolding sort
@@ -63,17 +64,20 @@ module _ (cmp : Datom → Datom → Ordering) where
           In x (within cmp lo hi u) ↔ (In x u × (below cmp lo x ≡ false) × (below cmp hi x ≡ true)) →
           In x (within cmp lo hi (d ∷ u)) ↔ (In x (d ∷ u) × (below cmp lo x ≡ false) × (below cmp hi x ≡ true))
       side true p b q ih =
-          rw p
-          (λ i. let w = ih .0 i in (inr (w .0), w .1, w .2),
-          λ i. elim (i .0) [ inl j ↦ absurd (clash (i .1) (rw j p)) | inr j ↦ ih .1 (j, i .1, i .2) ])
+          rw p (
+            λ i. let w = ih .0 i in (inr (w .0), w .1, w .2),
+            λ i. elim (i .0) [ inl j ↦ absurd (clash (i .1) (rw j p)) | inr j ↦ ih .1 (j, i .1, i .2) ],
+          )
       side false p false q ih =
-          rw (p, q)
-          (λ i. let w = ih .0 i in (inr (w .0), w .1, w .2),
-          λ i. elim (i .0) [ inl j ↦ absurd (clash (rw j q) (i .2)) | inr j ↦ ih .1 (j, i .1, i .2) ])
+          rw (p, q) (
+            λ i. let w = ih .0 i in (inr (w .0), w .1, w .2),
+            λ i. elim (i .0) [ inl j ↦ absurd (clash (rw j q) (i .2)) | inr j ↦ ih .1 (j, i .1, i .2) ],
+          )
       side false p true q ih =
-          rw (p, q)
-          (λ i. elim i [ inl j ↦ (inl j, rw j p, rw j q) | inr j ↦ let w = ih .0 j in (inr (w .0), w .1, w .2) ],
-          λ i. elim (i .0) [ inl j ↦ inl j | inr j ↦ inr (ih .1 (j, i .1, i .2)) ])
+          rw (p, q) (
+            λ i. elim i [ inl j ↦ (inl j, rw j p, rw j q) | inr j ↦ let w = ih .0 j in (inr (w .0), w .1, w .2) ],
+            λ i. elim (i .0) [ inl j ↦ inl j | inr j ↦ inr (ih .1 (j, i .1, i .2)) ],
+          )
 
   pub within-rising : (lo hi : Datom) (u : List Datom) → Rising cmp u → Rising cmp (within cmp lo hi u)
   unfolding within

@@ -77,7 +77,17 @@ walk-ok all (c ∷ cs) p r i start b e hi hs n k w = side (isNone c) refl (λ p�
     place : isNone c ≡ false → 0 < length r → Spotted all (record { from = start; upto = i })
     place u some =
         record {
-          before = p; run = r; end = c; behind = cs; parts = e; from = sym hs; upto = sym hi; nones = n; some = some; real = u; closed = k;
+          before = p;
+          run = r;
+          end = c;
+          behind = cs;
+          parts = e;
+          from = sym hs;
+          upto = sym hi;
+          nones = n;
+          some = some;
+          real = u;
+          closed = k;
         }
 
     keep : isNone c ≡ false → i - start ≤ b .upto - b .from → Best all p b → Best all ((p ++ r) ++ (c ∷ [])) b
@@ -137,14 +147,14 @@ pub cuts : {A : Type 0} (ds : List A) (cs : List PageId) (s : Span) (S : Spotted
 cuts ds cs s S e =
     record {
       datoms =
-        ap (_++ (drop (s .from) (take (s .upto) ds) ++ drop (s .upto) ds)) (sym (take-take (s .from) (s .upto) ds (omega (arith, S .from, S .upto))))
-        ∙ rw (← append-assoc (take (s .from) (take (s .upto) ds)) (drop (s .from) (take (s .upto) ds)) (drop (s .upto) ds), take-append-drop (s .from) (take (s .upto) ds))
-        (take-append-drop (s .upto) ds);
+          ap (_++ (drop (s .from) (take (s .upto) ds) ++ drop (s .upto) ds)) (sym (take-take (s .from) (s .upto) ds (omega (arith, S .from, S .upto))))
+          ∙ rw (← append-assoc (take (s .from) (take (s .upto) ds)) (drop (s .from) (take (s .upto) ds)) (drop (s .upto) ds), take-append-drop (s .from) (take (s .upto) ds))
+          (take-append-drop (s .upto) ds);
       front = ap (take (s .from)) (S .parts) ∙ take-at (S .before) _ (s .from) (S .from);
       child = ap (λ (z : List PageId). getD z (s .upto) none) whole ∙ getD-at (S .before ++ S .run) (S .end) (S .behind) none (s .upto) sum;
       behind =
-        ap (drop (suc (s .upto))) (whole ∙ sym (append-assoc (S .before ++ S .run) (S .end ∷ []) (S .behind)))
-        ∙ drop-at ((S .before ++ S .run) ++ (S .end ∷ [])) (S .behind) (suc (s .upto)) (length-append (S .before ++ S .run) (S .end ∷ []) ∙ (omega (arith, sum)));
+          ap (drop (suc (s .upto))) (whole ∙ sym (append-assoc (S .before ++ S .run) (S .end ∷ []) (S .behind)))
+          ∙ drop-at ((S .before ++ S .run) ++ (S .end ∷ [])) (S .behind) (suc (s .upto)) (length-append (S .before ++ S .run) (S .end ∷ []) ∙ (omega (arith, sum)));
       first = simp length-take (omega (arith, S .from, S .upto, total));
       sent = simp (length-drop, length-take) (omega (arith, S .from, S .upto, total));
     }

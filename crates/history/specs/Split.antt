@@ -26,17 +26,17 @@ use Rattle.history.specs.Held.{held, EnvOk, Storable, Written, more-more
 record Halves
     (cmp : Datom → Datom → Ordering) (f : PageId → Fetched) (l : ℕ) (a : List Datom) (ca : List PageId) (d : Datom) (b : List Datom)
     (cb : List PageId) (t : Tree)
-  : Type 0 where
-    left : Tree
-    right : Tree
-    holdsLeft : Holds f (page l a ca) left
-    holdsRight : Holds f (page l b cb) right
-    fullRight : Full l right
-    goodLeft : Good cmp left
-    goodRight : Good cmp right
-    lows : (x : Datom) → InTree x left → cmp x d ≡ Ordering·lt
-    highs : (x : Datom) → InTree x right → cmp d x ≡ Ordering·lt
-    exactly : (x : Datom) → InTree x t ↔ (InTree x left ⊎ ((x ≡ d) ⊎ InTree x right))
+    : Type 0 where
+  left : Tree
+  right : Tree
+  holdsLeft : Holds f (page l a ca) left
+  holdsRight : Holds f (page l b cb) right
+  fullRight : Full l right
+  goodLeft : Good cmp left
+  goodRight : Good cmp right
+  lows : (x : Datom) → InTree x left → cmp x d ≡ Ordering·lt
+  highs : (x : Datom) → InTree x right → cmp d x ≡ Ordering·lt
+  exactly : (x : Datom) → InTree x t ↔ (InTree x left ⊎ ((x ≡ d) ⊎ InTree x right))
 
 module _ (cmp : Datom → Datom → Ordering) (L : Preorder cmp) where
   -- behind a child that may end a page, the datom is below all that follows
@@ -85,14 +85,16 @@ module _ (cmp : Datom → Datom → Ordering) (L : Preorder cmp) where
               | inr j ↦ elim j [ inl q ↦ rw q e<d | inr q ↦ w .lows x q ]
             ];
             highs = w .highs;
-            exactly = λ x. (λ i. elim i [
-              | inl j ↦ inl (inl j)
-              | inr j ↦ elim j [ inl q ↦ inl (inr (inl q)) | inr q ↦ elim (w .exactly x .0 q) [ inl v ↦ inl (inr (inr v)) | inr v ↦ inr v ] ]
-            ],
-            λ i. elim i [
-              | inl j ↦ elim j [ inl q ↦ inl q | inr q ↦ inr (elim q [ inl v ↦ inl v | inr v ↦ inr (w .exactly x .1 (inl v)) ]) ]
-              | inr j ↦ inr (inr (w .exactly x .1 (inr j)))
-            ]);
+            exactly = λ x. (
+              λ i. elim i [
+                | inl j ↦ inl (inl j)
+                | inr j ↦ elim j [ inl q ↦ inl (inr (inl q)) | inr q ↦ elim (w .exactly x .0 q) [ inl v ↦ inl (inr (inr v)) | inr v ↦ inr v ] ]
+              ],
+              λ i. elim i [
+                | inl j ↦ elim j [ inl q ↦ inl q | inr q ↦ inr (elim q [ inl v ↦ inl v | inr v ↦ inr (w .exactly x .1 (inl v)) ]) ]
+                | inr j ↦ inr (inr (w .exactly x .1 (inr j)))
+              ],
+            );
           }
 
 -- datoms and children of a node that may be cut anywhere, which hold a good tree of exactly the datoms of P
@@ -130,12 +132,13 @@ module _ (t : DatomOrd) (e : Env) (E : EnvOk e) (l : ℕ) where
           tree = item (w .left) d (p .grown .tree);
           holds = hItem d (holds-extends (p .grown .more .extends) (q .0)) (p .grown .holds);
           good = (midpoint (e .cmp) (w .lows) (λ x i. w .highs x (p .grown .exactly x .0 i)), w .goodLeft, p .grown .good);
-          exactly = λ x.
-            (λ i. w .exactly x .1 (elim i [
+          exactly = λ x. (
+            λ i. w .exactly x .1 (elim i [
               | inl j ↦ inl j
               | inr j ↦ inr (elim j [ inl v ↦ inl v | inr v ↦ inr (p .grown .exactly x .0 v) ])
             ]),
-            λ i. elim (w .exactly x .0 i) [ inl j ↦ inl j | inr j ↦ inr (elim j [ inl v ↦ inl v | inr v ↦ inr (p .grown .exactly x .1 v) ]) ]);
+            λ i. elim (w .exactly x .0 i) [ inl j ↦ inl j | inr j ↦ inr (elim j [ inl v ↦ inl v | inr v ↦ inr (p .grown .exactly x .1 v) ]) ],
+          );
           more = more-more (q .1) (p .grown .more);
         };
         full = (holds-real (w .holdsLeft), p .full);

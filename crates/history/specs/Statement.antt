@@ -19,7 +19,7 @@ use Rattle.rules.specs.Node.{below}
 use Rattle.rules.specs.Tree.{fine}
 use Rattle.rules.specs.Store.{badScratch, fetchPage, storeAfter}
 use Rattle.rules.specs.Insert.{Outcome, sort, batchOf, insertBytes, initialiseBytes}
-use Rattle.rules.specs.Listing.{startList, listing, whole}
+use Rattle.rules.specs.Listing.{Listed, whole, startList, listing}
 use Rattle.rules.specs.Check.{checkTree}
 use Rattle.rules.specs.Lists.{In, Rising}
 
@@ -66,14 +66,14 @@ pub record Lent (s b : List ℕ) : Type 0 where
 pub data Next (t : DatomOrd) (m : Moment) : Moment → Type 0 where
   -- "let nobody else write below it": the bytes at or past the count may change between calls, and so may the slice's length
   others :
-    (s : List ℕ) → take (m .extent .count * m .extent .size) s ≡ take (m .extent .count * m .extent .size) (m .store) →
-    Next t m (record { extent = m .extent; store = s; roots = m .roots })
+      (s : List ℕ) → take (m .extent .count * m .extent .size) s ≡ take (m .extent .count * m .extent .size) (m .store) →
+      Next t m (record { extent = m .extent; store = s; roots = m .roots })
   -- "Insert only at none or at a root an accepted call returned.", accepted or refused, with any scratch
   inserts :
-    (k : Known) → In k (m .roots) → (b : List ℕ) (scratch : ℕ) → Lent (m .store) b →
-    Next t m (after m k b (insertBytes t (m .extent) (m .store) scratch (k .root) b))
+      (k : Known) → In k (m .roots) → (b : List ℕ) (scratch : ℕ) → Lent (m .store) b →
+      Next t m (after m k b (insertBytes t (m .extent) (m .store) scratch (k .root) b))
   initialises :
-    (b : List ℕ) (scratch : ℕ) → Lent (m .store) b → Next t m (after m noRoot b (initialiseBytes t (m .extent) (m .store) scratch b))
+      (b : List ℕ) (scratch : ℕ) → Lent (m .store) b → Next t m (after m noRoot b (initialiseBytes t (m .extent) (m .store) scratch b))
 
 pub data Later (t : DatomOrd) (m : Moment) : Moment → Type 0 where
   now : Later t m m
@@ -122,31 +122,34 @@ pub record Answered (cmp : Datom → Datom → Ordering) (u b : List Datom) (a :
   pub first : (i : ℕ) → a ≡ Refused (Repeated i) → FirstShared cmp u b i
   -- else it is Done, TooTall or NoRoom, so never Damaged
   pub otherwise :
-    ((d : Datom) → In d b → Shared cmp u d → ⊥) →
-    ((root : PageId) × (n : ℕ) × (a ≡ Done root n)) ⊎ ((a ≡ Refused TooTall) ⊎ (a ≡ Refused NoRoom))
+      ((d : Datom) → In d b → Shared cmp u d → ⊥) →
+      ((root : PageId) × (n : ℕ) × (a ≡ Done root n)) ⊎ ((a ≡ Refused TooTall) ⊎ (a ≡ Refused NoRoom))
+
+-- what led to a root, in order; and a listing at the root, of at most n + 1 steps
+abbrev pub ordered : DatomOrd → Known → List Datom
+ordered t k = sort (t .cmp) (gathered (k .batches))
+
+abbrev pub list : DatomOrd → Moment → Known → Datom → Datom → ℕ → Listed
+list t m k lo hi n = listing t (m .extent) (m .store) n (startList t (m .extent) (m .store) (k .root) lo hi)
 
 -- what is promised of a root at a moment
 pub record Promise (t : DatomOrd) (m : Moment) (k : Known) : Type 0 where
-  -- "each once, ascending": the datoms that led to the root can be put into one rising list
-  pub ascending : Rising (t .cmp) (sort (t .cmp) (gathered (k .batches)))
-  pub exactly : (x : Datom) → In x (sort (t .cmp) (gathered (k .batches))) ↔ In x (gathered (k .batches))
-  -- "a listing between well-formed bounds at any such root, older ones too, hands out exactly the datoms of the accepted batches that
-  -- led to that root, from the lower bound up to but not including the upper, each once, ascending, and ends": n + 1 steps suffice for n
+  -- "exactly the datoms of the accepted batches that led to that root, .. each once, ascending"
+  pub exactly : (x : Datom) → In x (ordered t k) ↔ In x (gathered (k .batches))
+  pub ascending : Rising (t .cmp) (ordered t k)
+  -- "a listing between well-formed bounds at any such root, older ones too, hands out exactly .. from the lower bound up to but not
+  -- including the upper, .. and ends": within one step more than it hands out datoms
   pub listed :
-    (lo hi : Datom) → t .bound lo ≡ true → t .bound hi ≡ true → (n : ℕ) →
-    length (within (t .cmp) lo hi (sort (t .cmp) (gathered (k .batches)))) ≤ n →
-    listing t (m .extent) (m .store) n (startList t (m .extent) (m .store) (k .root) lo hi)
-    ≡ whole (within (t .cmp) lo hi (sort (t .cmp) (gathered (k .batches))))
+      (lo hi : Datom) → t .bound lo ≡ true → t .bound hi ≡ true → (n : ℕ) → length (within (t .cmp) lo hi (ordered t k)) ≤ n →
+      list t m k lo hi n ≡ whole (within (t .cmp) lo hi (ordered t k))
   -- "Later calls, accepted or refused, change none of it."
   pub kept :
-    (m₁ : Moment) → Later t m m₁ → (lo hi : Datom) → t .bound lo ≡ true → t .bound hi ≡ true → (n : ℕ) →
-    length (within (t .cmp) lo hi (sort (t .cmp) (gathered (k .batches)))) ≤ n →
-    listing t (m₁ .extent) (m₁ .store) n (startList t (m₁ .extent) (m₁ .store) (k .root) lo hi)
-    ≡ listing t (m .extent) (m .store) n (startList t (m .extent) (m .store) (k .root) lo hi)
-  -- "A well-formed batch inserted there, with store and scratch in order": the store is, in a history
+      (m₁ : Moment) → Later t m m₁ → (lo hi : Datom) → t .bound lo ≡ true → t .bound hi ≡ true → (n : ℕ) →
+      length (within (t .cmp) lo hi (ordered t k)) ≤ n → list t m₁ k lo hi n ≡ list t m k lo hi n
+  -- "A well-formed batch inserted there, with store and scratch in order, is answered ..": in a history the store is in order
   pub answered :
-    (b : List ℕ) → Lent (m .store) b → WellFormed t b → (scratch : ℕ) → badScratch (m .extent) scratch ≡ false →
-    Answered (t .cmp) (gathered (k .batches)) (batchOf b) (insertBytes t (m .extent) (m .store) scratch (k .root) b .answer)
+      (b : List ℕ) → Lent (m .store) b → WellFormed t b → (scratch : ℕ) → badScratch (m .extent) scratch ≡ false →
+      Answered (t .cmp) (gathered (k .batches)) (batchOf b) (insertBytes t (m .extent) (m .store) scratch (k .root) b .answer)
   -- the check finds no fault, and every page below the count can be read
   pub sound : checkTree t (m .extent) (m .store) (k .root) ≡ Sound
   pub readable : (p : PageId) → p .0 < m .extent .count → (n : Node) × (fetchPage t (m .extent) (m .store) p ≡ fine n)

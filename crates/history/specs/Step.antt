@@ -187,8 +187,8 @@ module _ (cmp : Datom → Datom → Ordering) (L : Preorder cmp) where
 pub data LeastOk (cmp : Datom → Datom → Ordering) (f : PageId → Fetched) (p : Datom → Bool) (l : ℕ) (q : PageId) (n : Node) (t : Tree) : Least → Type 0 where
   isNothing : ((x : Datom) → InTree x t → p x ≡ true) → LeastOk cmp f p l q n t noneLeft
   isLeast :
-    (d : Datom) → InTree d t → p d ≡ false → ((x : Datom) → InTree x t → p x ≡ false → AtMost cmp d x) →
-    LeastOk cmp f p l q n t (least d (pathBy f (upTo cmp d) l q (fine n)))
+      (d : Datom) → InTree d t → p d ≡ false → ((x : Datom) → InTree x t → p x ≡ false → AtMost cmp d x) →
+      LeastOk cmp f p l q n t (least d (pathBy f (upTo cmp d) l q (fine n)))
 
 module _ (cmp : Datom → Datom → Ordering) (L : Preorder cmp) (f : PageId → Fetched) (p : Datom → Bool) (w : Front cmp p) where
   -- once d is taken, "not above it" says what p said, of all that p let pass and of all above d

@@ -83,9 +83,10 @@ pending (d ∷ ds) t = item blank d (pending ds t)
 pub pending-in : (ds : List Datom) (t : Tree) → Exactly (λ x. InTree x t ⊎ In x ds) (pending ds t)
 pending-in [] t x = (inl, λ i. elim i [ inl j ↦ j | inr j ↦ absurd j ])
 pending-in (d ∷ ds) t x =
-    let ih = pending-in ds t x in
-    (λ i. elim i [ inl j ↦ absurd j | inr j ↦ elim j [ inl k ↦ inr (inl k) | inr k ↦ elim (ih .0 k) [ inl q ↦ inl q | inr q ↦ inr (inr q) ] ] ],
-    λ i. inr (elim i [ inl j ↦ inr (ih .1 (inl j)) | inr j ↦ elim j [ inl k ↦ inl k | inr k ↦ inr (ih .1 (inr k)) ] ]))
+    let ih = pending-in ds t x in (
+      λ i. elim i [ inl j ↦ absurd j | inr j ↦ elim j [ inl k ↦ inr (inl k) | inr k ↦ elim (ih .0 k) [ inl q ↦ inl q | inr q ↦ inr (inr q) ] ] ],
+      λ i. inr (elim i [ inl j ↦ inr (ih .1 (inl j)) | inr j ↦ elim j [ inl k ↦ inl k | inr k ↦ inr (ih .1 (inr k)) ] ]),
+    )
 
 pub pending-own : (ds : List Datom) (t : Tree) → own (pending ds t) ≡ ds ++ own t
 pending-own [] t = refl
@@ -108,8 +109,10 @@ module _ (cmp : Datom → Datom → Ordering) where
       (ds : List Datom) (t : Tree) → Good cmp t → Rising cmp ds → Apart cmp ds t →
       ((x y : Datom) → In x ds → In y (own t) → cmp x y ≡ Ordering·lt) → Good cmp (pending ds t)
   pending-good [] t g r a b = g
-  pending-good (d ∷ ds) t g r a b =
-      (alone
-      (λ x i. elim (in-append x ds (own t) (rw (pending-own ds t) at i)) [ inl j ↦ r .0 x j | inr j ↦ b d x (inl refl) j ])
-      (λ x i q. elim (pending-in ds t x .0 i) [ inl j ↦ a d x (inl refl) j q | inr j ↦ not-both cmp (r .0 x j) q ]), tt,
-      pending-good ds t g (r .1) (λ x y i. a x y (inr i)) (λ x y i. b x y (inr i)))
+  pending-good (d ∷ ds) t g r a b = (
+    alone
+        (λ x i. elim (in-append x ds (own t) (rw (pending-own ds t) at i)) [ inl j ↦ r .0 x j | inr j ↦ b d x (inl refl) j ])
+        (λ x i q. elim (pending-in ds t x .0 i) [ inl j ↦ a d x (inl refl) j q | inr j ↦ not-both cmp (r .0 x j) q ]),
+    tt,
+    pending-good ds t g (r .1) (λ x y i. a x y (inr i)) (λ x y i. b x y (inr i)),
+  )

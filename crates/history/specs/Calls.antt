@@ -205,11 +205,11 @@ module _
             side true e = rw (in-order x s known fits, e) (badly e)
             side false e =
                 rw (in-order x s known fits, e, root-known t x s root (R .holds))
-                (check (Inserted t x s scratch u b) _ (finds-even b) (λ r y n. early y λ w. n (w .even)) λ even.
+                (check (Inserted t x s scratch u b) _ (finds-even b) (λ r y n. early y λ w. n (w .multiple)) λ even.
                 check (Inserted t x s scratch u b) _ (finds-few (batchOf b)) (λ r y n. early y λ w. n (w .few)) λ few.
                 check (Inserted t x s scratch u b) _ (finds-form (t .stored) 0 (batchOf b)) (λ r y n. early y λ w. n (w .form)) λ form.
                 check (Inserted t x s scratch u b) _ (finds-order (t .cmp) L (batchOf b)) (λ r y n. early y λ w. n (w .order)) λ order.
-                at-root (R .holds) (R .good) (R .exactly) (record { even = even; few = few; form = form; order = order }))
+                at-root (R .holds) (R .good) (R .exactly) (record { multiple = even; few = few; form = form; order = order }))
 
         pub called : {o : Outcome} → Inserted t x s scratch u b o → Called t x s u (batchOf b) o
         called (badly y) = refuses

@@ -24,3 +24,5 @@ pub mod Sound
 pub mod Roots
 pub mod Invariant
 pub mod Demand
+pub mod Again
+pub mod Base

@@ -62,6 +62,14 @@ module _ (cmp : Datom → Datom → Ordering) where
       side Ordering·gt q = absurd (clash e (rw q))
 
 module _ (cmp : Datom → Datom → Ordering) (L : Preorder cmp) where
+  pub same-self : (a : Datom) → cmp a a ≡ Ordering·eq
+  same-self a = side (cmp a a) refl
+    where
+      side : (o : Ordering) → cmp a a ≡ o → cmp a a ≡ Ordering·eq
+      side Ordering·lt e = absurd (apart (cc (L .flip a a, e)))
+      side Ordering·eq e = e
+      side Ordering·gt e = absurd (apart (cc (L .flip a a, e)))
+
   pub below-same : {a b c : Datom} → cmp a b ≡ Ordering·lt → cmp b c ≡ Ordering·eq → cmp a c ≡ Ordering·lt
   below-same {a} {b} {c} p q = turned cmp L (sym (L .congr b c a q) ∙ turned cmp L p)
 

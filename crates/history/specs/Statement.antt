@@ -18,7 +18,7 @@ use Rattle.rules.specs.Page.{Node}
 use Rattle.rules.specs.Node.{below}
 use Rattle.rules.specs.Tree.{fine}
 use Rattle.rules.specs.Store.{badScratch, fetchPage, storeAfter}
-use Rattle.rules.specs.Insert.{Outcome, sort, batchOf, insertBytes, initialiseBytes}
+use Rattle.rules.specs.Insert.{Outcome, refuse, sort, batchOf, insertBytes, initialiseBytes}
 use Rattle.rules.specs.Listing.{Listed, whole, startList, listing}
 use Rattle.rules.specs.Check.{checkTree}
 use Rattle.rules.specs.Lists.{In, Rising}
@@ -95,7 +95,7 @@ within cmp lo hi (d ∷ ds) = let rest = within cmp lo hi ds in cond (not (below
 
 -- "A well-formed batch": what 2, 3 and 4 of the table let through
 pub record WellFormed (t : DatomOrd) (b : List ℕ) : Type 0 where
-  pub even : length b % 32 ≡ 0
+  pub multiple : length b % 32 ≡ 0
   pub few : length (batchOf b) ≤ 128
   pub form : (d : Datom) → In d (batchOf b) → t .stored d ≡ true
   pub order : Rising (t .cmp) (batchOf b)
@@ -153,3 +153,18 @@ pub record Promise (t : DatomOrd) (m : Moment) (k : Known) : Type 0 where
   -- the check finds no fault, and every page below the count can be read
   pub sound : checkTree t (m .extent) (m .store) (k .root) ≡ Sound
   pub readable : (p : PageId) → p .0 < m .extent .count → (n : Node) × (fetchPage t (m .extent) (m .store) p ≡ fine n)
+
+-- a root that grew from another: the batches that led to it end in those that led to the other
+abbrev pub GrewFrom : Known → Known → Type 0
+GrewFrom k k₁ = (bs : List (List ℕ)) × (k₁ .batches ≡ bs ++ k .batches)
+
+-- in the operator's words: an accepted batch that is sent again, at the root that it led to or at any that grew from that one, is
+-- answered Repeated with index 0, and the store is byte for byte as before
+abbrev pub Resending : DatomOrd → ℕ → Type 0
+Resending t size =
+    (m : Moment) → History t size m → (k : Known) → In k (m .roots) → (b : List ℕ) (scratch : ℕ) → Lent (m .store) b → 0 < length b →
+    (root : PageId) (n : ℕ) → insertBytes t (m .extent) (m .store) scratch (k .root) b .answer ≡ Done root n →
+    (m₁ : Moment) → Later t (after m k b (insertBytes t (m .extent) (m .store) scratch (k .root) b)) m₁ →
+    (k₁ : Known) → In k₁ (m₁ .roots) → GrewFrom (record { root = root; batches = b ∷ k .batches }) k₁ →
+    (scratch₁ : ℕ) → badScratch (m₁ .extent) scratch₁ ≡ false → length (m₁ .store) < 2 ^ 64 →
+    (insertBytes t (m₁ .extent) (m₁ .store) scratch₁ (k₁ .root) b ≡ refuse (Repeated 0)) × (storeAfter (m₁ .extent) (m₁ .store) [] ≡ m₁ .store)

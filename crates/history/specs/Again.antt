@@ -77,9 +77,10 @@ resending t L size known m h k i b scratch lent some root n e m₁ l k₁ i₁ g
     let I₁ = inv t L size known (later-later (step (h .1) (inserts k i b scratch lent)) l) in
     let K₁ = I₁ .known k₁ i₁ in
     let d = some-datom b some (w .multiple) in
-    let sent : In b (k₁ .batches) = rw (g .1) (in-right b (g .0) (b ∷ k .batches) (inl refl)) in
-    (shared-refused t L (m₁ .extent) (m₁ .store) scratch₁ (gathered (k₁ .batches)) b
-    (insert-ok t L (m₁ .extent) (m₁ .store) (rw (I₁ .sized) known) (I₁ .fits) scratch₁ (gathered (k₁ .batches)) (K₁ .stored) b
-    (record { short = short; bytes = lent .bytes }) (k₁ .root) (K₁ .root))
-    w ready (d .0) (d .1) (gathered-in (k₁ .batches) b sent),
-    store-same (m₁ .extent) (m₁ .store))
+    let sent : In b (k₁ .batches) = rw (g .1) (in-right b (g .0) (b ∷ k .batches) (inl refl)) in (
+      shared-refused t L (m₁ .extent) (m₁ .store) scratch₁ (gathered (k₁ .batches)) b
+          (insert-ok t L (m₁ .extent) (m₁ .store) (rw (I₁ .sized) known) (I₁ .fits) scratch₁ (gathered (k₁ .batches)) (K₁ .stored) b
+          (record { short = short; bytes = lent .bytes }) (k₁ .root) (K₁ .root))
+          w ready (d .0) (d .1) (gathered-in (k₁ .batches) b sent),
+      store-same (m₁ .extent) (m₁ .store),
+    )

@@ -11,9 +11,9 @@ use lib.ListN.{length, take, drop, getD, length-take, length-drop}
 use lib.Seq.{length-take-le, getD-drop}
 use Rattle.store.specs.declared.PageId.{PageId}
 use Rattle.store.specs.declared.Extent.{Extent}
-use Rattle.store.specs.Words.{cells}
+use Rattle.store.specs.Words.{bytesOf, cells, spread}
 use Rattle.datom.specs.declared.Datom.{Datom}
-use Rattle.datom.specs.Datom.{datomOf, datomsOf, datomsBytes, Words}
+use Rattle.datom.specs.Datom.{datomOf, datomBytes, datomsOf, datomsBytes, Words}
 use Rattle.datom.specs.Laws.{words-of}
 use Rattle.index.specs.Order.{DatomOrd}
 use Rattle.rules.specs.Lookup.{Finding, clear, found}
@@ -38,6 +38,39 @@ cells-words (suc n) s h f d (inr i) =
 
 pub batch-words : (b : List ℕ) → ((i : ℕ) → getD b i 0 < 256) → (d : Datom) → In d (batchOf b) → Words d
 batch-words b h = cells-words (length b / 32) b h (omega arith)
+
+-- the bytes of datoms are bytes
+record Bytes (s : List ℕ) : Type 0 where
+  small : (i : ℕ) → getD s i 0 < 256
+
+bytes-append : {s r : List ℕ} → Bytes s → Bytes r → Bytes (s ++ r)
+bytes-append {s} {r} h k = record { small = side s (h .small) }
+  where
+    side : (s : List ℕ) → ((i : ℕ) → getD s i 0 < 256) → (i : ℕ) → getD (s ++ r) i 0 < 256
+    side [] h i = k .small i
+    side (b ∷ s) h zero = h 0
+    side (b ∷ s) h (suc i) = side s (λ j. h (suc j)) i
+
+bytes-of : (n v : ℕ) → Bytes (bytesOf n v)
+unfolding bytesOf
+bytes-of n v = record { small = side n v }
+  where
+    side : (n v i : ℕ) → getD (bytesOf n v) i 0 < 256
+    side zero v i = suc-le-suc zero-le
+    side (suc n) v zero = omega arith
+    side (suc n) v (suc i) = side n (v / 256) i
+
+all-bytes : (ds : List Datom) → Bytes (datomsBytes ds)
+unfolding spread datomBytes
+all-bytes [] = record { small = λ i. suc-le-suc zero-le }
+all-bytes (d ∷ ds) =
+    bytes-append
+    (bytes-append (bytes-of 8 (d .entity .0))
+    (bytes-append (bytes-of 8 (d .attribute .0)) (bytes-append (bytes-of 8 (d .value .0)) (bytes-of 8 (d .«transaction_operation» .0)))))
+    (all-bytes ds)
+
+pub datoms-bytes : (ds : List Datom) (i : ℕ) → getD (datomsBytes ds) i 0 < 256
+datoms-bytes ds = all-bytes ds .small
 
 -- the record entry hands on the bytes of its datoms, and asks for no more than the rules of datoms
 module _ (ds : List Datom) (w : (d : Datom) → In d ds → Words d) where

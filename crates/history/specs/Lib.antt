@@ -26,3 +26,4 @@ pub mod Invariant
 pub mod Demand
 pub mod Again
 pub mod Base
+pub mod Example

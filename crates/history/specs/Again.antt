@@ -18,9 +18,9 @@ use Rattle.index.specs.Laws.{Preorder}
 use Rattle.answer.specs.declared.Refusal.the-variants.{Repeated}
 use Rattle.answer.specs.declared.Answer.the-variants.{Done}
 use Rattle.rules.specs.Store.{badScratch}
-use Rattle.rules.specs.Insert.{Outcome, refuse, batchOf, insertBytes}
+use Rattle.rules.specs.Insert.{Outcome, refuse, batchOf}
 use Rattle.rules.specs.Lists.{In, in-left, in-right}
-use Rattle.history.specs.Statement.{Known, Moment, Lent, gathered, WellFormed, Shared, FirstShared, Later, step, inserts, History, Resending}
+use Rattle.history.specs.Statement.{Known, Moment, inserting, Lent, inserts, Later, step, History, gathered, WellFormed, Shared, FirstShared, Resending}
 use Rattle.history.specs.Order.{clash, same-self}
 use Rattle.history.specs.After.{store-same}
 use Rattle.history.specs.Sort.{Fresh}
@@ -68,7 +68,7 @@ some-datom b h e = head (batchOf b) (omega (arith, cells-length datomOf 32 (leng
     head (d ∷ ds) k = (d, inl refl)
 
 pub resending : (t : DatomOrd) → Preorder (t .cmp) → (size : ℕ) → (capacity size ≡ 0 → ⊥) → Resending t size
-resending t L size known m h k i b scratch lent some root n e m₁ l k₁ i₁ g scratch₁ ready short =
+resending t L size known m h k i b scratch lent some root n e m₁ l k₁ i₁ g scratch₁ lent₁ ready =
     let I = inv t L size known (h .1) in
     let K = I .known k i in
     let w : WellFormed t b =
@@ -77,10 +77,9 @@ resending t L size known m h k i b scratch lent some root n e m₁ l k₁ i₁ g
     let I₁ = inv t L size known (later-later (step (h .1) (inserts k i b scratch lent)) l) in
     let K₁ = I₁ .known k₁ i₁ in
     let d = some-datom b some (w .multiple) in
-    let sent : In b (k₁ .batches) = rw (g .1) (in-right b (g .0) (b ∷ k .batches) (inl refl)) in (
-      shared-refused t L (m₁ .extent) (m₁ .store) scratch₁ (gathered (k₁ .batches)) b
-          (insert-ok t L (m₁ .extent) (m₁ .store) (rw (I₁ .sized) known) (I₁ .fits) scratch₁ (gathered (k₁ .batches)) (K₁ .stored) b
-          (record { short = short; bytes = lent .bytes }) (k₁ .root) (K₁ .root))
-          w ready (d .0) (d .1) (gathered-in (k₁ .batches) b sent),
-      store-same (m₁ .extent) (m₁ .store),
-    )
+    let sent : In b (k₁ .batches) = rw (g .1) (in-right b (g .0) (b ∷ k .batches) (inl refl)) in
+    let o : inserting t m₁ k₁ scratch₁ b ≡ refuse (Repeated 0) =
+    shared-refused t L (m₁ .extent) (m₁ .store) scratch₁ (gathered (k₁ .batches)) b
+    (insert-ok t L (m₁ .extent) (m₁ .store) (rw (I₁ .sized) known) (I₁ .fits) scratch₁ (gathered (k₁ .batches)) (K₁ .stored) b lent₁ (k₁ .root) (K₁ .root))
+    w ready (d .0) (d .1) (gathered-in (k₁ .batches) b sent) in
+    (rw o, rw o (store-same (m₁ .extent) (m₁ .store)))

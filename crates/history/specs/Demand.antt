@@ -18,10 +18,10 @@ use Rattle.answer.specs.declared.Refusal.the-variants.{Repeated, TooTall, NoRoo
 use Rattle.answer.specs.declared.Answer.{Answer}
 use Rattle.answer.specs.declared.Answer.the-variants.{Done, Refused}
 use Rattle.rules.specs.Store.{badStore, badScratch}
-use Rattle.rules.specs.Insert.{Outcome, refuse, sort, batchOf, insertBytes, initialiseBytes}
+use Rattle.rules.specs.Insert.{Outcome, sort, batchOf}
 use Rattle.rules.specs.Listing.{whole}
 use Rattle.rules.specs.Lists.{In, in-left, in-right, turned}
-use Rattle.history.specs.Statement.{Known, Moment, beginning, rootsAfter, after, Lent, Next, others, inserts, initialises, Later, now, step, History, gathered, within, WellFormed, Shared, FirstShared, Answered, ordered, list, Promise}
+use Rattle.history.specs.Statement.{Known, Moment, inserting, initialising, noRoot, rootsAfter, Next, inserts, initialises, others, Later, now, step, History, gathered, within, WellFormed, Shared, FirstShared, Answered, ordered, list, Promise}
 use Rattle.history.specs.Order.{clash}
 use Rattle.history.specs.Held.{Excused}
 use Rattle.history.specs.After.{in-order}
@@ -46,9 +46,9 @@ later-known now j i = i
 later-known {t} (step l n) j i = side n (later-known l j i)
   where
     side : {m m₁ : Moment} → Next t m m₁ → In j (m .roots) → In j (m₁ .roots)
+    side {m} (inserts k q b scratch lent) i = one-more j k b (inserting t m k scratch b .answer) (m .roots) i
+    side {m} (initialises b scratch lent) i = one-more j noRoot b (initialising t m scratch b .answer) (m .roots) i
     side (others s e) i = i
-    side {m} (inserts k q b scratch lent) i = one-more j k b (insertBytes t (m .extent) (m .store) scratch (k .root) b .answer) (m .roots) i
-    side {m} (initialises b scratch lent) i = one-more j _ b (initialiseBytes t (m .extent) (m .store) scratch b .answer) (m .roots) i
 
 -- what a well-formed batch is answered
 module _ (t : DatomOrd) (L : Preorder (t .cmp)) (x : Extent) (s : List ℕ) (scratch : ℕ) (u : List Datom) (b : List ℕ) where
@@ -112,6 +112,7 @@ module _ (t : DatomOrd) (L : Preorder (t .cmp)) (size : ℕ) (known : capacity s
         exactly = sort-in (t .cmp) (gathered (k .batches));
         ascending = sort-rising (t .cmp) L (gathered (k .batches)) (K .distinct);
         listed = listed-at m h k i;
+        stays = λ m₁ l. later-known l k i;
         kept = λ m₁ l lo hi a b n f.
             listed-at m₁ (h .0, later-later (h .1) l) k (later-known l k i) lo hi a b n f ∙ sym (listed-at m h k i lo hi a b n f);
         answered = λ b lent w scratch e.

@@ -12,21 +12,20 @@ use Rattle.store.specs.Page.{page}
 use Rattle.datom.specs.declared.Datom.{Datom}
 use Rattle.datom.specs.Datom.{datomsBytes}
 use Rattle.index.specs.Order.{eavt}
-use Rattle.rules.specs.Insert.{insertBytes, initialiseBytes}
 use Rattle.rules.specs.Listing.{whole}
 use Rattle.rules.specs.Lists.{In}
 use Rattle.rules.specs.Table.{d, run}
 use Rattle.rules.specs.Open.{rules}
-use Rattle.history.specs.Statement.{Known, Moment, noRoot, beginning, after, Lent, inserts, initialises, Later, now, step, History, within, ordered, list}
+use Rattle.history.specs.Statement.{Known, Moment, inserting, initialising, noRoot, beginning, after, Lent, inserts, initialises, Later, now, step, History, within, ordered, list}
 use Rattle.history.specs.Batch.{datoms-bytes}
 use Rattle.history.specs.Base.{base}
 
 -- "d(k) .. 256-byte pages", room for eight of them, scratch in order
 abbrev pub initialised : Moment → List Datom → Moment
-initialised m ds = after m noRoot (datomsBytes ds) (initialiseBytes eavt (m .extent) (m .store) 65536 (datomsBytes ds))
+initialised m ds = after m noRoot (datomsBytes ds) (initialising eavt m 65536 (datomsBytes ds))
 
 abbrev pub inserted : Moment → Known → List Datom → Moment
-inserted m k ds = after m k (datomsBytes ds) (insertBytes eavt (m .extent) (m .store) 65536 (k .root) (datomsBytes ds))
+inserted m k ds = after m k (datomsBytes ds) (inserting eavt m k 65536 (datomsBytes ds))
 
 abbrev pub rootC : Known
 rootC = record { root = page 2; batches = datomsBytes (run 0 7) ∷ [] }

@@ -18,7 +18,7 @@ use Rattle.rules.specs.Page.{Node}
 use Rattle.rules.specs.Node.{below}
 use Rattle.rules.specs.Tree.{fine}
 use Rattle.rules.specs.Store.{badScratch, fetchPage, storeAfter}
-use Rattle.rules.specs.Insert.{Outcome, refuse, sort, batchOf, insertBytes, initialiseBytes}
+use Rattle.rules.specs.Insert.{Outcome, sort, batchOf, insertBytes, initialiseBytes}
 use Rattle.rules.specs.Listing.{Listed, whole, startList, listing}
 use Rattle.rules.specs.Check.{checkTree}
 use Rattle.rules.specs.Lists.{In, Rising}
@@ -34,6 +34,13 @@ pub record Moment : Type 0 where
   pub store : List ℕ
   pub roots : List Known
 
+-- the two calls, over bytes and with any length of scratch; initialise is a call at none
+abbrev pub inserting : DatomOrd → Moment → Known → ℕ → List ℕ → Outcome
+inserting t m k scratch b = insertBytes t (m .extent) (m .store) scratch (k .root) b
+
+abbrev pub initialising : DatomOrd → Moment → ℕ → List ℕ → Outcome
+initialising t m scratch b = initialiseBytes t (m .extent) (m .store) scratch b
+
 -- "Start from no pages and no root."
 abbrev pub noRoot : Known
 noRoot = record { root = none; batches = [] }
@@ -41,7 +48,7 @@ noRoot = record { root = none; batches = [] }
 abbrev pub beginning : ℕ → List ℕ → Moment
 beginning size s = record { extent = record { size = size; count = 0 }; store = s; roots = noRoot ∷ [] }
 
--- "hand each call the page count the last one left"
+-- "hand each call the page count the last one left": more pages and one more root after Done, as it was after a refusal
 abbrev pub extentAfter : Extent → Answer → Extent
 extentAfter x (Done root n) = record { size = x .size; count = x .count + n }
 extentAfter x (Refused r) = x
@@ -58,28 +65,26 @@ after m k b o =
       roots = rootsAfter k b (o .answer) (m .roots);
     }
 
--- what the machine gives: a batch of bytes, and fewer than 2^64 of them in a slice
+-- what the machine gives: a batch of bytes, and a slice of fewer than 2^64
 pub record Lent (s b : List ℕ) : Type 0 where
   pub short : length s < 2 ^ 64
   pub bytes : (i : ℕ) → getD b i 0 < 256
 
+-- what may come next: a call, accepted or refused, at any root that is known; or somebody else
 pub data Next (t : DatomOrd) (m : Moment) : Moment → Type 0 where
+  -- "Insert only at none or at a root an accepted call returned."
+  inserts : (k : Known) → In k (m .roots) → (b : List ℕ) (scratch : ℕ) → Lent (m .store) b → Next t m (after m k b (inserting t m k scratch b))
+  initialises : (b : List ℕ) (scratch : ℕ) → Lent (m .store) b → Next t m (after m noRoot b (initialising t m scratch b))
   -- "let nobody else write below it": the bytes at or past the count may change between calls, and so may the slice's length
   others :
       (s : List ℕ) → take (m .extent .count * m .extent .size) s ≡ take (m .extent .count * m .extent .size) (m .store) →
       Next t m (record { extent = m .extent; store = s; roots = m .roots })
-  -- "Insert only at none or at a root an accepted call returned.", accepted or refused, with any scratch
-  inserts :
-      (k : Known) → In k (m .roots) → (b : List ℕ) (scratch : ℕ) → Lent (m .store) b →
-      Next t m (after m k b (insertBytes t (m .extent) (m .store) scratch (k .root) b))
-  initialises :
-      (b : List ℕ) (scratch : ℕ) → Lent (m .store) b → Next t m (after m noRoot b (initialiseBytes t (m .extent) (m .store) scratch b))
 
 pub data Later (t : DatomOrd) (m : Moment) : Moment → Type 0 where
   now : Later t m m
   step : {m₁ m₂ : Moment} → Later t m m₁ → Next t m₁ m₂ → Later t m m₂
 
--- a history with one page size and one order
+-- a history, with one order and one page size
 abbrev pub History : DatomOrd → ℕ → Moment → Type 0
 History t size m = (s : List ℕ) × Later t (beginning size s) m
 
@@ -142,14 +147,15 @@ pub record Promise (t : DatomOrd) (m : Moment) (k : Known) : Type 0 where
   pub listed :
       (lo hi : Datom) → t .bound lo ≡ true → t .bound hi ≡ true → (n : ℕ) → length (within (t .cmp) lo hi (ordered t k)) ≤ n →
       list t m k lo hi n ≡ whole (within (t .cmp) lo hi (ordered t k))
-  -- "Later calls, accepted or refused, change none of it."
+  -- "Later calls, accepted or refused, change none of it.": the root stays known, so all of this holds there, and lists the same
+  pub stays : (m₁ : Moment) → Later t m m₁ → In k (m₁ .roots)
   pub kept :
       (m₁ : Moment) → Later t m m₁ → (lo hi : Datom) → t .bound lo ≡ true → t .bound hi ≡ true → (n : ℕ) →
       length (within (t .cmp) lo hi (ordered t k)) ≤ n → list t m₁ k lo hi n ≡ list t m k lo hi n
   -- "A well-formed batch inserted there, with store and scratch in order, is answered ..": in a history the store is in order
   pub answered :
       (b : List ℕ) → Lent (m .store) b → WellFormed t b → (scratch : ℕ) → badScratch (m .extent) scratch ≡ false →
-      Answered (t .cmp) (gathered (k .batches)) (batchOf b) (insertBytes t (m .extent) (m .store) scratch (k .root) b .answer)
+      Answered (t .cmp) (gathered (k .batches)) (batchOf b) (inserting t m k scratch b .answer)
   -- the check finds no fault, and every page below the count can be read
   pub sound : checkTree t (m .extent) (m .store) (k .root) ≡ Sound
   pub readable : (p : PageId) → p .0 < m .extent .count → (n : Node) × (fetchPage t (m .extent) (m .store) p ≡ fine n)
@@ -163,8 +169,9 @@ GrewFrom k k₁ = (bs : List (List ℕ)) × (k₁ .batches ≡ bs ++ k .batches)
 abbrev pub Resending : DatomOrd → ℕ → Type 0
 Resending t size =
     (m : Moment) → History t size m → (k : Known) → In k (m .roots) → (b : List ℕ) (scratch : ℕ) → Lent (m .store) b → 0 < length b →
-    (root : PageId) (n : ℕ) → insertBytes t (m .extent) (m .store) scratch (k .root) b .answer ≡ Done root n →
-    (m₁ : Moment) → Later t (after m k b (insertBytes t (m .extent) (m .store) scratch (k .root) b)) m₁ →
+    (root : PageId) (n : ℕ) → inserting t m k scratch b .answer ≡ Done root n →
+    (m₁ : Moment) → Later t (after m k b (inserting t m k scratch b)) m₁ →
     (k₁ : Known) → In k₁ (m₁ .roots) → GrewFrom (record { root = root; batches = b ∷ k .batches }) k₁ →
-    (scratch₁ : ℕ) → badScratch (m₁ .extent) scratch₁ ≡ false → length (m₁ .store) < 2 ^ 64 →
-    (insertBytes t (m₁ .extent) (m₁ .store) scratch₁ (k₁ .root) b ≡ refuse (Repeated 0)) × (storeAfter (m₁ .extent) (m₁ .store) [] ≡ m₁ .store)
+    (scratch₁ : ℕ) → Lent (m₁ .store) b → badScratch (m₁ .extent) scratch₁ ≡ false →
+    (inserting t m₁ k₁ scratch₁ b .answer ≡ Refused (Repeated 0))
+    × (after m₁ k₁ b (inserting t m₁ k₁ scratch₁ b) .store ≡ m₁ .store)

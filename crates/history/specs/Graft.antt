@@ -8,7 +8,7 @@ use Rattle.datom.specs.declared.Datom.{Datom}
 use Rattle.index.specs.Laws.{Preorder}
 use Rattle.rules.specs.Lists.{In, in-left, in-right, Rising}
 use Rattle.history.specs.Order.{clash}
-use Rattle.history.specs.Tree.{Tree, blank, last, item, InTree, own, Real, Full, Good, own-in, Exactly, Apart, pending, pending-in, pending-own, midpoint}
+use Rattle.history.specs.Tree.{Tree, blank, last, item, InTree, own, Real, Full, Good, own-in, Exactly, item-in, item-same, Apart, pending, pending-in, pending-own, midpoint}
 
 -- a child that is none
 abbrev pub isBlank : Tree → Bool
@@ -65,25 +65,11 @@ join-in t (then d r) x = (λ i. i, λ i. i)
 pub graft-in : (l : ℕ) (t : Tree) (q : Tail) → Full l t → Exactly (λ x. InTree x t ⊎ InTail x q) (graft t q)
 graft-in l blank q u x = absurd u
 graft-in l (last t) q u x = join-in t q x
-graft-in l (item t d r) q u x =
-    let ih = graft-in l r q (u .1) x in (
-      λ i. elim i [
-        | inl j ↦ inl (inl j)
-        | inr j ↦ elim j [ inl k ↦ inl (inr (inl k)) | inr k ↦ elim (ih .0 k) [ inl v ↦ inl (inr (inr v)) | inr v ↦ inr v ] ]
-      ],
-      λ i. elim i [
-        | inl j ↦ elim j [ inl k ↦ inl k | inr k ↦ inr (elim k [ inl v ↦ inl v | inr v ↦ inr (ih .1 (inl v)) ]) ]
-        | inr j ↦ inr (inr (ih .1 (inr j)))
-      ],
-    )
+graft-in l (item t d r) q u x = item-in t d (graft r q) r x (graft-in l r q (u .1) x)
 
 pub prepend-in : (t t₁ : Tree) (ks : List (Tree × Datom)) → Exactly (λ x. InTree x t) t₁ → Exactly (λ x. InTree x (prepend ks t)) (prepend ks t₁)
 prepend-in t t₁ [] e x = e x
-prepend-in t t₁ (k ∷ ks) e x =
-    let ih = prepend-in t t₁ ks e x in (
-      λ i. elim i [ inl j ↦ inl j | inr j ↦ inr (elim j [ inl v ↦ inl v | inr v ↦ inr (ih .0 v) ]) ],
-      λ i. elim i [ inl j ↦ inl j | inr j ↦ inr (elim j [ inl v ↦ inl v | inr v ↦ inr (ih .1 v) ]) ],
-    )
+prepend-in t t₁ (k ∷ ks) e x = item-same (k .0) (k .1) (prepend ks t₁) (prepend ks t) x (prepend-in t t₁ ks e x)
 
 pub prepend-has : (ks : List (Tree × Datom)) (t : Tree) (x : Datom) → InTree x t → InTree x (prepend ks t)
 prepend-has [] t x i = i

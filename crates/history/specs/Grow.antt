@@ -21,7 +21,7 @@ use Rattle.rules.specs.Lists.{In, Rising}
 use Rattle.history.specs.Order.{clash}
 use Rattle.history.specs.Tree.{Tree, last, InTree, Full, Good, own-in, Exactly, Apart}
 use Rattle.history.specs.Pages.{Place, page, child, level-is, Holds, hLast, hItem, Stored, Extends, holds-extends, holds-own, holds-lengths, holds-real, leaf-full, real-last}
-use Rattle.history.specs.Merge.{mergeTree, merge-holds, merge-in, merge-good, merge-clear}
+use Rattle.history.specs.Merge.{merge-holds, merged-in, merged-good, merge-clear}
 use Rattle.history.specs.Held.{held, EnvOk, held-old, Storable, Written, none-written, More, same-more, more-more, Grown, Goes, stops, goes, goes-then, goes-map, put-ok}
 use Rattle.history.specs.Split.{Made, split-ok}
 use Rattle.history.specs.Span.{Spotted, longest-ok, Cuts, cuts}
@@ -187,11 +187,12 @@ module _ (t : DatomOrd) (e : Env) (E : EnvOk e) where
       merged-ok : Inserts l (λ p ds o. insertMerged e p ds k (fetchAt e l p) o)
       unfolding insertMerged fetchAt mergeNode
       merged-ok p ds o tr s g r a b ws =
-          let M = merge-in (e .cmp) tr ds in
+          let W = merge-holds (e .cmp) (s .holds) ds in
+          let M = merged-in (W .merged) in
           rw (s .read, clear)
           (goes-then _ _
-          (k-ok (mergeNode (e .cmp) (s .node) ds) (mergeTree (e .cmp) tr ds) o (level-is l (e .fetch p) (s .node) (s .read))
-          (merge-holds (e .cmp) (s .holds) ds) (merge-good (e .cmp) (E .laws) tr ds g r a) (λ x i. b x (M x .0 i)) ws)
+          (k-ok (mergeNode (e .cmp) (s .node) ds) (W .tree) o (level-is l (e .fetch p) (s .node) (s .read)) (W .holds)
+          (merged-good (e .cmp) (E .laws) (W .merged) g r a) (λ x i. b x (M x .0 i)) ws)
           λ m o₁ w. settle-ok l (λ x. InTree x tr ⊎ In x ds) o m o₁ b
           (record { level = w .level; grown = regrown M (same-more ws) (w .grown); full = w .full }))
         where

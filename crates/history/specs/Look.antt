@@ -27,8 +27,12 @@ pub data Looked (cmp : Datom → Datom → Ordering) (d : Datom) (t : Tree) : Lo
   isMet : {p : PageId} {i : ℕ} → Has cmp d t → Looked cmp d t (met p i)
   isAbsent : {p : PageId} → (Has cmp d t → ⊥) → Looked cmp d t (absent p)
 
+-- whether the first datom not below the one sought is equal to it
+abbrev atFirst : (Datom → Datom → Ordering) → Datom → List Datom → Bool
+atFirst cmp d ds = headSame cmp d (drop (rankBy (below cmp d) ds) ds)
+
 module _ (cmp : Datom → Datom → Ordering) (L : Preorder cmp) (d : Datom) where
-  -- the first datom not below the one sought: equal to it, or the child decides
+  -- it is, so the tree has an equal one; or the child decides
   data Found (t : Tree) : Bool → Type 0 where
     here : Has cmp d t → Found t true
     further : (Has cmp d t → Has cmp d (childBy (below cmp d) t)) → Found t false
@@ -46,13 +50,11 @@ module _ (cmp : Datom → Datom → Ordering) (L : Preorder cmp) (d : Datom) whe
       side (inr (y, h, inl q)) = absurd (never y h (rw (← q) e))
       side (inr (y, h, inr q)) = absurd (clash (stop-fails (below cmp d) y (own t) h) (rw (below-same cmp L q e)))
 
-  find : (t : Tree) → Good cmp t → Found t (headSame cmp d (drop (rankBy (below cmp d) (own t)) (own t)))
+  find : (t : Tree) → Good cmp t → Found t (atFirst cmp d (own t))
   unfolding headSame isSame
   find t g = side (drop (rankBy (below cmp d) (own t)) (own t)) refl
     where
-      side :
-          (ys : List Datom) → drop (rankBy (below cmp d) (own t)) (own t) ≡ ys →
-          Found t (headSame cmp d (drop (rankBy (below cmp d) (own t)) (own t)))
+      side : (ys : List Datom) → drop (rankBy (below cmp d) (own t)) (own t) ≡ ys → Found t (atFirst cmp d (own t))
       side [] e = rw e (further (into t g λ y h q. rw e at h))
       side (y ∷ ys) e = rw e (same (cmp y d) refl)
         where
@@ -61,34 +63,30 @@ module _ (cmp : Datom → Datom → Ordering) (L : Preorder cmp) (d : Datom) whe
           same Ordering·eq q = rw q (here (y, own-in y t (head-in y (rankBy (below cmp d) (own t)) (own t) (rw e refl)), q))
           same Ordering·gt q = rw q (further (into t g λ x h k. let z : x ≡ y = rw e at h in apart (cc)))
 
+  up : {t : Tree} {k : Look} → (Has cmp d t → Has cmp d (childBy (below cmp d) t)) → Looked cmp d (childBy (below cmp d) t) k → Looked cmp d t k
+  up {t} f (isMet (x, i, q)) = isMet (x, child-in (below cmp d) x t i, q)
+  up f (isAbsent a) = isAbsent λ j. a (f j)
+
 module _ (e : Env) (L : Preorder (e .cmp)) (d : Datom) where
   pub lookup-ok :
       (l : ℕ) (p : PageId) (n : Node) (t : Tree) → Good (e .cmp) t → Holds (e .fetch) (page l (n .datoms) (n .children)) t →
       Looked (e .cmp) d t (lookup e d l p (fine n))
   unfolding lookup fetchAt
-  lookup-ok zero p n t g h = side (headSame (e .cmp) d (drop (rankBy (below (e .cmp) d) (n .datoms)) (n .datoms))) refl (rw (holds-own h) at (find (e .cmp) L d t g))
+  lookup-ok zero p n t g h = side (atFirst (e .cmp) d (n .datoms)) refl (rw (holds-own h) at (find (e .cmp) L d t g))
     where
-      side :
-          (b : Bool) → headSame (e .cmp) d (drop (rankBy (below (e .cmp) d) (n .datoms)) (n .datoms)) ≡ b → Found (e .cmp) L d t b →
-          Looked (e .cmp) d t (lookup e d zero p (fine n))
+      side : (b : Bool) → atFirst (e .cmp) d (n .datoms) ≡ b → Found (e .cmp) L d t b → Looked (e .cmp) d t (lookup e d zero p (fine n))
       side true q (here k) = rw q (isMet k)
       side false q (further k) = rw q (isAbsent λ a. child-leaf (below (e .cmp) d) (k a .0) h (k a .1))
   lookup-ok (suc l) p n t g h =
-      side (headSame (e .cmp) d (drop (rankBy (below (e .cmp) d) (n .datoms)) (n .datoms))) refl (rw (holds-own h) at (find (e .cmp) L d t g))
+      side (atFirst (e .cmp) d (n .datoms)) refl (rw (holds-own h) at (find (e .cmp) L d t g))
       (lookup-ok l (childAt (below (e .cmp) d) (n .datoms) (n .children)) (s .node) _ (child-good (e .cmp) (below (e .cmp) d) t g) (s .holds))
     where
       s : Stored (e .fetch) l (childAt (below (e .cmp) d) (n .datoms) (n .children)) (childBy (below (e .cmp) d) t)
       s = child-stored (below (e .cmp) d) h
 
-      up :
-          {k : Look} → (Has (e .cmp) d t → Has (e .cmp) d (childBy (below (e .cmp) d) t)) → Looked (e .cmp) d (childBy (below (e .cmp) d) t) k →
-          Looked (e .cmp) d t k
-      up k (isMet (x, i, q)) = isMet (x, child-in (below (e .cmp) d) x t i, q)
-      up k (isAbsent a) = isAbsent λ j. a (k j)
-
       side :
-          (b : Bool) → headSame (e .cmp) d (drop (rankBy (below (e .cmp) d) (n .datoms)) (n .datoms)) ≡ b → Found (e .cmp) L d t b →
+          (b : Bool) → atFirst (e .cmp) d (n .datoms) ≡ b → Found (e .cmp) L d t b →
           Looked (e .cmp) d (childBy (below (e .cmp) d) t) (lookup e d l (childAt (below (e .cmp) d) (n .datoms) (n .children)) (fine (s .node))) →
           Looked (e .cmp) d t (lookup e d (suc l) p (fine n))
       side true q (here k) ih = rw (q, lookup) (isMet k)
-      side false q (further k) ih = rw (q, lookup, s .read) (up k ih)
+      side false q (further k) ih = rw (q, lookup, s .read) (up (e .cmp) L d k ih)

@@ -4,7 +4,7 @@ use Prim.Native.Nat.{ℕ, zero, suc, _≤_, _<_, Ordering, Ordering·lt}
 use native.Mathlib.Omega.{arith}
 use mathlib.Core.Bool.{true}
 use mathlib.Core.List.{List, [], _∷_, _++_, append-nil}
-use mathlib.Core.Logic.{_⊎_, inl, inr, _↔_}
+use mathlib.Core.Logic.{inl, inr, _↔_, Iff·trans, Iff·symm}
 use mathlib.Core.Path.{_≡_, refl, sym, _∙_, ap}
 use borrow.Author.Tests.{ltb-true}
 use lib.Dec.{ltb}
@@ -18,7 +18,7 @@ use Rattle.rules.specs.Node.{splitParts, splitUp}
 use Rattle.rules.specs.Tree.{Fetched, Env, Stage, go, then, put, putAll, split, isOver}
 use Rattle.rules.specs.Lists.{In}
 use Rattle.rules.specs.SplitLaws.{weave, allChildren, Part, split-keeps-every-datom, split-keeps-every-child, split-parts-fit, split-midpoints-fewer, split-shrinks}
-use Rattle.history.specs.Tree.{Tree, blank, last, item, InTree, own, Ends, Full, Good, midpoint}
+use Rattle.history.specs.Tree.{Tree, blank, last, item, InTree, own, Ends, Full, Good, item-in, item-same, midpoint}
 use Rattle.history.specs.Pages.{page, child, Holds, hLast, hItem, Extends, holds-extends, holds-lengths, holds-real, leaf-own}
 use Rattle.history.specs.Held.{held, EnvOk, Storable, Written, more-more, Grown, Goes, goes, goes-then, put-ok}
 
@@ -36,7 +36,7 @@ record Halves
   goodRight : Good cmp right
   lows : (x : Datom) → InTree x left → cmp x d ≡ Ordering·lt
   highs : (x : Datom) → InTree x right → cmp d x ≡ Ordering·lt
-  exactly : (x : Datom) → InTree x t ↔ (InTree x left ⊎ ((x ≡ d) ⊎ InTree x right))
+  exactly : (x : Datom) → InTree x t ↔ InTree x (item left d right)
 
 module _ (cmp : Datom → Datom → Ordering) (L : Preorder cmp) where
   -- behind a child that may end a page, the datom is below all that follows
@@ -85,16 +85,7 @@ module _ (cmp : Datom → Datom → Ordering) (L : Preorder cmp) where
               | inr j ↦ elim j [ inl q ↦ rw q e<d | inr q ↦ w .lows x q ]
             ];
             highs = w .highs;
-            exactly = λ x. (
-              λ i. elim i [
-                | inl j ↦ inl (inl j)
-                | inr j ↦ elim j [ inl q ↦ inl (inr (inl q)) | inr q ↦ elim (w .exactly x .0 q) [ inl v ↦ inl (inr (inr v)) | inr v ↦ inr v ] ]
-              ],
-              λ i. elim i [
-                | inl j ↦ elim j [ inl q ↦ inl q | inr q ↦ inr (elim q [ inl v ↦ inl v | inr v ↦ inr (w .exactly x .1 (inl v)) ]) ]
-                | inr j ↦ inr (inr (w .exactly x .1 (inr j)))
-              ],
-            );
+            exactly = λ x. item-in t e r (w .left) x (w .exactly x);
           }
 
 -- datoms and children of a node that may be cut anywhere, which hold a good tree of exactly the datoms of P
@@ -113,7 +104,7 @@ module _ (t : DatomOrd) (e : Env) (E : EnvOk e) (l : ℕ) where
   puts (m ∷ k ∷ ns) [] tr o n part h u g a ws = absurd (omega arith)
   puts (m ∷ []) [] tr o n part h u g a ws =
       goes-then (put e m o) _
-      (put-ok t e E l m tr o (part m (inl refl) .level) (rw (append-nil, append-nil) at h) g a (part m (inl refl) .few) ws)
+      (put-ok t e E l m tr o (part m (inl refl) .level) (rw (append-nil (m .datoms), append-nil (m .children)) at h) g a (part m (inl refl) .few) ws)
       λ id o₁ q. goes
       (record {
         grown = record { tree = last tr; holds = hLast (q .0) (holds-real h); good = g; exactly = λ x. (λ i. i, λ i. i); more = q .1 };
@@ -132,13 +123,7 @@ module _ (t : DatomOrd) (e : Env) (E : EnvOk e) (l : ℕ) where
           tree = item (w .left) d (p .grown .tree);
           holds = hItem d (holds-extends (p .grown .more .extends) (q .0)) (p .grown .holds);
           good = (midpoint (e .cmp) (w .lows) (λ x i. w .highs x (p .grown .exactly x .0 i)), w .goodLeft, p .grown .good);
-          exactly = λ x. (
-            λ i. w .exactly x .1 (elim i [
-              | inl j ↦ inl j
-              | inr j ↦ inr (elim j [ inl v ↦ inl v | inr v ↦ inr (p .grown .exactly x .0 v) ])
-            ]),
-            λ i. elim (w .exactly x .0 i) [ inl j ↦ inl j | inr j ↦ inr (elim j [ inl v ↦ inl v | inr v ↦ inr (p .grown .exactly x .1 v) ]) ],
-          );
+          exactly = λ x. Iff·trans (item-same (w .left) d (p .grown .tree) (w .right) x (p .grown .exactly x)) (Iff·symm (w .exactly x));
           more = more-more (q .1) (p .grown .more);
         };
         full = (holds-real (w .holdsLeft), p .full);

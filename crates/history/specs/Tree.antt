@@ -71,6 +71,35 @@ own-rising cmp (item t d r) g = (g .0 .next, own-rising cmp r (g .2))
 abbrev pub Exactly : (Datom → Type 0) → Tree → Type 0
 Exactly P t = (x : Datom) → InTree x t ↔ P x
 
+-- contents behind an item, and behind a pending datom
+pub item-in :
+    {Q : Type 0} (t : Tree) (d : Datom) (r r₁ : Tree) (x : Datom) → InTree x r ↔ (InTree x r₁ ⊎ Q) → InTree x (item t d r) ↔ (InTree x (item t d r₁) ⊎ Q)
+item-in t d r r₁ x e = (
+  λ i. elim i [
+    | inl j ↦ inl (inl j)
+    | inr j ↦ elim j [ inl k ↦ inl (inr (inl k)) | inr k ↦ elim (e .0 k) [ inl q ↦ inl (inr (inr q)) | inr q ↦ inr q ] ]
+  ],
+  λ i. elim i [
+    | inl j ↦ elim j [ inl k ↦ inl k | inr k ↦ inr (elim k [ inl q ↦ inl q | inr q ↦ inr (e .1 (inl q)) ]) ]
+    | inr j ↦ inr (inr (e .1 (inr j)))
+  ],
+)
+
+pub item-same : (t : Tree) (d : Datom) (r r₁ : Tree) (x : Datom) → InTree x r ↔ InTree x r₁ → InTree x (item t d r) ↔ InTree x (item t d r₁)
+item-same t d r r₁ x e = (
+  λ i. elim i [ inl j ↦ inl j | inr j ↦ inr (elim j [ inl k ↦ inl k | inr k ↦ inr (e .0 k) ]) ],
+  λ i. elim i [ inl j ↦ inl j | inr j ↦ inr (elim j [ inl k ↦ inl k | inr k ↦ inr (e .1 k) ]) ],
+)
+
+pub pend-in : {P Q : Type 0} (d : Datom) (r : Tree) (x : Datom) → InTree x r ↔ (P ⊎ Q) → InTree x (item blank d r) ↔ (P ⊎ ((x ≡ d) ⊎ Q))
+pend-in d r x e = (
+  λ i. elim i [
+    | inl j ↦ absurd j
+    | inr j ↦ elim j [ inl k ↦ inr (inl k) | inr k ↦ elim (e .0 k) [ inl q ↦ inl q | inr q ↦ inr (inr q) ] ]
+  ],
+  λ i. inr (elim i [ inl j ↦ inr (e .1 (inl j)) | inr j ↦ elim j [ inl k ↦ inl k | inr k ↦ inr (e .1 (inr k)) ] ]),
+)
+
 -- no datom of the list is equal to one of the tree
 abbrev pub Apart : (Datom → Datom → Ordering) → List Datom → Tree → Type 0
 Apart cmp ds t = (x y : Datom) → In x ds → InTree y t → cmp x y ≡ Ordering·eq → ⊥
@@ -82,11 +111,7 @@ pending (d ∷ ds) t = item blank d (pending ds t)
 
 pub pending-in : (ds : List Datom) (t : Tree) → Exactly (λ x. InTree x t ⊎ In x ds) (pending ds t)
 pending-in [] t x = (inl, λ i. elim i [ inl j ↦ j | inr j ↦ absurd j ])
-pending-in (d ∷ ds) t x =
-    let ih = pending-in ds t x in (
-      λ i. elim i [ inl j ↦ absurd j | inr j ↦ elim j [ inl k ↦ inr (inl k) | inr k ↦ elim (ih .0 k) [ inl q ↦ inl q | inr q ↦ inr (inr q) ] ] ],
-      λ i. inr (elim i [ inl j ↦ inr (ih .1 (inl j)) | inr j ↦ elim j [ inl k ↦ inl k | inr k ↦ inr (ih .1 (inr k)) ] ]),
-    )
+pending-in (d ∷ ds) t x = pend-in d (pending ds t) x (pending-in ds t x)
 
 pub pending-own : (ds : List Datom) (t : Tree) → own (pending ds t) ≡ ds ++ own t
 pending-own [] t = refl

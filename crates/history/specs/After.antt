@@ -1,9 +1,9 @@
 -- The store after a call: what could be fetched still can, and the pages written are fetched as the nodes that they were written from.
 -- Rests on Held and on the rules' round trip.
-use Prim.Native.Nat.{ℕ, zero, suc, _+_, _-_, _*_, _/_, _^_, _≤_, _<_, zero-le, suc-le-suc}
+use Prim.Native.Nat.{ℕ, zero, suc, _+_, _-_, _*_, _^_, _≤_, _<_, zero-le, suc-le-suc}
 use native.Mathlib.Nat.{add-zero, suc-mul, mul-le-mul-left, mul-le-mul-right, div-le-self}
 use native.Mathlib.Omega.{arith}
-use mathlib.Core.Bool.{Bool, true, false, _||_, cond}
+use mathlib.Core.Bool.{Bool, true, false}
 use mathlib.Core.List.{List, [], _∷_, _++_, append-assoc, append-nil}
 use mathlib.Core.Path.{_≡_, refl, sym, _∙_, ap, subst}
 use borrow.Author.Tests.{eqb-true, ne-eqb, ltb-false, lt-ltb, le-ltb}
@@ -18,13 +18,13 @@ use Rattle.store.specs.Size.{capacity}
 use Rattle.store.specs.Laws.{apart}
 use Rattle.index.specs.Order.{DatomOrd}
 use Rattle.index.specs.Laws.{Preorder}
-use Rattle.rules.specs.Page.{Node, readPage, encodePage}
-use Rattle.rules.specs.Tree.{Fetched, fine, Env}
+use Rattle.rules.specs.Page.{Node, encodePage}
+use Rattle.rules.specs.Tree.{fine}
 use Rattle.rules.specs.Store.{badStore, pageAt, fetchPage, envOf, storeAfter}
 use Rattle.rules.specs.Round.{Writable, encoded-length, read-back}
 use Rattle.rules.specs.Reads.{fetch-tells}
 use Rattle.history.specs.Pages.{Extends}
-use Rattle.history.specs.Held.{nth, nth-lt, held, EnvOk, Written}
+use Rattle.history.specs.Held.{nth, nth-lt, held, EnvOk}
 
 -- a part of a list that lies in a front that two lists share
 segment : (k m : ℕ) (b : List ℕ) → take m (drop k b) ≡ drop (length (take k b)) (take (k + m) b)

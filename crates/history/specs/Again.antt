@@ -1,14 +1,13 @@
 -- A batch that is sent again, proved from the invariant of a history.
-use Prim.Native.Nat.{ℕ, _/_, _%_, _^_, _≤_, _<_, zero-le, suc-le-suc, Ordering, Ordering·eq}
+use Prim.Native.Nat.{ℕ, _/_, _%_, _<_, Ordering}
 use native.Mathlib.Omega.{arith}
 use mathlib.Core.Bool.{false}
-use mathlib.Core.List.{List, [], _∷_, _++_}
-use mathlib.Core.Logic.{_⊎_, inl, inr}
+use mathlib.Core.List.{List, [], _∷_}
+use mathlib.Core.Logic.{inl, inr}
 use mathlib.Core.Path.{_≡_, refl, sym, _∙_, ap}
-use lib.ListN.{length, getD}
+use lib.ListN.{length}
 use Rattle.store.specs.declared.PageId.{PageId}
 use Rattle.store.specs.declared.Extent.{Extent}
-use Rattle.store.specs.Words.{cells}
 use Rattle.store.specs.Size.{capacity}
 use Rattle.store.specs.Laws.{apart, cells-length}
 use Rattle.datom.specs.declared.Datom.{Datom}
@@ -20,12 +19,11 @@ use Rattle.answer.specs.declared.Answer.the-variants.{Done}
 use Rattle.rules.specs.Store.{badScratch}
 use Rattle.rules.specs.Insert.{Outcome, refuse, batchOf}
 use Rattle.rules.specs.Lists.{In, in-left, in-right}
-use Rattle.history.specs.Statement.{Known, Moment, inserting, Lent, inserts, Later, step, History, gathered, WellFormed, Shared, FirstShared, Resending}
+use Rattle.history.specs.Statement.{inserting, inserts, step, gathered, WellFormed, Shared, FirstShared, Resending}
 use Rattle.history.specs.Order.{clash, same-self}
 use Rattle.history.specs.After.{store-same}
-use Rattle.history.specs.Sort.{Fresh}
 use Rattle.history.specs.Calls.{Inserted, badly, early, met, stays, done, insert-ok}
-use Rattle.history.specs.Invariant.{Inv, inv}
+use Rattle.history.specs.Invariant.{inv}
 use Rattle.history.specs.Demand.{later-later}
 
 gathered-in : (bs : List (List ℕ)) (b : List ℕ) → In b bs → (d : Datom) → In d (batchOf b) → In d (gathered bs)

@@ -1,13 +1,11 @@
 -- Batches as bytes: their datoms have words of 64 bits, and the bytes of datoms are a batch of these datoms. Rests on the rules alone.
-use Prim.Native.Nat.{ℕ, zero, suc, _+_, _*_, _/_, _%_, _^_, _≤_, _<_, zero-le, suc-le-suc}
+use Prim.Native.Nat.{ℕ, zero, suc, _+_, _*_, _/_, _%_, _≤_, _<_, zero-le, suc-le-suc}
 use native.Mathlib.Omega.{arith}
-use mathlib.Core.Bool.{true, not}
 use mathlib.Core.List.{List, [], _∷_, _++_, append-nil}
-use mathlib.Core.Logic.{_⊎_, inl, inr}
+use mathlib.Core.Logic.{inl, inr}
 use mathlib.Core.Path.{_≡_, refl, sym, _∙_, ap}
 use borrow.Author.Tests.{eq-eqb}
-use lib.Dec.{eqb}
-use lib.ListN.{length, take, drop, getD, length-take, length-drop}
+use lib.ListN.{length, take, drop, getD, length-drop}
 use lib.Seq.{length-take-le, getD-drop}
 use Rattle.store.specs.declared.PageId.{PageId}
 use Rattle.store.specs.declared.Extent.{Extent}
@@ -17,7 +15,6 @@ use Rattle.datom.specs.Datom.{datomOf, datomBytes, datomsOf, datomsBytes, Words
 use Rattle.datom.specs.Laws.{words-of}
 use Rattle.index.specs.Order.{DatomOrd}
 use Rattle.rules.specs.Lookup.{Finding, clear, found}
-use Rattle.rules.specs.Store.{orElse}
 use Rattle.rules.specs.Insert.{storeFault, bytesFault, batchOf, insert, insertBytes, initialise, initialiseBytes}
 use Rattle.rules.specs.Lists.{In}
 use Rattle.rules.specs.Round.{datoms-length, datoms-back}

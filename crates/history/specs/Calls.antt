@@ -1,16 +1,15 @@
 -- What insert and initialise answer at a root whose pages hold a good tree, and what they leave. Rests on Checks, Look and Grow.
-use Prim.Native.Nat.{ℕ, zero, suc, _+_, _*_, _%_, _^_, _≤_, _<_, Ordering, Ordering·eq}
+use Prim.Native.Nat.{ℕ, suc, _+_, _*_, _≤_, Ordering}
 use native.Mathlib.Omega.{arith}
-use mathlib.Core.Bool.{Bool, true, false, _||_, not, cond}
+use mathlib.Core.Bool.{Bool, true, false}
 use mathlib.Core.List.{List, [], _∷_, _++_}
-use mathlib.Core.Logic.{_⊎_, inl, inr, _↔_, Iff·trans}
-use mathlib.Core.Path.{_≡_, refl, sym, _∙_, ap}
+use mathlib.Core.Logic.{_⊎_, inl, inr, _↔_}
+use mathlib.Core.Path.{_≡_, refl, ap}
 use borrow.Author.Tests.{lt-ltb}
-use lib.Dec.{ltb}
-use lib.ListN.{length, getD, replicate}
+use lib.ListN.{length, replicate}
 use Rattle.store.specs.declared.PageId.{PageId}
 use Rattle.store.specs.declared.Extent.{Extent}
-use Rattle.store.specs.Page.{none, isNone}
+use Rattle.store.specs.Page.{none}
 use Rattle.store.specs.Size.{capacity}
 use Rattle.datom.specs.declared.Datom.{Datom}
 use Rattle.index.specs.Order.{DatomOrd}
@@ -19,19 +18,18 @@ use Rattle.answer.specs.declared.Refusal.{Refusal}
 use Rattle.answer.specs.declared.Refusal.the-variants.{BadStore, Repeated}
 use Rattle.answer.specs.declared.Answer.the-variants.{Done, Refused}
 use Rattle.rules.specs.Page.{Node}
-use Rattle.rules.specs.Tree.{Fetched, faulty, fine, Env, Stage, stop, go, writeRoot, insertTree}
+use Rattle.rules.specs.Tree.{Fetched, fine, Env, Stage, writeRoot, insertTree}
 use Rattle.rules.specs.Lookup.{Look, lookup, Finding, clear, found, afterLook, lookupAll}
-use Rattle.rules.specs.Store.{orElse, badStore, badScratch, badRoot, fetchPage, envOf}
-use Rattle.rules.specs.Insert.{Outcome, refuse, outcome, storeFault, countFault, formFault, orderFault, twinFault, rootFault, sort, leafOf, writeFresh, insertAt, insertUnder, insert, initialise, bytesFault, batchOf, insertBytes, initialiseBytes}
+use Rattle.rules.specs.Store.{orElse, badScratch, badRoot, fetchPage, envOf}
+use Rattle.rules.specs.Insert.{Outcome, refuse, outcome, storeFault, rootFault, sort, leafOf, writeFresh, insertAt, insertUnder, insert, initialise, batchOf, insertBytes, initialiseBytes}
 use Rattle.rules.specs.Lists.{In, Rising, turned}
 use Rattle.rules.specs.Reads.{fetch-tells}
 use Rattle.rules.specs.Sizes.{level-fine}
-use Rattle.history.specs.Statement.{Lent, WellFormed, Shared, FirstShared}
-use Rattle.history.specs.Tree.{Tree, blank, last, InTree, Good, Exactly, Apart, pending, pending-in, pending-good}
+use Rattle.history.specs.Statement.{Lent, WellFormed, FirstShared}
+use Rattle.history.specs.Tree.{Tree, blank, last, Good, Exactly, Apart, pending, pending-in, pending-good}
 use Rattle.history.specs.Pages.{page, child, level-is, Holds, noPage, aPage, hLast, hItem, Stored, leaf-full, none-is}
 use Rattle.history.specs.Look.{Has, Looked, isMet, isAbsent, lookup-ok}
-use Rattle.history.specs.Held.{held, EnvOk, Storable, none-written, same-more, Grown, Excused, Goes, stops, goes, goes-map, at-own}
-use Rattle.history.specs.Split.{Made}
+use Rattle.history.specs.Held.{held, EnvOk, Storable, none-written, same-more, Excused, Goes, stops, goes, goes-map, at-own}
 use Rattle.history.specs.Grow.{regrown, Rooted, write-root-ok, insert-tree-ok}
 use Rattle.history.specs.After.{in-order, env-ok}
 use Rattle.history.specs.Sort.{Distinct, Fresh, rising-distinct, sort-in, sort-rising}

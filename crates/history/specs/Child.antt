@@ -3,7 +3,7 @@ use Prim.Native.Nat.{ℕ, zero, suc, Ordering, Ordering·lt}
 use mathlib.Core.Bool.{Bool, true, false}
 use mathlib.Core.List.{List, [], _∷_}
 use mathlib.Core.Logic.{_⊎_, inl, inr}
-use mathlib.Core.Path.{_≡_, refl, sym}
+use mathlib.Core.Path.{_≡_, refl}
 use lib.ListN.{drop}
 use Rattle.store.specs.declared.PageId.{PageId}
 use Rattle.datom.specs.declared.Datom.{Datom}
@@ -13,7 +13,7 @@ use Rattle.rules.specs.Tree.{Fetched}
 use Rattle.rules.specs.Lookup.{childOf}
 use Rattle.rules.specs.Lists.{In}
 use Rattle.history.specs.Order.{clash, Front, AtMost}
-use Rattle.history.specs.Tree.{Tree, blank, last, item, InTree, own, Real, Good, own-in}
+use Rattle.history.specs.Tree.{Tree, blank, last, item, InTree, own, Real, Good}
 use Rattle.history.specs.Pages.{page, Holds, noPage, aPage, hLast, hItem, Stored, holds-real}
 
 -- a child, or what comes after it where it is none

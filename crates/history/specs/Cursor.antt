@@ -1,8 +1,8 @@
 -- The eight places of a cursor: frames written into them are read back. Rests on the rules alone.
-use Prim.Native.Nat.{ℕ, _-_}
+use Prim.Native.Nat.{ℕ}
 use mathlib.Core.List.{List, [], _∷_, _++_, map, reverse, append-assoc, reverse-cons}
-use mathlib.Core.Path.{_≡_, refl, _∙_, ap₂}
-use lib.ListN.{length, getD, replicate, length-map, length-reverse}
+use mathlib.Core.Path.{_≡_, refl, _∙_}
+use lib.ListN.{length, getD, length-map, length-reverse}
 use lib.Seq.{getD-at}
 use Rattle.store.specs.declared.PageId.{PageId}
 use Rattle.store.specs.Page.{page}

@@ -1,9 +1,9 @@
 -- Demand 3, proved: what Statement says of a history holds, for any order that is a preorder and any known page size.
 -- Rests on Invariant and Roots.
-use Prim.Native.Nat.{ℕ, _≤_, Ordering, Ordering·eq}
+use Prim.Native.Nat.{ℕ, _≤_}
 use mathlib.Core.Bool.{true, false}
-use mathlib.Core.List.{List, [], _∷_, _++_}
-use mathlib.Core.Logic.{_⊎_, inl, inr, _↔_, Iff·trans, Iff·symm}
+use mathlib.Core.List.{List, _∷_}
+use mathlib.Core.Logic.{_⊎_, inl, inr, Iff·trans, Iff·symm}
 use mathlib.Core.Path.{_≡_, refl, sym, _∙_}
 use lib.ListN.{length}
 use Rattle.store.specs.declared.PageId.{PageId}
@@ -18,18 +18,17 @@ use Rattle.answer.specs.declared.Refusal.the-variants.{Repeated, TooTall, NoRoo
 use Rattle.answer.specs.declared.Answer.{Answer}
 use Rattle.answer.specs.declared.Answer.the-variants.{Done, Refused}
 use Rattle.rules.specs.Store.{badStore, badScratch}
-use Rattle.rules.specs.Insert.{Outcome, sort, batchOf}
+use Rattle.rules.specs.Insert.{Outcome, batchOf}
 use Rattle.rules.specs.Listing.{whole}
-use Rattle.rules.specs.Lists.{In, in-left, in-right, turned}
-use Rattle.history.specs.Statement.{Known, Moment, inserting, initialising, noRoot, rootsAfter, Next, inserts, initialises, others, Later, now, step, History, gathered, within, WellFormed, Shared, FirstShared, Answered, ordered, list, Promise}
+use Rattle.rules.specs.Lists.{In, in-right, turned}
+use Rattle.history.specs.Statement.{Known, Moment, inserting, initialising, noRoot, rootsAfter, Next, inserts, initialises, others, Later, now, step, History, gathered, within, WellFormed, Shared, Answered, ordered, list, Promise}
 use Rattle.history.specs.Order.{clash}
 use Rattle.history.specs.Held.{Excused}
 use Rattle.history.specs.After.{in-order}
 use Rattle.history.specs.Sort.{Fresh, sort-in, sort-rising}
-use Rattle.history.specs.Checks.{Early}
 use Rattle.history.specs.Calls.{Inserted, badly, early, met, stays, done, insert-ok}
 use Rattle.history.specs.Roots.{list-root, check-root}
-use Rattle.history.specs.Invariant.{KnownOk, Inv, inv}
+use Rattle.history.specs.Invariant.{Inv, inv}
 
 -- what comes later than what comes later
 pub later-later : {t : DatomOrd} {m m₁ m₂ : Moment} → Later t m m₁ → Later t m₁ m₂ → Later t m m₂

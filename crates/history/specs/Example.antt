@@ -1,6 +1,6 @@
 -- A history that is one: examples c, e, f and g of document 01, as calls over bytes. So the theorem speaks of something.
 -- Rests on Base and on the rules, computed.
-use Prim.Native.Nat.{ℕ, _^_, _≤_, _<_}
+use Prim.Native.Nat.{ℕ, _≤_}
 use native.Mathlib.Omega.{arith}
 use mathlib.Core.Bool.{true}
 use mathlib.Core.List.{List, [], _∷_}
@@ -13,10 +13,9 @@ use Rattle.datom.specs.declared.Datom.{Datom}
 use Rattle.datom.specs.Datom.{datomsBytes}
 use Rattle.index.specs.Order.{eavt}
 use Rattle.rules.specs.Listing.{whole}
-use Rattle.rules.specs.Lists.{In}
 use Rattle.rules.specs.Table.{d, run}
 use Rattle.rules.specs.Open.{rules}
-use Rattle.history.specs.Statement.{Known, Moment, inserting, initialising, noRoot, beginning, after, Lent, inserts, initialises, Later, now, step, History, within, ordered, list}
+use Rattle.history.specs.Statement.{Known, Moment, inserting, initialising, noRoot, beginning, after, Lent, inserts, initialises, now, step, History, within, ordered, list}
 use Rattle.history.specs.Batch.{datoms-bytes}
 use Rattle.history.specs.Base.{base}
 

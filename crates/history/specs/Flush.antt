@@ -1,11 +1,11 @@
 -- Flush: a run of pending datoms and the child that ends it, replaced by what an insert into that child gives. "An insert reads only
 -- pages below the old count": a child behind a pending datom is held by the old pages, any other by the old and the new.
 -- Rests on Pages and Span.
-use Prim.Native.Nat.{ℕ, zero, suc, _+_, _≤_, _<_, zero-le, suc-le-suc, Ordering, Ordering·lt, Ordering·eq}
+use Prim.Native.Nat.{ℕ, suc, _+_, _≤_, _<_, zero-le, suc-le-suc, Ordering}
 use native.Mathlib.Omega.{arith}
-use mathlib.Core.Bool.{Bool, true, false, _||_}
+use mathlib.Core.Bool.{Bool, true, false}
 use mathlib.Core.List.{List, [], _∷_, _++_}
-use mathlib.Core.Logic.{_⊎_, inl, inr, _↔_}
+use mathlib.Core.Logic.{_⊎_, inl, inr}
 use mathlib.Core.Path.{_≡_, refl, sym, _∙_, ap}
 use lib.ListN.{length}
 use Rattle.store.specs.declared.PageId.{PageId}
@@ -14,7 +14,7 @@ use Rattle.datom.specs.declared.Datom.{Datom}
 use Rattle.index.specs.Laws.{Preorder}
 use Rattle.rules.specs.Node.{anyPending}
 use Rattle.rules.specs.Tree.{Fetched}
-use Rattle.rules.specs.Lists.{In, in-left, in-right, Rising}
+use Rattle.rules.specs.Lists.{In, Rising}
 use Rattle.history.specs.Order.{clash}
 use Rattle.history.specs.Tree.{Tree, blank, last, item, InTree, Real, Full, Good, Exactly, Apart, pending, pending-in}
 use Rattle.history.specs.Graft.{isBlank, real-flag, prepend, Tail, nothing, then, join, graft, graft-in, join-in, prepend-in, prepend-has, prepend-rest, ClosedItems, Around, graft-good, run-around, prepend-good}

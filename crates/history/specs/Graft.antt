@@ -1,8 +1,8 @@
 -- Trees put together: items in front of a tree, and a page whose last child has more behind it. Rests on Tree.
-use Prim.Native.Nat.{ℕ, suc, Ordering, Ordering·lt, Ordering·eq}
+use Prim.Native.Nat.{ℕ, suc, Ordering, Ordering·lt}
 use mathlib.Core.Bool.{Bool, true, false}
-use mathlib.Core.List.{List, [], _∷_, _++_}
-use mathlib.Core.Logic.{_⊎_, inl, inr, _↔_}
+use mathlib.Core.List.{List, [], _∷_}
+use mathlib.Core.Logic.{_⊎_, inl, inr}
 use mathlib.Core.Path.{_≡_, refl}
 use Rattle.datom.specs.declared.Datom.{Datom}
 use Rattle.index.specs.Laws.{Preorder}

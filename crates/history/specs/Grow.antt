@@ -1,31 +1,30 @@
 -- Insert: the tree that a call leaves is good and holds the old datoms and the batch; only TooTall and NoRoom stop it.
 -- Rests on Merge, Split and Flush.
-use Prim.Native.Nat.{ℕ, zero, suc, _≤_, _<_, zero-le, suc-le-suc, Ordering}
+use Prim.Native.Nat.{ℕ, zero, suc, _≤_, _<_}
 use native.Mathlib.Omega.{arith}
-use mathlib.Core.Bool.{Bool, true, false, _&&_}
+use mathlib.Core.Bool.{Bool, true, false}
 use mathlib.Core.List.{List, [], _∷_, _++_}
-use mathlib.Core.Logic.{_⊎_, inl, inr, _↔_, Iff·trans}
-use mathlib.Core.Path.{_≡_, refl, sym, _∙_, ap, subst}
-use borrow.Author.Tests.{ltb-false, eqb-true}
-use lib.Dec.{ltb, eqb}
-use lib.ListN.{length, take, drop, getD}
+use mathlib.Core.Logic.{_⊎_, _↔_, Iff·trans}
+use mathlib.Core.Path.{_≡_, refl, sym, ap, subst}
+use borrow.Author.Tests.{ltb-false}
+use lib.Dec.{ltb}
+use lib.ListN.{length, take, drop}
 use Rattle.store.specs.declared.PageId.{PageId}
-use Rattle.store.specs.Page.{none, isNone}
 use Rattle.store.specs.Laws.{apart}
 use Rattle.datom.specs.declared.Datom.{Datom}
 use Rattle.index.specs.Order.{DatomOrd}
 use Rattle.rules.specs.Page.{Node}
-use Rattle.rules.specs.Node.{meets, mergeDatoms, mergeChildren, mergeNode, Span, longestSpan, anyPending, splice}
-use Rattle.rules.specs.Tree.{Fetched, faulty, fine, Env, Stage, stop, go, then, atLevel, fetchAt, put, split, isOver, settle, Below, flush, flushAll, insertMerged, insertInto, rootOf, writeRoot, insertTree}
+use Rattle.rules.specs.Node.{meets, mergeNode, Span, longestSpan, anyPending, splice}
+use Rattle.rules.specs.Tree.{Env, Stage, go, fetchAt, put, split, isOver, settle, Below, flush, flushAll, insertMerged, insertInto, rootOf, writeRoot, insertTree}
 use Rattle.rules.specs.Lists.{In, Rising}
 use Rattle.history.specs.Order.{clash}
 use Rattle.history.specs.Tree.{Tree, last, InTree, Full, Good, own-in, Exactly, Apart}
-use Rattle.history.specs.Pages.{Place, page, child, level-is, Holds, hLast, hItem, Stored, Extends, holds-extends, holds-own, holds-lengths, holds-real, leaf-full, real-last}
+use Rattle.history.specs.Pages.{Place, page, child, level-is, Holds, hLast, hItem, Stored, holds-extends, holds-own, holds-lengths, holds-real, leaf-full, real-last}
 use Rattle.history.specs.Merge.{merge-holds, merged-in, merged-good, merge-clear}
-use Rattle.history.specs.Held.{held, EnvOk, held-old, Storable, Written, none-written, More, same-more, more-more, Grown, Goes, stops, goes, goes-then, goes-map, put-ok}
+use Rattle.history.specs.Held.{held, EnvOk, held-old, Storable, Written, none-written, More, same-more, more-more, Grown, Goes, goes, goes-then, goes-map, put-ok}
 use Rattle.history.specs.Split.{Made, split-ok}
 use Rattle.history.specs.Span.{Spotted, longest-ok, Cuts, cuts}
-use Rattle.history.specs.Flush.{Row, row-of, row-holds, pendings, row-pendings, row-full, Rebuilt, Target, target, pendings-fewer, no-pendings}
+use Rattle.history.specs.Flush.{Row, row-of, row-holds, pendings, row-pendings, row-full, Target, target, pendings-fewer, no-pendings}
 
 -- the same pages for a larger start and other words for the contents
 abbrev pub regrown :

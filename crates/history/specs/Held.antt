@@ -1,16 +1,16 @@
 -- Pages while a call writes: the old ones, and those written so far; a node that is put becomes a page that can be read.
 -- Rests on Pages and on the rules' round trip.
-use Prim.Native.Nat.{ℕ, zero, suc, _+_, _-_, _^_, _≤_, _<_, zero-le, suc-le-suc, Ordering, Ordering·lt}
+use Prim.Native.Nat.{ℕ, zero, suc, _+_, _-_, _^_, _≤_, _<_, zero-le, suc-le-suc}
 use native.Mathlib.Omega.{arith}
-use mathlib.Core.Bool.{Bool, true, false, _||_, not, cond}
+use mathlib.Core.Bool.{Bool, true, false, cond}
 use mathlib.Core.List.{List, [], _∷_, _++_}
 use mathlib.Core.Logic.{_⊎_, inl, inr}
-use mathlib.Core.Path.{_≡_, refl, sym, _∙_, ap}
+use mathlib.Core.Path.{_≡_, refl, ap}
 use borrow.Author.Tests.{eqb-true, eq-eqb, ne-eqb, ltb-true, ltb-false, lt-ltb, le-ltb, leb-false}
-use lib.Dec.{leb, ltb, eqb}
-use lib.ListN.{length, getD}
+use lib.Dec.{leb, ltb}
+use lib.ListN.{length}
 use Rattle.store.specs.declared.PageId.{PageId}
-use Rattle.store.specs.Page.{page as pageId, none, isNone}
+use Rattle.store.specs.Page.{page as pageId, isNone}
 use Rattle.store.specs.Laws.{apart}
 use Rattle.datom.specs.declared.Datom.{Datom}
 use Rattle.datom.specs.Datom.{Words}
@@ -19,9 +19,9 @@ use Rattle.index.specs.Laws.{Preorder}
 use Rattle.answer.specs.declared.Fault.the-variants.{Missing}
 use Rattle.answer.specs.declared.Refusal.{Refusal}
 use Rattle.answer.specs.declared.Refusal.the-variants.{TooTall, NoRoom}
-use Rattle.rules.specs.Page.{Node, good, all, older, childRules}
+use Rattle.rules.specs.Page.{Node, good, older, childRules}
 use Rattle.rules.specs.Tree.{Fetched, faulty, fine, atLevel, Env, Stage, stop, go, then, put}
-use Rattle.rules.specs.Lists.{In, all-of, rising-of}
+use Rattle.rules.specs.Lists.{all-of, rising-of}
 use Rattle.rules.specs.Round.{Writable}
 use Rattle.rules.specs.Sizes.{level-fine}
 use Rattle.history.specs.Tree.{Tree, InTree, Good, own-in, own-rising, Exactly}

@@ -2,10 +2,10 @@
 -- Rests on Calls and After.
 use Prim.Native.Nat.{ℕ, zero, suc, _+_, _-_, _*_, _≤_, _<_}
 use native.Mathlib.Omega.{arith}
-use mathlib.Core.Bool.{Bool, true, false, cond}
-use mathlib.Core.List.{List, [], _∷_, _++_}
-use mathlib.Core.Logic.{_⊎_, inl, inr, _↔_}
-use mathlib.Core.Path.{_≡_, refl, sym, _∙_}
+use mathlib.Core.Bool.{Bool, true, false}
+use mathlib.Core.List.{List, [], _∷_}
+use mathlib.Core.Logic.{_⊎_, inl, inr}
+use mathlib.Core.Path.{_≡_, refl}
 use borrow.Author.Tests.{ltb-true, ltb-false}
 use lib.Dec.{ltb}
 use lib.ListN.{length, take}
@@ -15,17 +15,15 @@ use Rattle.store.specs.Size.{capacity}
 use Rattle.datom.specs.declared.Datom.{Datom}
 use Rattle.index.specs.Order.{DatomOrd}
 use Rattle.index.specs.Laws.{Preorder}
-use Rattle.answer.specs.declared.Refusal.{Refusal}
-use Rattle.answer.specs.declared.Answer.the-variants.{Done, Refused}
 use Rattle.rules.specs.Page.{Node}
 use Rattle.rules.specs.Tree.{fine}
 use Rattle.rules.specs.Store.{fetchPage, envOf, storeAfter}
-use Rattle.rules.specs.Insert.{Outcome, batchOf, insertBytes, initialiseBytes}
+use Rattle.rules.specs.Insert.{Outcome, batchOf}
 use Rattle.rules.specs.Lists.{In, in-left, in-right, in-append}
 use Rattle.history.specs.Statement.{Known, Moment, noRoot, beginning, after, Next, others, inserts, initialises, Later, now, step, gathered}
 use Rattle.history.specs.Tree.{blank}
 use Rattle.history.specs.Pages.{noPage, Extends, holds-extends, none-is}
-use Rattle.history.specs.Held.{nth, held, Storable, Written}
+use Rattle.history.specs.Held.{nth, held, Storable}
 use Rattle.history.specs.Grow.{Rooted}
 use Rattle.history.specs.After.{fetch-kept, long-enough, store-keeps, big-of, after-fits, held-after}
 use Rattle.history.specs.Sort.{Distinct, Fresh, distinct-append}

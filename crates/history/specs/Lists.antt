@@ -2,13 +2,13 @@
 -- Rests on Step and Cursor.
 use Prim.Native.Nat.{ℕ, zero, suc, _≤_, Ordering, Ordering·lt, Ordering·eq, Ordering·gt}
 use native.Mathlib.Omega.{arith}
-use mathlib.Core.Bool.{Bool, true, false, _&&_, not, cond}
+use mathlib.Core.Bool.{Bool, true, false}
 use mathlib.Core.List.{List, [], _∷_, map}
-use mathlib.Core.Logic.{_⊎_, inl, inr, _↔_}
-use mathlib.Core.Path.{_≡_, refl, sym, _∙_, ap}
+use mathlib.Core.Logic.{_⊎_, inl, inr}
+use mathlib.Core.Path.{_≡_, refl, sym, _∙_}
 use borrow.Author.Tests.{eqb-true, eq-eqb, le-ltb}
-use lib.Dec.{ltb, eqb}
-use lib.ListN.{length, drop, length-map}
+use lib.Dec.{ltb}
+use lib.ListN.{length, length-map}
 use Rattle.store.specs.declared.PageId.{PageId}
 use Rattle.store.specs.declared.Extent.{Extent}
 use Rattle.store.specs.Laws.{both}
@@ -16,16 +16,14 @@ use Rattle.datom.specs.declared.Datom.{Datom}
 use Rattle.index.specs.Order.{DatomOrd, isLess}
 use Rattle.index.specs.Laws.{Preorder}
 use Rattle.answer.specs.declared.Cursor.{Cursor}
-use Rattle.answer.specs.declared.Stepped.{Stepped}
 use Rattle.answer.specs.declared.Step.the-variants as step
 use Rattle.rules.specs.Page.{Node}
 use Rattle.rules.specs.Node.{rankBy, below}
 use Rattle.rules.specs.Tree.{Fetched, fine, atLevel}
 use Rattle.rules.specs.Store.{badStore, fetchPage}
-use Rattle.rules.specs.Listing.{Frame, beginFrames, endFrames, cursorOf, pathBy, frameOf, openFrames, Least, noneLeft, least, leastOf, sameIndices, staying, moved, onward, stepList, Listed, whole, listFrom}
+use Rattle.rules.specs.Listing.{Frame, beginFrames, endFrames, cursorOf, frameOf, Least, sameIndices, staying, moved, onward, stepList, whole, listFrom}
 use Rattle.rules.specs.Lists.{In, Rising, less, turned}
-use Rattle.history.specs.Statement.{within}
-use Rattle.history.specs.Order.{clash, is-true, same-test, upTo, Front, AtMost, up-false, up-true, up-above, same-below, one-way, not-self, below-front, up-front}
+use Rattle.history.specs.Order.{clash, is-true, is-false, same-test, upTo, Front, AtMost, up-false, up-above, same-below, one-way, not-self, below-front, up-front}
 use Rattle.history.specs.Tree.{Tree, blank, last, item, InTree, own, Good}
 use Rattle.history.specs.Pages.{page, Holds, Stored, holds-own}
 use Rattle.history.specs.Child.{childBy, child-stored, child-leaf, child-good, Stop, stop-fails, cover}
@@ -100,13 +98,12 @@ module _ (cmp : Datom → Datom → Ordering) (L : Preorder cmp) (t : Tree) (hi 
         front = up-front cmp L d;
         rising = c .rising .1;
         only = λ x i. (c .only x (inr i) .0, up-false cmp (c .rising .0 x i), c .only x (inr i) .2);
-        every = λ x i a b. later x (up-above cmp d x a) (c .every x i (fails x (up-above cmp d x a) (p x) refl) b);
+        every = λ x i a b. later x (up-above cmp d x a) (c .every x i (fails x (up-above cmp d x a)) b);
         under = λ x i a. reach x a (cmp d x) refl;
       }
     where
-      fails : (x : Datom) → cmp d x ≡ Ordering·lt → (b : Bool) → p x ≡ b → p x ≡ false
-      fails x a true e = absurd (clash (c .only d (inl refl) .1) (c .front d x a e))
-      fails x a false e = e
+      fails : (x : Datom) → cmp d x ≡ Ordering·lt → p x ≡ false
+      fails x a = is-false (p x) λ e. clash (c .only d (inl refl) .1) (c .front d x a e)
 
       later : (x : Datom) → cmp d x ≡ Ordering·lt → In x (d ∷ rest) → In x rest
       later x a (inl e) = absurd (not-self cmp L (sym e) a)
@@ -163,17 +160,9 @@ module _
     not-end :
         (p : Datom → Bool) (d : Datom) (rest : List Datom) → Left (t .cmp) tr hi p (d ∷ rest) →
         sameIndices (frames p) (frames (below (t .cmp) hi)) ≡ false
-    not-end p d rest c = side _ refl
-      where
-        side :
-            (b : Bool) → sameIndices (frames p) (frames (below (t .cmp) hi)) ≡ b →
-            sameIndices (frames p) (frames (below (t .cmp) hi)) ≡ false
-        side false e = e
-        side true e =
-            let o = c .only d (inl refl) in
-            absurd
-            (clash (o .1)
-            (ends-agree (t .cmp) L (fetchPage t x s) p (below (t .cmp) hi) (c .front) (below-front (t .cmp) L hi) l q n tr h g e d (o .0) ∙ o .2))
+    not-end p d rest c = is-false _ λ e.
+        let o = c .only d (inl refl) in
+        clash (o .1) (ends-agree (t .cmp) L (fetchPage t x s) p (below (t .cmp) hi) (c .front) (below-front (t .cmp) L hi) l q n tr h g e d (o .0) ∙ o .2)
 
     goes-on :
         (p : Datom → Bool) (d : Datom) (rest : List Datom) → Left (t .cmp) tr hi p (d ∷ rest) →

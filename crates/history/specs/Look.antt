@@ -12,7 +12,7 @@ use Rattle.index.specs.Order.{isLess, isSame}
 use Rattle.index.specs.Laws.{Preorder}
 use Rattle.rules.specs.Page.{Node}
 use Rattle.rules.specs.Node.{rankBy, below, headSame}
-use Rattle.rules.specs.Tree.{Fetched, fine, Env, fetchAt}
+use Rattle.rules.specs.Tree.{fine, Env, fetchAt}
 use Rattle.rules.specs.Lookup.{Look, met, absent, lookup}
 use Rattle.history.specs.Order.{clash, AtMost, below-same, below-front}
 use Rattle.history.specs.Tree.{Tree, InTree, own, Good, own-in}

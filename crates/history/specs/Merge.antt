@@ -1,12 +1,10 @@
 -- Merge: the tree with a batch among the datoms of its page. Rests on Tree, Pages and the rules' laws of the merge of lists.
 use Prim.Native.Nat.{ℕ, Ordering, Ordering·lt, Ordering·eq, Ordering·gt}
 use mathlib.Core.Bool.{Bool, true, false}
-use mathlib.Core.List.{List, [], _∷_, _++_, append-nil}
-use mathlib.Core.Logic.{_⊎_, inl, inr, _↔_}
+use mathlib.Core.List.{List, [], _∷_, append-nil}
+use mathlib.Core.Logic.{_⊎_, inl, inr}
 use mathlib.Core.Path.{_≡_, refl, _∙_, ap}
-use lib.ListN.{length, drop, getD, replicate}
 use Rattle.store.specs.declared.PageId.{PageId}
-use Rattle.store.specs.Page.{none, isNone}
 use Rattle.datom.specs.declared.Datom.{Datom}
 use Rattle.index.specs.Order.{isLess}
 use Rattle.index.specs.Laws.{Preorder}
@@ -15,7 +13,7 @@ use Rattle.rules.specs.Tree.{Fetched}
 use Rattle.rules.specs.Lists.{In, Rising, less, turned}
 use Rattle.rules.specs.MergeLaws.{merge-out}
 use Rattle.history.specs.Order.{not-both, other, below-all}
-use Rattle.history.specs.Tree.{Tree, blank, last, item, InTree, own, Good, own-in, Exactly, item-in, pend-in, Apart, pending, pending-in, pending-own, alone, pending-good}
+use Rattle.history.specs.Tree.{Tree, blank, last, item, InTree, own, Good, Exactly, item-in, pend-in, Apart, pending, pending-in, pending-own, alone, pending-good}
 use Rattle.history.specs.Pages.{page, Holds, noPage, hLast, hItem, holds-pending, none-is}
 
 -- a batch among the datoms of a page: behind the page's last datom, or before the first that is not below it

@@ -1,6 +1,6 @@
 -- Facts on a total preorder of datoms, and on tests made from it. Rests on the order's laws alone: datoms that compare equal need not
 -- be the same.
-use Prim.Native.Nat.{ℕ, Ordering, Ordering·lt, Ordering·eq, Ordering·gt}
+use Prim.Native.Nat.{Ordering, Ordering·lt, Ordering·eq, Ordering·gt}
 use mathlib.Core.Bool.{Bool, true, false, not}
 use mathlib.Core.List.{List, _∷_}
 use mathlib.Core.Logic.{_⊎_, inl, inr}
@@ -18,6 +18,10 @@ clash u v = apart (cc)
 pub is-true : (b : Bool) → (b ≡ false → ⊥) → b ≡ true
 is-true true n = refl
 is-true false n = absurd (n refl)
+
+pub is-false : (b : Bool) → (b ≡ true → ⊥) → b ≡ false
+is-false true n = absurd (n refl)
+is-false false n = refl
 
 pub same-test : (a b : Bool) → (a ≡ true → b ≡ true) → (b ≡ true → a ≡ true) → a ≡ b
 same-test true b h k = sym (h refl)

@@ -1,26 +1,22 @@
 -- What is read at a root whose pages hold a good tree: listings, and the check. Rests on Lists and Sound.
-use Prim.Native.Nat.{ℕ, zero, suc, _≤_, _<_, Ordering, Ordering·lt}
-use native.Mathlib.Omega.{arith}
+use Prim.Native.Nat.{ℕ, zero, suc, _≤_, Ordering·lt}
 use mathlib.Core.Bool.{Bool, true, false, _&&_, not, cond}
-use mathlib.Core.List.{List, [], _∷_, map}
-use mathlib.Core.Logic.{inl, _↔_}
+use mathlib.Core.List.{List, [], _∷_}
+use mathlib.Core.Logic.{inl}
 use mathlib.Core.Path.{_≡_, refl, sym, _∙_, ap}
-use lib.Dec.{ltb}
 use lib.ListN.{length}
 use Rattle.store.specs.declared.PageId.{PageId}
 use Rattle.store.specs.declared.Extent.{Extent}
 use Rattle.store.specs.Page.{isNone}
-use Rattle.store.specs.Size.{capacity}
 use Rattle.datom.specs.declared.Datom.{Datom}
 use Rattle.index.specs.Order.{DatomOrd, isLess}
 use Rattle.index.specs.Laws.{Preorder}
-use Rattle.answer.specs.declared.Started.{Started}
 use Rattle.answer.specs.declared.Start.the-variants as start
 use Rattle.answer.specs.declared.Check.the-variants.{Sound}
-use Rattle.rules.specs.Page.{Node, nodeOf, levelOf, countOf}
+use Rattle.rules.specs.Page.{Node, nodeOf}
 use Rattle.rules.specs.Node.{below}
-use Rattle.rules.specs.Tree.{Fetched, fine, atLevel}
-use Rattle.rules.specs.Store.{badStore, badRoot, pageAt, fetchPage}
+use Rattle.rules.specs.Tree.{fine}
+use Rattle.rules.specs.Store.{badStore, fetchPage}
 use Rattle.rules.specs.Listing.{framesFrom, cursorOf, joinPaths, sameIndices, startAt, startUnder, startList, stepList, whole, listFrom, listing}
 use Rattle.rules.specs.Check.{checkRoot, checkTree}
 use Rattle.rules.specs.Lists.{In, Rising, less}
@@ -28,7 +24,7 @@ use Rattle.rules.specs.Reads.{fetch-tells}
 use Rattle.rules.specs.Sizes.{level-fine}
 use Rattle.history.specs.Statement.{within}
 use Rattle.history.specs.Order.{below-front}
-use Rattle.history.specs.Tree.{Tree, InTree, Good, Exactly}
+use Rattle.history.specs.Tree.{Tree, Good, Exactly}
 use Rattle.history.specs.Pages.{page, child, level-is, Holds, noPage, aPage}
 use Rattle.history.specs.Step.{along}
 use Rattle.history.specs.Lists.{Left, lists-ok}

@@ -1,9 +1,9 @@
 -- A batch sorted: the same datoms, and rising where no two of them are equal; which datoms lie between two bounds.
 -- Rests on the order's laws.
-use Prim.Native.Nat.{ℕ, suc, Ordering, Ordering·lt, Ordering·eq, Ordering·gt}
-use mathlib.Core.Bool.{Bool, true, false, _&&_, _||_, not, cond}
+use Prim.Native.Nat.{Ordering, Ordering·lt, Ordering·eq, Ordering·gt}
+use mathlib.Core.Bool.{Bool, true, false, _&&_, not}
 use mathlib.Core.List.{List, [], _∷_, _++_}
-use mathlib.Core.Logic.{_⊎_, inl, inr, _↔_}
+use mathlib.Core.Logic.{inl, inr, _↔_}
 use mathlib.Core.Path.{_≡_, refl}
 use Rattle.datom.specs.declared.Datom.{Datom}
 use Rattle.index.specs.Order.{isLess}

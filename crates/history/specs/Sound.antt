@@ -1,13 +1,12 @@
 -- The check finds no fault in pages that hold a good tree. Rests on Tree and Pages.
-use Prim.Native.Nat.{ℕ, zero, suc, Ordering, Ordering·lt}
-use mathlib.Core.Bool.{Bool, true, false, cond}
-use mathlib.Core.List.{List, [], _∷_}
+use Prim.Native.Nat.{ℕ, zero, suc, Ordering}
+use mathlib.Core.Bool.{Bool, true, false}
+use mathlib.Core.List.{List}
 use mathlib.Core.Logic.{inl, inr}
 use mathlib.Core.Option.{Option, none as nothing, some}
 use mathlib.Core.Path.{_≡_, refl}
-use lib.ListN.{drop, getD}
 use Rattle.store.specs.declared.PageId.{PageId}
-use Rattle.store.specs.Page.{none, isNone}
+use Rattle.store.specs.Page.{isNone}
 use Rattle.datom.specs.declared.Datom.{Datom}
 use Rattle.index.specs.Order.{isLess}
 use Rattle.answer.specs.declared.Check.the-variants.{Sound}

@@ -1,6 +1,6 @@
 -- The longest pending span, as a place among the children: where some child is none and the last is real, a run of none-children ended
 -- by a real child, with no other none right before it. Rests on the rules alone.
-use Prim.Native.Nat.{ℕ, zero, suc, _+_, _-_, _≤_, _<_, zero-le, suc-le-suc}
+use Prim.Native.Nat.{ℕ, suc, _+_, _-_, _≤_, _<_, zero-le, suc-le-suc}
 use native.Mathlib.Omega.{arith}
 use mathlib.Core.Bool.{Bool, true, false, _||_, cond}
 use mathlib.Core.List.{List, [], _∷_, _++_, append-assoc, append-nil}
@@ -9,7 +9,7 @@ use mathlib.Core.Path.{_≡_, refl, sym, _∙_, ap}
 use borrow.Author.Tests.{ltb-true, ltb-false}
 use lib.Dec.{ltb}
 use lib.ListN.{length, take, drop, getD, length-append, length-take, length-drop, take-append-drop}
-use lib.Seq.{take-at, drop-at, getD-at, drop-drop, take-take, getD-append-add}
+use lib.Seq.{take-at, drop-at, getD-at, take-take, getD-append-add}
 use Rattle.store.specs.declared.PageId.{PageId}
 use Rattle.store.specs.Page.{none, isNone}
 use Rattle.rules.specs.Node.{Span, spanFrom, longestSpan, anyPending}

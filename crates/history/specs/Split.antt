@@ -1,13 +1,12 @@
 -- Split: the parts of a node written as pages, and the node of their numbers and of the datoms between them. Rests on Held and on the
 -- rules' laws of a split.
-use Prim.Native.Nat.{ℕ, zero, suc, _≤_, _<_, Ordering, Ordering·lt}
+use Prim.Native.Nat.{ℕ, zero, suc, _<_, Ordering, Ordering·lt}
 use native.Mathlib.Omega.{arith}
 use mathlib.Core.Bool.{true}
 use mathlib.Core.List.{List, [], _∷_, _++_, append-nil}
 use mathlib.Core.Logic.{inl, inr, _↔_, Iff·trans, Iff·symm}
-use mathlib.Core.Path.{_≡_, refl, sym, _∙_, ap}
+use mathlib.Core.Path.{_≡_, refl, ap}
 use borrow.Author.Tests.{ltb-true}
-use lib.Dec.{ltb}
 use lib.ListN.{length}
 use Rattle.store.specs.declared.PageId.{PageId}
 use Rattle.datom.specs.declared.Datom.{Datom}
@@ -15,11 +14,11 @@ use Rattle.index.specs.Order.{DatomOrd}
 use Rattle.index.specs.Laws.{Preorder}
 use Rattle.rules.specs.Page.{Node}
 use Rattle.rules.specs.Node.{splitParts, splitUp}
-use Rattle.rules.specs.Tree.{Fetched, Env, Stage, go, then, put, putAll, split, isOver}
+use Rattle.rules.specs.Tree.{Fetched, Env, then, put, putAll, split, isOver}
 use Rattle.rules.specs.Lists.{In}
 use Rattle.rules.specs.SplitLaws.{weave, allChildren, Part, split-keeps-every-datom, split-keeps-every-child, split-parts-fit, split-midpoints-fewer, split-shrinks}
-use Rattle.history.specs.Tree.{Tree, blank, last, item, InTree, own, Ends, Full, Good, item-in, item-same, midpoint}
-use Rattle.history.specs.Pages.{page, child, Holds, hLast, hItem, Extends, holds-extends, holds-lengths, holds-real, leaf-own}
+use Rattle.history.specs.Tree.{Tree, last, item, InTree, Ends, Full, Good, item-in, item-same, midpoint}
+use Rattle.history.specs.Pages.{page, Holds, hLast, hItem, holds-extends, holds-lengths, holds-real, leaf-own}
 use Rattle.history.specs.Held.{held, EnvOk, Storable, Written, more-more, Grown, Goes, goes, goes-then, put-ok}
 
 -- a node cut behind a child: the datom there goes up, below all right of it and above all left of it

@@ -2,12 +2,11 @@
 -- are those of the test "not above it". Rests on Child.
 use Prim.Native.Nat.{ℕ, zero, suc, _≤_, _<_, zero-le, suc-le-suc, Ordering, Ordering·lt, Ordering·eq, Ordering·gt}
 use native.Mathlib.Omega.{arith}
-use mathlib.Core.Bool.{Bool, true, false, not}
+use mathlib.Core.Bool.{Bool, true, false}
 use mathlib.Core.List.{List, [], _∷_, map}
 use mathlib.Core.Logic.{_⊎_, inl, inr}
 use mathlib.Core.Path.{_≡_, refl, sym, _∙_, ap, subst}
 use borrow.Author.Tests.{le-leb}
-use lib.Dec.{leb}
 use lib.ListN.{length, drop, getD, length-map}
 use Rattle.store.specs.declared.PageId.{PageId}
 use Rattle.store.specs.Page.{none, isNone}
@@ -16,7 +15,7 @@ use Rattle.index.specs.Laws.{Preorder}
 use Rattle.rules.specs.Page.{Node}
 use Rattle.rules.specs.Node.{rankBy, isMidpoint, nextMidpoint}
 use Rattle.rules.specs.Tree.{Fetched, faulty, fine, atLevel}
-use Rattle.rules.specs.Listing.{Frame, Path, path, longer, pathBy, never, Open, frameOf, Opens, opened, openMore, openOne, openFrames, Least, noneLeft, least, after, taking, keeping, choose, leastOf}
+use Rattle.rules.specs.Listing.{Path, path, longer, pathBy, never, Open, frameOf, opened, openOne, openFrames, Least, noneLeft, least, after, taking, choose, leastOf}
 use Rattle.rules.specs.Lists.{In, Rising, turned}
 use Rattle.history.specs.Order.{clash, is-true, upTo, Front, AtMost, not-both, up-false, up-true, one-way, not-self, lower}
 use Rattle.history.specs.Tree.{Tree, blank, last, item, InTree, own, Good, own-in, own-rising}

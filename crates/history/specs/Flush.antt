@@ -21,6 +21,7 @@ use Rattle.history.specs.Graft.{isBlank, real-flag, prepend, Tail, nothi
 use Rattle.history.specs.Pages.{page, child, Holds, noPage, aPage, hLast, hItem, Stored, Extends, holds-extends, holds-real, child-real, child-blank, child-page}
 use Rattle.history.specs.Span.{Nones, Closed}
 
+-- the old pages, or the old and the new
 abbrev pub choose : Bool → (PageId → Fetched) → (PageId → Fetched) → (PageId → Fetched)
 choose true f g = f
 choose false f g = g
@@ -133,15 +134,18 @@ module _ (f g : PageId → Fetched) (l : ℕ) where
   data Ran (b : List Datom) (c : PageId) (qD : List Datom) (qC : List PageId) : Tree → Type 0 where
     ran : {q : Tail} (t : Tree) → Stored f l c t → Real t → RowTail qD qC q → Ran b c qD qC (pending b (join t q))
 
+  -- behind a pending datom, or with one in the run, the child is held by the old pages
   run-of :
-      {qD : List Datom} {c : PageId} {qC : List PageId} {r : Tree} (b : List Datom) (nC : List PageId) → length nC ≡ length b → Nones nC →
-      isNone c ≡ false → Row f g l true (b ++ qD) (nC ++ (c ∷ qC)) r → Ran b c qD qC r
-  run-of [] (x ∷ nC) n a u h = absurd (omega arith)
-  run-of (d ∷ b) [] n a u h = absurd (omega arith)
-  run-of [] [] n a u (rLast {t} k e) = ran t (child-page k u) e tStop
-  run-of [] [] n a u (rItem {t} d k h) = ran t (child-page k u) (child-real k u) (tGo d (rw (real-flag t (child-real k u)) at h))
-  run-of (d ∷ b) (x ∷ nC) n a u (rItem _ (aPage r q z) h) = absurd (clash r (a x (inl refl)))
-  run-of {qD} {c} {qC} (d ∷ b) (x ∷ nC) n a u (rItem _ (noPage q) h) = more (run-of b nC (omega arith) (λ y i. a y (inr i)) u h)
+      {qD : List Datom} {c : PageId} {qC : List PageId} {r : Tree} (v : Bool) (b : List Datom) (nC : List PageId) → length nC ≡ length b → Nones nC →
+      isNone c ≡ false → (length nC ≡ 0 → v ≡ true) → Row f g l v (b ++ qD) (nC ++ (c ∷ qC)) r → Ran b c qD qC r
+  run-of v [] (x ∷ nC) n a u z h = absurd (omega arith)
+  run-of v (d ∷ b) [] n a u z h = absurd (omega arith)
+  run-of false [] [] n a u z h = absurd (clash refl (z refl))
+  run-of true [] [] n a u z (rLast {t} k e) = ran t (child-page k u) e tStop
+  run-of true [] [] n a u z (rItem {t} d k h) = ran t (child-page k u) (child-real k u) (tGo d (rw (real-flag t (child-real k u)) at h))
+  run-of v (d ∷ b) (x ∷ nC) n a u z (rItem _ (aPage r q y) h) = absurd (clash r (a x (inl refl)))
+  run-of {qD} {c} {qC} v (d ∷ b) (x ∷ nC) n a u z (rItem _ (noPage q) h) =
+      more (run-of true b nC (omega arith) (λ y i. a y (inr i)) u (λ y. refl) h)
     where
       more : {r : Tree} → Ran b c qD qC r → Ran (d ∷ b) c qD qC (item blank d r)
       more (ran t k e w) = ran t k e w
@@ -183,18 +187,6 @@ pub record Target
       Good cmp t₁ → Exactly (λ x. InTree x kid ⊎ In x b) t₁ → Rebuilt cmp f g₁ l t (pD ++ (mD ++ qD)) (pC ++ (mC ++ qC))
 
 module _ (cmp : Datom → Datom → Ordering) (L : Preorder cmp) {f g : PageId → Fetched} {l : ℕ} where
-  -- where the run begins: no pending datom before it, so the flag is false
-  start :
-      {qD : List Datom} {c : PageId} {qC : List PageId} {r : Tree} (b : List Datom) (nC : List PageId) → length nC ≡ length b → 0 < length nC → Nones nC →
-      isNone c ≡ false → Row f g l false (b ++ qD) (nC ++ (c ∷ qC)) r → Ran f g l b c qD qC r
-  start b [] n z a u h = absurd (omega arith)
-  start [] (x ∷ nC) n z a u h = absurd (omega arith)
-  start (d ∷ b) (x ∷ nC) n z a u (rItem _ (aPage r q y) h) = absurd (clash r (a x (inl refl)))
-  start {qD} {c} {qC} (d ∷ b) (x ∷ nC) n z a u (rItem _ (noPage q) h) = more (run-of f g l b nC (omega arith) (λ y i. a y (inr i)) u h)
-    where
-      more : {r : Tree} → Ran f g l b c qD qC r → Ran f g l (d ∷ b) c qD qC (item blank d r)
-      more (ran t k e w) = ran t k e w
-
   assemble :
       {pD qD : List Datom} {pC qC : List PageId} {c : PageId} {r : Tree} (ks : List (Tree × Datom)) (b : List Datom) → ClosedItems false ks →
       Front f g l false pD pC ks false → Ran f g l b c qD qC r → Good cmp (prepend ks r) → Target cmp f g l (prepend ks r) pD pC b c qD qC
@@ -240,7 +232,7 @@ module _ (cmp : Datom → Datom → Ordering) (L : Preorder cmp) {f g : PageId �
       side : {t : Tree} → Fronted f g l false pD (b ++ qD) pC (nC ++ (c ∷ qC)) t → Good cmp t → Target cmp f g l t pD pC b c qD qC
       side (fronted {w} {r} ks x y) v =
           let e = front-closed f g l x k in
-          assemble ks b (e .0) (rw (e .1) at x) (start b nC m z a u (rw (e .1) at y)) v
+          assemble ks b (e .0) (rw (e .1) at x) (run-of f g l false b nC m a u (λ q. absurd (omega arith)) (rw (e .1) at y)) v
 
 -- a flush leaves fewer pending datoms
 pendings-append : (a b : List PageId) → pendings (a ++ b) ≡ pendings a + pendings b

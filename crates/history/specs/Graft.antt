@@ -2,7 +2,7 @@
 use Prim.Native.Nat.{ℕ, suc, Ordering, Ordering·lt}
 use mathlib.Core.Bool.{Bool, true, false}
 use mathlib.Core.List.{List, [], _∷_}
-use mathlib.Core.Logic.{_⊎_, inl, inr}
+use mathlib.Core.Logic.{_⊎_, inl, inr, Iff·rfl}
 use mathlib.Core.Path.{_≡_, refl}
 use Rattle.datom.specs.declared.Datom.{Datom}
 use Rattle.index.specs.Laws.{Preorder}
@@ -60,7 +60,7 @@ graft (item t d r) q = item t d (graft r q)
 
 pub join-in : (t : Tree) (q : Tail) → Exactly (λ x. InTree x t ⊎ InTail x q) (join t q)
 join-in t nothing x = (inl, λ i. elim i [ inl j ↦ j | inr j ↦ absurd j ])
-join-in t (then d r) x = (λ i. i, λ i. i)
+join-in t (then d r) x = Iff·rfl
 
 pub graft-in : (l : ℕ) (t : Tree) (q : Tail) → Full l t → Exactly (λ x. InTree x t ⊎ InTail x q) (graft t q)
 graft-in l blank q u x = absurd u

@@ -4,7 +4,7 @@ use Prim.Native.Nat.{ℕ, zero, suc, _≤_, _<_}
 use native.Mathlib.Omega.{arith}
 use mathlib.Core.Bool.{Bool, true, false}
 use mathlib.Core.List.{List, [], _∷_, _++_}
-use mathlib.Core.Logic.{_⊎_, _↔_, Iff·trans}
+use mathlib.Core.Logic.{_⊎_, _↔_, Iff·trans, Iff·rfl}
 use mathlib.Core.Path.{_≡_, refl, sym, ap, subst}
 use borrow.Author.Tests.{ltb-false}
 use lib.Dec.{ltb}
@@ -39,15 +39,14 @@ record Settling (t : DatomOrd) (e : Env) (P : Datom → Type 0) (l : ℕ) (o : L
   grown : Grown t e P (page l (n .datoms) (n .children)) o o₁
   full : isOver e n ≡ true → Full l (grown .tree)
 
--- a node that may be flushed further, with fewer than b datoms pending
-record Flushing (t : DatomOrd) (e : Env) (P : Datom → Type 0) (l : ℕ) (o : List Node) (b : ℕ) (n : Node) (o₁ : List Node) : Type 0 where
+-- a node above level 0 that may be flushed
+record Flushing (t : DatomOrd) (e : Env) (P : Datom → Type 0) (l : ℕ) (o : List Node) (n : Node) (o₁ : List Node) : Type 0 where
   level : n .level ≡ suc l
   tree : Tree
   row : Row (e .fetch) (held e o₁) l false (n .datoms) (n .children) tree
   good : Good (e .cmp) tree
   exactly : Exactly P tree
   more : More t e o o₁
-  fewer : pendings (n .children) < b
 
 -- the span that a flush of a node sends down
 abbrev spanOf : Node → Span
@@ -103,80 +102,73 @@ module _ (t : DatomOrd) (e : Env) (E : EnvOk e) where
       ((x : Datom) → InTree x tr ⊎ In x ds → Storable t x) → Written t e o → Goes (Raised t e (λ x. InTree x tr ⊎ In x ds) l o) (ins p ds o)
 
   module _ (l : ℕ) (ins : Below) (ins-ok : Inserts l ins) (P : Datom → Type 0) (a : (x : Datom) → P x → Storable t x) (o₀ : List Node) where
-    settled :
-        (n : Node) (tr : Tree) (o : List Node) → n .level ≡ suc l → Row (e .fetch) (held e o) l false (n .datoms) (n .children) tr → Good (e .cmp) tr →
-        Exactly P tr → More t e o₀ o → (isOver e n ≡ true → Full (suc l) tr) → Settling t e P (suc l) o₀ n o
-    settled n tr o q h g ex m f =
+    settled : {n : Node} {o : List Node} → (F : Flushing t e P l o₀ n o) → (isOver e n ≡ true → Full (suc l) (F .tree)) → Settling t e P (suc l) o₀ n o
+    settled {n} {o} F f =
         record {
-          level = q;
-          grown = record { tree = tr; holds = row-holds (held-old e E o) h; good = g; exactly = ex; more = m };
+          level = F .level;
+          grown = record { tree = F .tree; holds = row-holds (held-old e E o) (F .row); good = F .good; exactly = F .exactly; more = F .more };
           full = f;
         }
 
     -- one flush: the same datoms, and fewer of them pending
     flush-ok :
-        (n : Node) (tr : Tree) (o : List Node) → n .level ≡ suc l → Row (e .fetch) (held e o) l false (n .datoms) (n .children) tr → Good (e .cmp) tr →
-        Exactly P tr → More t e o₀ o → anyPending (n .children) ≡ true → Goes (Flushing t e P l o₀ (pendings (n .children))) (flush ins n o)
+        (n : Node) (o : List Node) → Flushing t e P l o₀ n o → anyPending (n .children) ≡ true →
+        Goes (λ n₁ o₁. Flushing t e P l o₀ n₁ o₁ × (pendings (n₁ .children) < pendings (n .children))) (flush ins n o)
     unfolding flush splice
-    flush-ok n tr o q h g ex m w =
+    flush-ok n o F w =
         rw (C .child)
         (goes-then _ _
-        (ins-ok (S .end) (sent n) o (T .kid) (T .stored) (T .good) (T .rising) (T .apart) (λ x i. a x (ex x .0 (T .inside x i))) (m .written))
+        (ins-ok (S .end) (sent n) o (T .kid) (T .stored) (T .good) (T .rising) (T .apart) (λ x i. a x (F .exactly x .0 (T .inside x i))) (F .more .written))
         λ n₁ o₁ r. goes (back n₁ o₁ (r .1)))
       where
-        hs : Holds (held e o) (page (suc l) (n .datoms) (n .children)) tr
-        hs = row-holds (held-old e E o) h
+        h : Holds (held e o) (page (suc l) (n .datoms) (n .children)) (F .tree)
+        h = row-holds (held-old e E o) (F .row)
 
         S : Spotted (n .children) (spanOf n)
-        S = longest-ok (n .children) (length (n .datoms)) (holds-lengths hs) (real-last hs) w
+        S = longest-ok (n .children) (length (n .datoms)) (holds-lengths h) (real-last h) w
 
         C : Cuts (n .datoms) (n .children) (spanOf n) S
-        C = cuts (n .datoms) (n .children) (spanOf n) S (holds-lengths hs)
+        C = cuts (n .datoms) (n .children) (spanOf n) S (holds-lengths h)
 
         T :
-            Target (e .cmp) (e .fetch) (held e o) l tr (take (spanOf n .from) (n .datoms)) (S .before) (sent n) (S .end)
+            Target (e .cmp) (e .fetch) (held e o) l (F .tree) (take (spanOf n .from) (n .datoms)) (S .before) (sent n) (S .end)
             (drop (spanOf n .upto) (n .datoms)) (S .behind)
         T =
             target (e .cmp) (E .laws) _ _ (S .before) (S .run) (C .first) (C .sent) (S .some) (S .nones) (S .real) (S .closed)
-            (rw (C .datoms, ← S .parts) h) g
+            (rw (C .datoms, ← S .parts) (F .row)) (F .good)
 
         back :
             (n₁ : Node) (o₁ : List Node) → Made t e (λ x. InTree x (T .kid) ⊎ In x (sent n)) (suc l) (n₁ .datoms) (n₁ .children) o o₁ →
-            Flushing t e P l o₀ (pendings (n .children)) (splice n (spanOf n) n₁) o₁
+            Flushing t e P l o₀ (splice n (spanOf n) n₁) o₁ × (pendings (splice n (spanOf n) n₁ .children) < pendings (n .children))
         back n₁ o₁ M =
             let G = M .grown in
             let R = T .rebuild (G .more .extends) (G .holds) (M .full) (G .good) (G .exactly) in
-            record {
-              level = q;
-              tree = R .tree;
-              row = rw (C .front, C .behind) (R .row);
-              good = R .good;
-              exactly = λ x. Iff·trans (R .exactly x) (ex x);
-              more = more-more m (G .more);
-              fewer = rw (C .front, C .behind)
-                  (subst (λ (z : ℕ). pendings (S .before ++ (n₁ .children ++ S .behind)) < z) (ap pendings (sym (S .parts)))
-                  (pendings-fewer (S .before) (S .run) (S .end) (S .behind) (S .nones) (S .some) (G .holds) (M .full)));
-            }
+            let fewer : pendings (S .before ++ (n₁ .children ++ S .behind)) < pendings (S .before ++ (S .run ++ (S .end ∷ S .behind))) =
+            pendings-fewer (S .before) (S .run) (S .end) (S .behind) (S .nones) (S .some) (G .holds) (M .full) in (
+              record {
+                level = F .level;
+                tree = R .tree;
+                row = rw (C .front, C .behind) (R .row);
+                good = R .good;
+                exactly = λ x. Iff·trans (R .exactly x) (F .exactly x);
+                more = more-more (F .more) (G .more);
+              },
+              rw (C .front, C .behind) (omega (arith, fewer, ap pendings (S .parts))),
+            )
 
-    flush-all-ok :
-        (k : ℕ) (n : Node) (tr : Tree) (o : List Node) → n .level ≡ suc l → Row (e .fetch) (held e o) l false (n .datoms) (n .children) tr →
-        Good (e .cmp) tr → Exactly P tr → More t e o₀ o → pendings (n .children) ≤ k → Goes (Settling t e P (suc l) o₀) (flushAll e ins k n o)
+    flush-all-ok : (k : ℕ) (n : Node) (o : List Node) → Flushing t e P l o₀ n o → pendings (n .children) ≤ k → Goes (Settling t e P (suc l) o₀) (flushAll e ins k n o)
     unfolding flushAll
-    flush-all-ok zero n tr o q h g ex m f = goes (settled n tr o q h g ex m λ v. row-full h (omega arith))
-    flush-all-ok (suc k) n tr o q h g ex m f =
-        side (isOver e n) refl (anyPending (n .children)) refl (λ n₁ tr₁ o₁. flush-all-ok k n₁ tr₁ o₁)
+    flush-all-ok zero n o F f = goes (settled F λ v. row-full (F .row) (omega arith))
+    flush-all-ok (suc k) n o F f = side (isOver e n) refl (anyPending (n .children)) refl (flush-all-ok k)
       where
         side :
             (u : Bool) → isOver e n ≡ u → (v : Bool) → anyPending (n .children) ≡ v →
-            ((n₁ : Node) (tr₁ : Tree) (o₁ : List Node) → n₁ .level ≡ suc l → Row (e .fetch) (held e o₁) l false (n₁ .datoms) (n₁ .children) tr₁ →
-            Good (e .cmp) tr₁ → Exactly P tr₁ → More t e o₀ o₁ → pendings (n₁ .children) ≤ k → Goes (Settling t e P (suc l) o₀) (flushAll e ins k n₁ o₁)) →
+            ((n₁ : Node) (o₁ : List Node) → Flushing t e P l o₀ n₁ o₁ → pendings (n₁ .children) ≤ k → Goes (Settling t e P (suc l) o₀) (flushAll e ins k n₁ o₁)) →
             Goes (Settling t e P (suc l) o₀) (flushAll e ins (suc k) n o)
-        side false u v w ih = rw (u, flushAll) (goes (settled n tr o q h g ex m λ z. absurd (clash u z)))
-        side true u false w ih = rw (u, w, flushAll) (goes (settled n tr o q h g ex m λ z. row-full h (no-pendings (n .children) w)))
+        side false u v w ih = rw (u, flushAll) (goes (settled F λ z. absurd (clash u z)))
+        side true u false w ih = rw (u, w, flushAll) (goes (settled F λ z. row-full (F .row) (no-pendings (n .children) w)))
         side true u true w ih =
-            rw (u, w, flushAll)
-            (goes-then (flush ins n o) _ (flush-ok n tr o q h g ex m w)
-            λ n₁ o₁ r. ih n₁ (r .tree) o₁ (r .level) (r .row) (r .good) (r .exactly) (r .more) (omega (arith, r .fewer)))
+            rw (u, w, flushAll) (goes-then (flush ins n o) _ (flush-ok n o F w) λ n₁ o₁ r. ih n₁ o₁ (r .0) (omega (arith, r .1)))
 
   module _ (l : ℕ) (k : Node → List Node → Stage Node)
       (k-ok :
@@ -209,7 +201,7 @@ module _ (t : DatomOrd) (e : Env) (E : EnvOk e) where
           tree = tr;
           holds = holds-extends (held-old e E o) h;
           good = g;
-          exactly = λ x. (λ i. i, λ i. i);
+          exactly = λ x. Iff·rfl;
           more = same-more ws;
         };
         full = λ v. leaf-full h;
@@ -218,8 +210,8 @@ module _ (t : DatomOrd) (e : Env) (E : EnvOk e) where
       merged-ok (suc l) _
       λ n tr o q h g a ws.
       let w = row-of false (held-old e E o) h in
-      flush-all-ok l (insertInto e l) (insert-into-ok l) (λ x. InTree x tr) a o (length (n .datoms)) n tr o q w g (λ x. (λ i. i, λ i. i))
-      (same-more ws) (row-pendings w)
+      flush-all-ok l (insertInto e l) (insert-into-ok l) (λ x. InTree x tr) a o (length (n .datoms)) n o
+      (record { level = q; tree = tr; row = w; good = g; exactly = λ x. Iff·rfl; more = same-more ws }) (row-pendings w)
 
 -- a root: none or a page, a child of no page
 pub record Rooted (t : DatomOrd) (e : Env) (P : Datom → Type 0) (o : List Node) (root : PageId) (o₁ : List Node) : Type 0 where

@@ -4,7 +4,7 @@ use Prim.Native.Nat.{ℕ, zero, suc, _+_, _-_, _*_, _≤_, _<_}
 use native.Mathlib.Omega.{arith}
 use mathlib.Core.Bool.{Bool, true, false}
 use mathlib.Core.List.{List, [], _∷_}
-use mathlib.Core.Logic.{_⊎_, inl, inr}
+use mathlib.Core.Logic.{_⊎_, inl, inr, Iff·rfl}
 use mathlib.Core.Path.{_≡_, refl}
 use borrow.Author.Tests.{ltb-true, ltb-false}
 use lib.Dec.{ltb}
@@ -57,7 +57,7 @@ nothing-known t x s =
     record {
       distinct = tt;
       stored = λ y i. absurd i;
-      root = record { level = 0; tree = blank; holds = noPage none-is; good = tt; exactly = λ y. (λ i. i, λ i. i) };
+      root = record { level = 0; tree = blank; holds = noPage none-is; good = tt; exactly = λ y. Iff·rfl };
     }
 
 nth-some : (o : List Node) (i : ℕ) → i < length o → (n : Node) × (nth o i ≡ fine n)

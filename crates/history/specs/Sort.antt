@@ -3,7 +3,7 @@
 use Prim.Native.Nat.{Ordering, Ordering·lt, Ordering·eq, Ordering·gt}
 use mathlib.Core.Bool.{Bool, true, false, _&&_, not}
 use mathlib.Core.List.{List, [], _∷_, _++_}
-use mathlib.Core.Logic.{inl, inr, _↔_}
+use mathlib.Core.Logic.{inl, inr, _↔_, Iff·rfl}
 use mathlib.Core.Path.{_≡_, refl}
 use Rattle.datom.specs.declared.Datom.{Datom}
 use Rattle.index.specs.Order.{isLess}
@@ -35,11 +35,11 @@ module _ (cmp : Datom → Datom → Ordering) where
 
   place-in : (d : Datom) (s : List Datom) (x : Datom) → In x (place cmp d s) ↔ In x (d ∷ s)
   unfolding place
-  place-in d [] x = (λ i. i, λ i. i)
+  place-in d [] x = Iff·rfl
   place-in d (y ∷ s) x = side (isLess (cmp y d)) refl (place-in d s x)
     where
       side : (b : Bool) → isLess (cmp y d) ≡ b → In x (place cmp d s) ↔ In x (d ∷ s) → In x (place cmp d (y ∷ s)) ↔ In x (d ∷ y ∷ s)
-      side false e ih = rw e (λ i. i, λ i. i)
+      side false e ih = rw e Iff·rfl
       side true e ih =
           rw e (
             λ i. elim i [ inl j ↦ inr (inl j) | inr j ↦ elim (ih .0 j) [ inl k ↦ inl k | inr k ↦ inr (inr k) ] ],
@@ -48,7 +48,7 @@ module _ (cmp : Datom → Datom → Ordering) where
 
   pub sort-in : (ds : List Datom) (x : Datom) → In x (sort cmp ds) ↔ In x ds
   unfolding sort
-  sort-in [] x = (λ i. i, λ i. i)
+  sort-in [] x = Iff·rfl
   sort-in (d ∷ ds) x =
       let p = place-in d (sort cmp ds) x in
       let ih = sort-in ds x in

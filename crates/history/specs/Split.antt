@@ -4,7 +4,7 @@ use Prim.Native.Nat.{ℕ, zero, suc, _<_, Ordering, Ordering·lt}
 use native.Mathlib.Omega.{arith}
 use mathlib.Core.Bool.{true}
 use mathlib.Core.List.{List, [], _∷_, _++_, append-nil}
-use mathlib.Core.Logic.{inl, inr, _↔_, Iff·trans, Iff·symm}
+use mathlib.Core.Logic.{inl, inr, _↔_, Iff·trans, Iff·symm, Iff·rfl}
 use mathlib.Core.Path.{_≡_, refl, ap}
 use borrow.Author.Tests.{ltb-true}
 use lib.ListN.{length}
@@ -61,7 +61,7 @@ module _ (cmp : Datom → Datom → Ordering) (L : Preorder cmp) where
         goodRight = g .2;
         lows = g .0 .left;
         highs = full-right l t d r g (u .0) h;
-        exactly = λ x. (λ i. i, λ i. i);
+        exactly = λ x. Iff·rfl;
       }
   cut {f} {l} {d} {b} {cb} (e ∷ a) (c ∷ ca) n (hItem {t} {r} _ k h) u g = more (cut a ca (omega arith) h (u .1) (g .2))
     where
@@ -106,7 +106,7 @@ module _ (t : DatomOrd) (e : Env) (E : EnvOk e) (l : ℕ) where
       (put-ok t e E l m tr o (part m (inl refl) .level) (rw (append-nil (m .datoms), append-nil (m .children)) at h) g a (part m (inl refl) .few) ws)
       λ id o₁ q. goes
       (record {
-        grown = record { tree = last tr; holds = hLast (q .0) (holds-real h); good = g; exactly = λ x. (λ i. i, λ i. i); more = q .1 };
+        grown = record { tree = last tr; holds = hLast (q .0) (holds-real h); good = g; exactly = λ x. Iff·rfl; more = q .1 };
         full = holds-real h;
       })
   puts (m ∷ k ∷ ns) (d ∷ up) tr o n part h u g a ws =

@@ -22,8 +22,8 @@ use Rattle.rules.specs.Lists.{In, in-left, in-right}
 use Rattle.history.specs.Statement.{inserting, inserts, step, gathered, WellFormed, Shared, FirstShared, Resending}
 use Rattle.history.specs.Order.{clash, same-self}
 use Rattle.history.specs.After.{store-same}
-use Rattle.history.specs.Calls.{Inserted, badly, early, met, stays, done, insert-ok}
-use Rattle.history.specs.Invariant.{inv}
+use Rattle.history.specs.Calls.{Inserted, badly, early, met, stays, done}
+use Rattle.history.specs.Invariant.{inserted-at, inv}
 use Rattle.history.specs.Demand.{later-later}
 
 gathered-in : (bs : List (List ℕ)) (b : List ℕ) → In b bs → (d : Datom) → In d (batchOf b) → In d (gathered bs)
@@ -68,16 +68,12 @@ some-datom b h e = head (batchOf b) (omega (arith, cells-length datomOf 32 (leng
 pub resending : (t : DatomOrd) → Preorder (t .cmp) → (size : ℕ) → (capacity size ≡ 0 → ⊥) → Resending t size
 resending t L size known m h k i b scratch lent some root n e m₁ l k₁ i₁ g scratch₁ lent₁ ready =
     let I = inv t L size known (h .1) in
-    let K = I .known k i in
     let w : WellFormed t b =
-    accepted-well-formed t L (m .extent) (m .store) scratch (gathered (k .batches)) b
-    (insert-ok t L (m .extent) (m .store) (rw (I .sized) known) (I .fits) scratch (gathered (k .batches)) (K .stored) b lent (k .root) (K .root)) e in
+    accepted-well-formed t L (m .extent) (m .store) scratch (gathered (k .batches)) b (inserted-at t L size known I k i b scratch lent) e in
     let I₁ = inv t L size known (later-later (step (h .1) (inserts k i b scratch lent)) l) in
-    let K₁ = I₁ .known k₁ i₁ in
     let d = some-datom b some (w .multiple) in
     let sent : In b (k₁ .batches) = rw (g .1) (in-right b (g .0) (b ∷ k .batches) (inl refl)) in
     let o : inserting t m₁ k₁ scratch₁ b ≡ refuse (Repeated 0) =
-    shared-refused t L (m₁ .extent) (m₁ .store) scratch₁ (gathered (k₁ .batches)) b
-    (insert-ok t L (m₁ .extent) (m₁ .store) (rw (I₁ .sized) known) (I₁ .fits) scratch₁ (gathered (k₁ .batches)) (K₁ .stored) b lent₁ (k₁ .root) (K₁ .root))
-    w ready (d .0) (d .1) (gathered-in (k₁ .batches) b sent) in
+    shared-refused t L (m₁ .extent) (m₁ .store) scratch₁ (gathered (k₁ .batches)) b (inserted-at t L size known I₁ k₁ i₁ b scratch₁ lent₁) w ready (d .0) (d .1)
+    (gathered-in (k₁ .batches) b sent) in
     (rw o, rw o (store-same (m₁ .extent) (m₁ .store)))

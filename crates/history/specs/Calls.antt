@@ -1,12 +1,12 @@
 -- What insert and initialise answer at a root whose pages hold a good tree, and what they leave. Rests on Checks, Look and Grow.
-use Prim.Native.Nat.{ℕ, suc, _+_, _*_, _≤_, Ordering}
+use Prim.Native.Nat.{ℕ, suc, _*_, _≤_, _<_, _<_}
 use native.Mathlib.Omega.{arith}
 use mathlib.Core.Bool.{Bool, true, false}
-use mathlib.Core.List.{List, [], _∷_, _++_}
+use mathlib.Core.List.{List, [], _∷_}
 use mathlib.Core.Logic.{_⊎_, inl, inr, _↔_}
-use mathlib.Core.Path.{_≡_, refl, ap}
+use mathlib.Core.Path.{_≡_, refl}
 use borrow.Author.Tests.{lt-ltb}
-use lib.ListN.{length, replicate}
+use lib.ListN.{length, getD, replicate}
 use Rattle.store.specs.declared.PageId.{PageId}
 use Rattle.store.specs.declared.Extent.{Extent}
 use Rattle.store.specs.Page.{none}
@@ -19,16 +19,16 @@ use Rattle.answer.specs.declared.Refusal.the-variants.{BadStore, Repeated}
 use Rattle.answer.specs.declared.Answer.the-variants.{Done, Refused}
 use Rattle.rules.specs.Page.{Node}
 use Rattle.rules.specs.Tree.{Fetched, fine, Env, Stage, writeRoot, insertTree}
-use Rattle.rules.specs.Lookup.{Look, lookup, Finding, clear, found, afterLook, lookupAll}
+use Rattle.rules.specs.Lookup.{Finding}
 use Rattle.rules.specs.Store.{orElse, badScratch, badRoot, fetchPage, envOf}
 use Rattle.rules.specs.Insert.{Outcome, refuse, outcome, storeFault, rootFault, sort, leafOf, writeFresh, insertAt, insertUnder, insert, initialise, batchOf, insertBytes, initialiseBytes}
-use Rattle.rules.specs.Lists.{In, Rising, turned}
+use Rattle.rules.specs.Lists.{In, Rising}
 use Rattle.rules.specs.Reads.{fetch-tells}
 use Rattle.rules.specs.Sizes.{level-fine}
 use Rattle.history.specs.Statement.{Lent, WellFormed, FirstShared}
-use Rattle.history.specs.Tree.{Tree, blank, last, Good, Exactly, Apart, pending, pending-in, pending-good}
+use Rattle.history.specs.Tree.{Tree, blank, last, Good, Exactly, pending, pending-in, pending-good}
 use Rattle.history.specs.Pages.{page, child, level-is, Holds, noPage, aPage, hLast, hItem, Stored, leaf-full, none-is}
-use Rattle.history.specs.Look.{Has, Looked, isMet, isAbsent, lookup-ok}
+use Rattle.history.specs.Look.{Lookups, noneMet, someMet, lookups-ok}
 use Rattle.history.specs.Held.{held, EnvOk, Storable, none-written, same-more, Excused, Goes, stops, goes, goes-map, at-own}
 use Rattle.history.specs.Grow.{regrown, Rooted, write-root-ok, insert-tree-ok}
 use Rattle.history.specs.After.{in-order, env-ok}
@@ -43,33 +43,6 @@ pub record RootIs (t : DatomOrd) (x : Extent) (s : List ℕ) (root : PageId) (u 
   pub holds : Holds (fetchPage t x s) (child level root) tree
   pub good : Good (t .cmp) tree
   pub exactly : Exactly (λ y. In y u) tree
-
--- the lookups of a batch: none of it is in the tree, or the first that is
-data Lookups (cmp : Datom → Datom → Ordering) (tr : Tree) (i : ℕ) (b : List Datom) : Finding → Type 0 where
-  noneMet : Apart cmp b tr → Lookups cmp tr i b clear
-  someMet :
-      {j : ℕ} (before : List Datom) (d : Datom) (rest : List Datom) → b ≡ before ++ (d ∷ rest) → length before + i ≡ j → Has cmp d tr →
-      ((y : Datom) → In y before → Has cmp y tr → ⊥) → Lookups cmp tr i b (found (Repeated j))
-
-module _ (e : Env) (L : Preorder (e .cmp)) (l : ℕ) (root : PageId) (n : Node) (tr : Tree) (g : Good (e .cmp) tr)
-    (h : Holds (e .fetch) (page l (n .datoms) (n .children)) tr)
-  where
-    lookups-ok : (i : ℕ) (b : List Datom) → Lookups (e .cmp) tr i b (lookupAll e l root (fine n) i b)
-    unfolding lookupAll afterLook
-    lookups-ok i [] = noneMet λ y z j. absurd j
-    lookups-ok i (d ∷ b) = side (lookup e d l root (fine n)) (lookup-ok e L d l root n tr g h) (lookups-ok (suc i) b)
-      where
-        more : {f : Finding} → (Has (e .cmp) d tr → ⊥) → Lookups (e .cmp) tr (suc i) b f → Lookups (e .cmp) tr i (d ∷ b) f
-        more a (noneMet w) = noneMet λ y z j k q. elim j [ inl v ↦ a (z, k, rw v at (turned (e .cmp) L q)) | inr v ↦ w y z v k q ]
-        more a (someMet {j} before x rest p q m w) =
-            let z : suc (length before) + i ≡ j = omega (arith, q) in
-            someMet (d ∷ before) x rest (ap (d ∷_) p) z m λ y v k. elim v [ inl h ↦ a (rw h at k) | inr h ↦ w y h k ]
-
-        side :
-            (k : Look) → Looked (e .cmp) d tr k → Lookups (e .cmp) tr (suc i) b (lookupAll e l root (fine n) (suc i) b) →
-            Lookups (e .cmp) tr i (d ∷ b) (afterLook i k (lookupAll e l root (fine n) (suc i) b))
-        side k (isMet a) w = someMet {j = i} [] d b refl (omega arith) a λ y j. absurd j
-        side k (isAbsent a) w = more a w
 
 -- a call of insert: refused for scratch or for its batch, Repeated, out of levels or room, or done
 pub data Inserted (t : DatomOrd) (x : Extent) (s : List ℕ) (scratch : ℕ) (u : List Datom) (b : List ℕ) : Outcome → Type 0 where
@@ -87,6 +60,19 @@ pub data Called (t : DatomOrd) (x : Extent) (s : List ℕ) (u b : List Datom) : 
   accepts :
       {root : PageId} {o : List Node} → Distinct (t .cmp) b → ((y : Datom) → In y b → Storable t y) → Fresh (t .cmp) b u →
       Rooted t (envOf t x s) (λ y. In y u ⊎ In y b) [] root o → Called t x s u b (record { answer = Done root (length o); pages = o })
+
+-- the datoms of a batch may be stored
+may : (t : DatomOrd) (b : List ℕ) → ((i : ℕ) → getD b i 0 < 256) → ((y : Datom) → In y (batchOf b) → t .stored y ≡ true) → (y : Datom) → In y (batchOf b) → Storable t y
+may t b h f y i = record { form = f y i; words = batch-words b h y i }
+
+pub called :
+    (t : DatomOrd) (x : Extent) (s : List ℕ) (scratch : ℕ) (u : List Datom) (b : List ℕ) {o : Outcome} → Lent s b → Inserted t x s scratch u b o →
+    Called t x s u (batchOf b) o
+called t x s scratch u b lent (badly y) = refuses
+called t x s scratch u b lent (early y n) = refuses
+called t x s scratch u b lent (met y) = refuses
+called t x s scratch u b lent (stays y f) = refuses
+called t x s scratch u b lent (done w f R) = accepts (rising-distinct (t .cmp) (batchOf b) (w .order)) (may t b (lent .bytes) (w .form)) f R
 
 -- past a check
 check :
@@ -141,9 +127,6 @@ module _
         E : EnvOk (envOf t x s)
         E = env-ok t L x s known fits (lent .short)
 
-        may : WellFormed t b → (y : Datom) → In y (batchOf b) → Storable t y
-        may w y i = record { form = w .form y i; words = batch-words b (lent .bytes) y i }
-
         finish :
             WellFormed t b → Fresh (t .cmp) (batchOf b) u → (st : Stage PageId) →
             Goes (Rooted t (envOf t x s) (λ y. In y u ⊎ In y (batchOf b)) []) st → Inserted t x s scratch u b (outcome st)
@@ -169,7 +152,7 @@ module _
                 (λ r o q. rerooted (λ y.
                 (λ i. elim i [ inl j ↦ inl (ex y .0 j) | inr j ↦ inr j ], λ i. elim i [ inl j ↦ inl (ex y .1 j) | inr j ↦ inr j ])) q)
                 (insert-tree-ok t (envOf t x s) E (n .level) root (batchOf b) tr st g (w .order) a
-                (λ y i. elim i [ inl j ↦ stored y (ex y .0 j) | inr j ↦ may w y j ])))
+                (λ y i. elim i [ inl j ↦ stored y (ex y .0 j) | inr j ↦ may t b (lent .bytes) (w .form) y j ])))
             side (someMet {j} before d rest p z m c) =
                 met {i = j}
                 (record {
@@ -190,7 +173,7 @@ module _
             rw n
             (finish w (λ y z i j q. ex z .1 j) _
             (goes-map (λ r o q. rerooted (λ y. (λ i. inr i, λ i. elim i [ inl j ↦ absurd (ex y .1 j) | inr j ↦ j ])) q)
-            (fresh-ok t (envOf t x s) E (batchOf b) (w .order) (may w))))
+            (fresh-ok t (envOf t x s) E (batchOf b) (w .order) (may t b (lent .bytes) (w .form)))))
         at-root {root} {tr} (aPage {l} {n} r q h) g ex w =
             let read : fetchPage t x s root ≡ fine n = level-fine l (fetchPage t x s root) n q in
             rw (r, read) (at-page tr root n read (rw (level-is l (fetchPage t x s root) n q) h) g ex w)
@@ -209,13 +192,6 @@ module _
                 check (Inserted t x s scratch u b) _ (finds-order (t .cmp) L (batchOf b)) (λ r y n. early y λ w. n (w .order)) λ order.
                 at-root (R .holds) (R .good) (R .exactly) (record { multiple = even; few = few; form = form; order = order }))
 
-        pub called : {o : Outcome} → Inserted t x s scratch u b o → Called t x s u (batchOf b) o
-        called (badly y) = refuses
-        called (early y n) = refuses
-        called (met y) = refuses
-        called (stays y f) = refuses
-        called (done w f R) = accepts (rising-distinct (t .cmp) (batchOf b) (w .order)) (may w) f R
-
     pub initialise-ok : (scratch : ℕ) (b : List ℕ) → Lent s b → Called t x s [] (batchOf b) (initialiseBytes t x s scratch b)
     unfolding initialiseBytes initialise storeFault writeFresh outcome envOf
     initialise-ok scratch b lent = side (badScratch x scratch) refl
@@ -232,7 +208,7 @@ module _
             ((y : Datom) → In y (batchOf b) → t .stored y ≡ true) → Distinct (t .cmp) (batchOf b) →
             Called t x s [] (batchOf b) (writeFresh (envOf t x s) (sort (t .cmp) (batchOf b)))
         written form d =
-            let a : (y : Datom) → In y (batchOf b) → Storable t y = λ y i. record { form = form y i; words = batch-words b (lent .bytes) y i } in
+            let a : (y : Datom) → In y (batchOf b) → Storable t y = may t b (lent .bytes) form in
             finish d a _
             (fresh-ok t (envOf t x s) (env-ok t L x s known fits (lent .short)) (sort (t .cmp) (batchOf b)) (sort-rising (t .cmp) L (batchOf b) d)
             (λ y i. a y (sort-in (t .cmp) (batchOf b) y .0 i)))

@@ -1,7 +1,7 @@
 -- Going down: the first real child at or after the datoms that pass a test. Rests on Tree, Pages and the order's laws.
-use Prim.Native.Nat.{ℕ, zero, suc, Ordering, Ordering·lt}
+use Prim.Native.Nat.{ℕ, suc, Ordering, Ordering·lt}
 use mathlib.Core.Bool.{Bool, true, false}
-use mathlib.Core.List.{List, [], _∷_}
+use mathlib.Core.List.{List, _∷_}
 use mathlib.Core.Logic.{_⊎_, inl, inr}
 use mathlib.Core.Path.{_≡_, refl}
 use lib.ListN.{drop}
@@ -13,6 +13,7 @@ use Rattle.rules.specs.Tree.{Fetched}
 use Rattle.rules.specs.Lookup.{childOf}
 use Rattle.rules.specs.Lists.{In}
 use Rattle.history.specs.Order.{clash, Front, AtMost}
+use Rattle.history.specs.Rank.{Stop}
 use Rattle.history.specs.Tree.{Tree, blank, last, item, InTree, own, Real, Good}
 use Rattle.history.specs.Pages.{page, Holds, noPage, aPage, hLast, hItem, Stored, holds-real}
 
@@ -106,30 +107,6 @@ child-in p x (item t d r) i = side (p d) refl (child-in p x r)
     side : (b : Bool) → p d ≡ b → (InTree x (childBy p r) → InTree x r) → InTree x (item t d r)
     side true e ih = inr (inr (ih (rw (e, childBy) at i)))
     side false e ih = first-in x (item t d r) (rw (e, childBy) at i)
-
--- the first datom of a list
-abbrev pub Head : Datom → List Datom → Type 0
-Head y [] = ⊥
-Head y (d ∷ ds) = y ≡ d
-
-pub head-in : (y : Datom) (i : ℕ) (ds : List Datom) → Head y (drop i ds) → In y ds
-head-in y zero [] h = h
-head-in y (suc i) [] h = h
-head-in y zero (d ∷ ds) h = inl h
-head-in y (suc i) (d ∷ ds) h = inr (head-in y i ds h)
-
--- the first datom that does not pass
-abbrev pub Stop : (Datom → Bool) → List Datom → Datom → Type 0
-Stop p ds y = Head y (drop (rankBy p ds) ds)
-
-pub stop-fails : (p : Datom → Bool) (y : Datom) (ds : List Datom) → Stop p ds y → p y ≡ false
-unfolding rankBy
-stop-fails p y [] h = absurd h
-stop-fails p y (d ∷ ds) h = side (p d) refl (stop-fails p y ds)
-  where
-    side : (b : Bool) → p d ≡ b → (Stop p ds y → p y ≡ false) → p y ≡ false
-    side true e ih = ih (rw (e, rankBy) at h)
-    side false e ih = let k : y ≡ d = rw (e, rankBy) at h in rw k e
 
 module _ (cmp : Datom → Datom → Ordering) where
   or-good : (t r : Tree) → Good cmp t → Good cmp r → Good cmp (orNext t r)

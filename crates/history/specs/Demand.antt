@@ -26,9 +26,9 @@ use Rattle.history.specs.Order.{clash}
 use Rattle.history.specs.Held.{Excused}
 use Rattle.history.specs.After.{in-order}
 use Rattle.history.specs.Sort.{Fresh, sort-in, sort-rising}
-use Rattle.history.specs.Calls.{Inserted, badly, early, met, stays, done, insert-ok}
+use Rattle.history.specs.Calls.{Inserted, badly, early, met, stays, done}
 use Rattle.history.specs.Roots.{list-root, check-root}
-use Rattle.history.specs.Invariant.{Inv, inv}
+use Rattle.history.specs.Invariant.{Inv, inserted-at, inv}
 
 -- what comes later than what comes later
 pub later-later : {t : DatomOrd} {m m₁ m₂ : Moment} → Later t m m₁ → Later t m₁ m₂ → Later t m m₂
@@ -115,8 +115,7 @@ module _ (t : DatomOrd) (L : Preorder (t .cmp)) (size : ℕ) (known : capacity s
         kept = λ m₁ l lo hi a b n f.
             listed-at m₁ (h .0, later-later (h .1) l) k (later-known l k i) lo hi a b n f ∙ sym (listed-at m h k i lo hi a b n f);
         answered = λ b lent w scratch e.
-            answered-ok t L (m .extent) (m .store) scratch (gathered (k .batches)) b
-            (insert-ok t L (m .extent) (m .store) (rw (I .sized) known) (I .fits) scratch (gathered (k .batches)) (K .stored) b lent (k .root) (K .root)) w e;
+            answered-ok t L (m .extent) (m .store) scratch (gathered (k .batches)) b (inserted-at t L size known I k i b scratch lent) w e;
         sound = check-root t L (m .extent) (m .store) (ready m I) (k .root) (gathered (k .batches)) (K .root);
         readable = I .readable;
       }

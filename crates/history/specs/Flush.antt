@@ -6,7 +6,7 @@ use native.Mathlib.Omega.{arith}
 use mathlib.Core.Bool.{Bool, true, false}
 use mathlib.Core.List.{List, [], _∷_, _++_}
 use mathlib.Core.Logic.{_⊎_, inl, inr}
-use mathlib.Core.Path.{_≡_, refl, sym, _∙_, ap}
+use mathlib.Core.Path.{_≡_, refl, ap}
 use lib.ListN.{length}
 use Rattle.store.specs.declared.PageId.{PageId}
 use Rattle.store.specs.Page.{isNone}
@@ -16,9 +16,9 @@ use Rattle.rules.specs.Node.{anyPending}
 use Rattle.rules.specs.Tree.{Fetched}
 use Rattle.rules.specs.Lists.{In, Rising}
 use Rattle.history.specs.Order.{clash}
-use Rattle.history.specs.Tree.{Tree, blank, last, item, InTree, Real, Full, Good, Exactly, Apart, pending, pending-in}
-use Rattle.history.specs.Graft.{isBlank, real-flag, prepend, Tail, nothing, then, join, graft, graft-in, join-in, prepend-in, prepend-has, prepend-rest, ClosedItems, Around, graft-good, run-around, prepend-good}
-use Rattle.history.specs.Pages.{page, child, Holds, noPage, aPage, hLast, hItem, Stored, Extends, holds-extends, holds-real, child-real, child-blank, child-page}
+use Rattle.history.specs.Tree.{Tree, blank, last, item, InTree, Real, isBlank, real-flag, Full, Good, Exactly, Apart, pending, pending-in}
+use Rattle.history.specs.Graft.{prepend, Tail, nothing, then, join, graft, graft-in, join-in, prepend-in, prepend-has, prepend-rest, ClosedItems, Around, graft-good, run-around, prepend-good}
+use Rattle.history.specs.Pages.{page, child, Holds, noPage, aPage, hLast, hItem, Stored, Extends, holds-extends, child-real, child-blank, child-flag, child-page}
 use Rattle.history.specs.Span.{Nones, Closed}
 
 -- the old pages, or the old and the new
@@ -93,11 +93,6 @@ module _ {f g : PageId → Fetched} {l : ℕ} where
       side : (b : Bool) → isNone c ≡ b → (pendings cs ≡ 0 → Full (suc l) r) → Real t × Full (suc l) r
       side true q ih = let n : suc (pendings cs) ≡ 0 = rw (q, pendings) at z in absurd (omega arith)
       side false q ih = (child-real k q, ih (rw (q, pendings) at z))
-
--- a flag says the same of a child's id and of its tree
-child-flag : {f : PageId → Fetched} {l : ℕ} {c : PageId} {t : Tree} → Holds f (child l c) t → isNone c ≡ isBlank t
-child-flag (noPage n) = n
-child-flag (aPage {t} r q h) = r ∙ sym (real-flag t (holds-real h))
 
 module _ (f g : PageId → Fetched) (l : ℕ) where
   -- items at the front of a row

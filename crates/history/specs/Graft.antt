@@ -8,23 +8,7 @@ use Rattle.datom.specs.declared.Datom.{Datom}
 use Rattle.index.specs.Laws.{Preorder}
 use Rattle.rules.specs.Lists.{In, in-left, in-right, Rising}
 use Rattle.history.specs.Order.{clash}
-use Rattle.history.specs.Tree.{Tree, blank, last, item, InTree, own, Real, Full, Good, own-in, Exactly, item-in, item-same, Apart, pending, pending-in, pending-own, midpoint}
-
--- a child that is none
-abbrev pub isBlank : Tree → Bool
-isBlank blank = true
-isBlank (last t) = false
-isBlank (item t d r) = false
-
-pub real-flag : (t : Tree) → Real t → isBlank t ≡ false
-real-flag blank u = absurd u
-real-flag (last t) u = refl
-real-flag (item t d r) u = refl
-
-flag-real : (t : Tree) → isBlank t ≡ false → Real t
-flag-real blank e = clash e refl
-flag-real (last t) e = tt
-flag-real (item t d r) e = tt
+use Rattle.history.specs.Tree.{Tree, blank, last, item, InTree, own, Real, isBlank, flag-real, Full, Good, own-in, Exactly, item-in, item-same, Apart, pending, pending-in, pending-own, midpoint}
 
 -- items in front of a tree: each a child and the datom behind it
 abbrev pub prepend : List (Tree × Datom) → Tree → Tree

@@ -20,14 +20,14 @@ use Rattle.rules.specs.Tree.{fine}
 use Rattle.rules.specs.Store.{fetchPage, envOf, storeAfter}
 use Rattle.rules.specs.Insert.{Outcome, batchOf}
 use Rattle.rules.specs.Lists.{In, in-left, in-right, in-append}
-use Rattle.history.specs.Statement.{Known, Moment, noRoot, beginning, after, Next, others, inserts, initialises, Later, now, step, gathered}
+use Rattle.history.specs.Statement.{Known, Moment, inserting, noRoot, beginning, after, Lent, Next, inserts, initialises, others, Later, now, step, gathered}
 use Rattle.history.specs.Tree.{blank}
 use Rattle.history.specs.Pages.{noPage, Extends, holds-extends, none-is}
 use Rattle.history.specs.Held.{nth, held, Storable}
 use Rattle.history.specs.Grow.{Rooted}
 use Rattle.history.specs.After.{fetch-kept, long-enough, store-keeps, big-of, after-fits, held-after}
 use Rattle.history.specs.Sort.{Distinct, Fresh, distinct-append}
-use Rattle.history.specs.Calls.{RootIs, Called, refuses, accepts, insert-ok, called, initialise-ok}
+use Rattle.history.specs.Calls.{RootIs, Inserted, Called, refuses, accepts, insert-ok, called, initialise-ok}
 
 pub record KnownOk (t : DatomOrd) (x : Extent) (s : List ℕ) (k : Known) : Type 0 where
   pub distinct : Distinct (t .cmp) (gathered (k .batches))
@@ -151,17 +151,21 @@ module _ (t : DatomOrd) (L : Preorder (t .cmp)) (size : ℕ) (known : capacity s
         readable = all-readable x s (I .sized) (I .fits) k b root pages R (I .readable);
       }
 
-  next-inv : {m m₁ : Moment} → Next t m m₁ → Inv t size m → Inv t size m₁
-  next-inv {m} (others s e) I = same-pages m s e I
-  next-inv {m} (inserts k i b scratch lent) I =
+  -- what an insert at a known root is
+  pub inserted-at :
+      {m : Moment} → Inv t size m → (k : Known) → In k (m .roots) → (b : List ℕ) (scratch : ℕ) → Lent (m .store) b →
+      Inserted t (m .extent) (m .store) scratch (gathered (k .batches)) b (inserting t m k scratch b)
+  inserted-at {m} I k i b scratch lent =
       let K = I .known k i in
-      let c : capacity (m .extent .size) ≡ 0 → ⊥ = rw (I .sized) known in
-      after-call m k b _ I K
-      (called t L (m .extent) (m .store) c (I .fits) scratch (gathered (k .batches)) (K .stored) b lent
-      (insert-ok t L (m .extent) (m .store) c (I .fits) scratch (gathered (k .batches)) (K .stored) b lent (k .root) (K .root)))
+      insert-ok t L (m .extent) (m .store) (rw (I .sized) known) (I .fits) scratch (gathered (k .batches)) (K .stored) b lent (k .root) (K .root)
+
+  next-inv : {m m₁ : Moment} → Next t m m₁ → Inv t size m → Inv t size m₁
+  next-inv {m} (inserts k i b scratch lent) I =
+      after-call m k b _ I (I .known k i) (called t (m .extent) (m .store) scratch (gathered (k .batches)) b lent (inserted-at I k i b scratch lent))
   next-inv {m} (initialises b scratch lent) I =
       after-call m noRoot b _ I (nothing-known t (m .extent) (m .store))
       (initialise-ok t L (m .extent) (m .store) (rw (I .sized) known) (I .fits) scratch b lent)
+  next-inv {m} (others s e) I = same-pages m s e I
 
   pub inv : {s : List ℕ} {m : Moment} → Later t (beginning size s) m → Inv t size m
   inv {s} now =

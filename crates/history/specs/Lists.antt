@@ -24,9 +24,10 @@ use Rattle.rules.specs.Store.{badStore, fetchPage}
 use Rattle.rules.specs.Listing.{Frame, beginFrames, endFrames, cursorOf, frameOf, Least, sameIndices, staying, moved, onward, stepList, whole, listFrom}
 use Rattle.rules.specs.Lists.{In, Rising, less, turned}
 use Rattle.history.specs.Order.{clash, is-true, is-false, same-test, upTo, Front, AtMost, up-false, up-above, same-below, one-way, not-self, below-front, up-front}
+use Rattle.history.specs.Rank.{Stop, stop-fails}
 use Rattle.history.specs.Tree.{Tree, blank, last, item, InTree, own, Good}
 use Rattle.history.specs.Pages.{page, Holds, Stored, holds-own}
-use Rattle.history.specs.Child.{childBy, child-stored, child-leaf, child-good, Stop, stop-fails, cover}
+use Rattle.history.specs.Child.{childBy, child-stored, child-leaf, child-good, cover}
 use Rattle.history.specs.Cursor.{frames-back}
 use Rattle.history.specs.Step.{down, opensBy, along, path-agree, LeastOk, isNothing, isLeast, step-ok}
 

@@ -1,23 +1,28 @@
--- Lookup meets a datom exactly if the tree has one that is equal to it. Rests on Child.
-use Prim.Native.Nat.{ℕ, zero, suc, Ordering, Ordering·lt, Ordering·eq, Ordering·gt}
+-- Lookup meets a datom exactly if the tree has one that is equal to it, and the lookups of a batch find the first of it that is there.
+-- Rests on Child.
+use Prim.Native.Nat.{ℕ, zero, suc, _+_, Ordering, Ordering·lt, Ordering·eq, Ordering·gt}
+use native.Mathlib.Omega.{arith}
 use mathlib.Core.Bool.{Bool, true, false}
-use mathlib.Core.List.{List, [], _∷_}
+use mathlib.Core.List.{List, [], _∷_, _++_}
 use mathlib.Core.Logic.{_⊎_, inl, inr}
-use mathlib.Core.Path.{_≡_, refl}
-use lib.ListN.{drop}
+use mathlib.Core.Path.{_≡_, refl, ap}
+use lib.ListN.{length, drop}
 use Rattle.store.specs.declared.PageId.{PageId}
 use Rattle.store.specs.Laws.{apart}
 use Rattle.datom.specs.declared.Datom.{Datom}
 use Rattle.index.specs.Order.{isLess, isSame}
 use Rattle.index.specs.Laws.{Preorder}
+use Rattle.answer.specs.declared.Refusal.the-variants.{Repeated}
 use Rattle.rules.specs.Page.{Node}
 use Rattle.rules.specs.Node.{rankBy, below, headSame}
 use Rattle.rules.specs.Tree.{fine, Env, fetchAt}
-use Rattle.rules.specs.Lookup.{Look, met, absent, lookup}
+use Rattle.rules.specs.Lookup.{Look, met, absent, lookup, Finding, clear, found, afterLook, lookupAll}
+use Rattle.rules.specs.Lists.{In, turned}
 use Rattle.history.specs.Order.{clash, AtMost, below-same, below-front}
-use Rattle.history.specs.Tree.{Tree, InTree, own, Good, own-in}
+use Rattle.history.specs.Rank.{head-in, Stop, stop-fails}
+use Rattle.history.specs.Tree.{Tree, InTree, own, Good, own-in, Apart}
 use Rattle.history.specs.Pages.{page, Holds, Stored, holds-own}
-use Rattle.history.specs.Child.{childBy, childAt, child-stored, child-leaf, child-in, child-good, head-in, Stop, stop-fails, cover}
+use Rattle.history.specs.Child.{childBy, childAt, child-stored, child-leaf, child-in, child-good, cover}
 
 -- the tree has a datom equal to d
 abbrev pub Has : (Datom → Datom → Ordering) → Datom → Tree → Type 0
@@ -90,3 +95,30 @@ module _ (e : Env) (L : Preorder (e .cmp)) (d : Datom) where
           Looked (e .cmp) d t (lookup e d (suc l) p (fine n))
       side true q (here k) ih = rw (q, lookup) (isMet k)
       side false q (further k) ih = rw (q, lookup, s .read) (up (e .cmp) L d k ih)
+
+-- the lookups of a batch: none of it is in the tree, or the first that is
+pub data Lookups (cmp : Datom → Datom → Ordering) (tr : Tree) (i : ℕ) (b : List Datom) : Finding → Type 0 where
+  noneMet : Apart cmp b tr → Lookups cmp tr i b clear
+  someMet :
+      {j : ℕ} (before : List Datom) (d : Datom) (rest : List Datom) → b ≡ before ++ (d ∷ rest) → length before + i ≡ j → Has cmp d tr →
+      ((y : Datom) → In y before → Has cmp y tr → ⊥) → Lookups cmp tr i b (found (Repeated j))
+
+module _ (e : Env) (L : Preorder (e .cmp)) (l : ℕ) (root : PageId) (n : Node) (tr : Tree) (g : Good (e .cmp) tr)
+    (h : Holds (e .fetch) (page l (n .datoms) (n .children)) tr)
+  where
+    pub lookups-ok : (i : ℕ) (b : List Datom) → Lookups (e .cmp) tr i b (lookupAll e l root (fine n) i b)
+    unfolding lookupAll afterLook
+    lookups-ok i [] = noneMet λ y z j. absurd j
+    lookups-ok i (d ∷ b) = side (lookup e d l root (fine n)) (lookup-ok e L d l root n tr g h) (lookups-ok (suc i) b)
+      where
+        more : {f : Finding} → (Has (e .cmp) d tr → ⊥) → Lookups (e .cmp) tr (suc i) b f → Lookups (e .cmp) tr i (d ∷ b) f
+        more a (noneMet w) = noneMet λ y z j k q. elim j [ inl v ↦ a (z, k, rw v at (turned (e .cmp) L q)) | inr v ↦ w y z v k q ]
+        more a (someMet {j} before x rest p q m w) =
+            let z : suc (length before) + i ≡ j = omega (arith, q) in
+            someMet (d ∷ before) x rest (ap (d ∷_) p) z m λ y v k. elim v [ inl h ↦ a (rw h at k) | inr h ↦ w y h k ]
+
+        side :
+            (k : Look) → Looked (e .cmp) d tr k → Lookups (e .cmp) tr (suc i) b (lookupAll e l root (fine n) (suc i) b) →
+            Lookups (e .cmp) tr i (d ∷ b) (afterLook i k (lookupAll e l root (fine n) (suc i) b))
+        side k (isMet a) w = someMet {j = i} [] d b refl (omega arith) a λ y j. absurd j
+        side k (isAbsent a) w = more a w

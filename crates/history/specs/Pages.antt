@@ -3,7 +3,7 @@ use Prim.Native.Nat.{ℕ, suc}
 use mathlib.Core.Bool.{Bool, true, false}
 use mathlib.Core.List.{List, [], _∷_, _++_}
 use mathlib.Core.Logic.{inl, inr}
-use mathlib.Core.Path.{_≡_, refl, ap}
+use mathlib.Core.Path.{_≡_, refl, sym, _∙_, ap}
 use borrow.Author.Tests.{eqb-true}
 use lib.Dec.{eqb}
 use lib.ListN.{length, getD, replicate}
@@ -15,7 +15,7 @@ use Rattle.rules.specs.Page.{Node}
 use Rattle.rules.specs.Tree.{Fetched, faulty, fine, atLevel}
 use Rattle.rules.specs.Lists.{In}
 use Rattle.history.specs.Order.{clash}
-use Rattle.history.specs.Tree.{Tree, blank, last, item, InTree, own, Real, Ends, Full, pending}
+use Rattle.history.specs.Tree.{Tree, blank, last, item, InTree, own, Real, isBlank, real-flag, Ends, Full, pending}
 
 -- where a tree may stand: in the datoms and children of a page of level l, or as a child in such a page
 pub data Place : Type 0 where
@@ -89,6 +89,10 @@ module _ {f : PageId → Fetched} where
   pub child-blank : {l : ℕ} {c : PageId} {t : Tree} → Holds f (child l c) t → isNone c ≡ true → t ≡ blank
   child-blank (noPage n) q = refl
   child-blank (aPage r e h) q = absurd (clash r q)
+
+  pub child-flag : {l : ℕ} {c : PageId} {t : Tree} → Holds f (child l c) t → isNone c ≡ isBlank t
+  child-flag (noPage n) = n
+  child-flag (aPage {t} r q h) = r ∙ sym (real-flag t (holds-real h))
 
   pub child-page : {l : ℕ} {c : PageId} {t : Tree} → Holds f (child (suc l) c) t → isNone c ≡ false → Stored f l c t
   child-page (noPage n) q = absurd (clash q n)

@@ -1,6 +1,6 @@
 -- One step of a listing: from the frames that a test gives it takes the least datom that does not pass, and the frames that it leaves
 -- are those of the test "not above it". Rests on Child.
-use Prim.Native.Nat.{ℕ, zero, suc, _≤_, _<_, zero-le, suc-le-suc, Ordering, Ordering·lt, Ordering·eq, Ordering·gt}
+use Prim.Native.Nat.{ℕ, zero, suc, _<_, Ordering, Ordering·lt, Ordering·eq, Ordering·gt}
 use native.Mathlib.Omega.{arith}
 use mathlib.Core.Bool.{Bool, true, false}
 use mathlib.Core.List.{List, [], _∷_, map}
@@ -16,38 +16,12 @@ use Rattle.rules.specs.Page.{Node}
 use Rattle.rules.specs.Node.{rankBy, isMidpoint, nextMidpoint}
 use Rattle.rules.specs.Tree.{Fetched, faulty, fine, atLevel}
 use Rattle.rules.specs.Listing.{Path, path, longer, pathBy, never, Open, frameOf, opened, openOne, openFrames, Least, noneLeft, least, after, taking, choose, leastOf}
-use Rattle.rules.specs.Lists.{In, Rising, turned}
+use Rattle.rules.specs.Lists.{Rising, turned}
 use Rattle.history.specs.Order.{clash, is-true, upTo, Front, AtMost, not-both, up-false, up-true, one-way, not-self, lower}
+use Rattle.history.specs.Rank.{Head, head-in, Stop, stop-fails, rank-le, stop-short, rank-agree, rank-next, own-cover}
 use Rattle.history.specs.Tree.{Tree, blank, last, item, InTree, own, Good, own-in, own-rising}
 use Rattle.history.specs.Pages.{page, Holds, hLast, hItem, Stored, holds-own, holds-lengths, child-real}
-use Rattle.history.specs.Child.{childBy, firstChild, nextChild, childAt, child-stored, child-leaf, or-in, first-in, child-in, child-good, Head, head-in, Stop, stop-fails, cover}
-
-rank-le : (p : Datom → Bool) (ds : List Datom) → rankBy p ds ≤ length ds
-unfolding rankBy
-rank-le p [] = zero-le
-rank-le p (d ∷ ds) = side (p d) refl (rank-le p ds)
-  where
-    side : (b : Bool) → p d ≡ b → rankBy p ds ≤ length ds → rankBy p (d ∷ ds) ≤ suc (length ds)
-    side true e ih = rw (e, rankBy) (suc-le-suc ih)
-    side false e ih = rw (e, rankBy) zero-le
-
-stop-short : (p : Datom → Bool) (x : Datom) (ds : List Datom) → Stop p ds x → rankBy p ds < length ds
-unfolding rankBy
-stop-short p x [] h = absurd h
-stop-short p x (d ∷ ds) h = side (p d) refl (stop-short p x ds)
-  where
-    side : (b : Bool) → p d ≡ b → (Stop p ds x → rankBy p ds < length ds) → rankBy p (d ∷ ds) < suc (length ds)
-    side true e ih = rw (e, rankBy) (suc-le-suc (ih (rw (e, rankBy) at h)))
-    side false e ih = rw (e, rankBy) (suc-le-suc zero-le)
-
-rank-agree : (p q : Datom → Bool) (ds : List Datom) → ((x : Datom) → In x ds → p x ≡ q x) → rankBy p ds ≡ rankBy q ds
-unfolding rankBy
-rank-agree p q [] a = refl
-rank-agree p q (d ∷ ds) a = side (q d) refl (rank-agree p q ds (λ x i. a x (inr i)))
-  where
-    side : (b : Bool) → q d ≡ b → rankBy p ds ≡ rankBy q ds → rankBy p (d ∷ ds) ≡ rankBy q (d ∷ ds)
-    side true e ih = rw (a d (inl refl), e, rankBy) (ap suc ih)
-    side false e ih = rw (a d (inl refl), e, rankBy)
+use Rattle.history.specs.Child.{childBy, firstChild, nextChild, childAt, child-stored, child-leaf, or-in, first-in, child-in, child-good, cover}
 
 -- beside a pending datom the next child stays
 same-child : (cs : List PageId) (i : ℕ) → isNone (getD cs i none) ≡ true → i < length cs → nextChild (drop i cs) ≡ nextChild (drop (suc i) cs)
@@ -110,42 +84,6 @@ path-agree f p q (suc l) r n t h a =
     rw (← e, s .read, k)
 
 module _ (cmp : Datom → Datom → Ordering) (L : Preorder cmp) where
-  rank-above : (x : Datom) (ds : List Datom) → ((y : Datom) → In y ds → cmp x y ≡ Ordering·lt) → rankBy (upTo cmp x) ds ≡ 0
-  unfolding rankBy
-  rank-above x [] a = refl
-  rank-above x (d ∷ ds) a = rw (up-false cmp (a d (inl refl)), rankBy)
-
-  -- past the first datom that does not pass
-  rank-next : (p : Datom → Bool) (x : Datom) (ds : List Datom) → Rising cmp ds → Stop p ds x → rankBy (upTo cmp x) ds ≡ suc (rankBy p ds)
-  unfolding rankBy
-  rank-next p x [] r h = absurd h
-  rank-next p x (d ∷ ds) r h = side (p d) refl (rank-next p x ds (r .1))
-    where
-      side : (b : Bool) → p d ≡ b → (Stop p ds x → rankBy (upTo cmp x) ds ≡ suc (rankBy p ds)) → rankBy (upTo cmp x) (d ∷ ds) ≡ suc (rankBy p (d ∷ ds))
-      side true e ih =
-          let k : Stop p ds x = rw (e, rankBy) at h in
-          let v : upTo cmp x d ≡ true = up-true cmp (one-way cmp L (r .0 x (head-in x (rankBy p ds) ds k))) in
-          rw (e, v, rankBy) (ap suc (ih k))
-      side false e ih =
-          let k : x ≡ d = rw (e, rankBy) at h in
-          let v : upTo cmp x d ≡ true = up-true cmp (not-self cmp L k) in
-          rw (e, v, rankBy) (ap suc (rank-above x ds (λ y i. rw k (r .0 y i))))
-
-  -- a datom of the page that does not pass is at or above the first such
-  own-cover :
-      (p : Datom → Bool) (z : Datom) (ds : List Datom) → Rising cmp ds → In z ds → p z ≡ false → (y : Datom) × Stop p ds y × AtMost cmp y z
-  unfolding rankBy
-  own-cover p z [] r i n = absurd i
-  own-cover p z (d ∷ ds) r i n = side (p d) refl i (λ j. own-cover p z ds (r .1) j n)
-    where
-      side :
-          (b : Bool) → p d ≡ b → In z (d ∷ ds) → (In z ds → (y : Datom) × Stop p ds y × AtMost cmp y z) →
-          (y : Datom) × Stop p (d ∷ ds) y × AtMost cmp y z
-      side true e (inl j) ih = absurd (clash n (rw j e))
-      side true e (inr j) ih = rw (e, rankBy) (ih j)
-      side false e (inl j) ih = rw (e, rankBy) (d, refl, inl j)
-      side false e (inr j) ih = rw (e, rankBy) (d, refl, inr (r .0 z j))
-
   -- what is in the child is never equal to the first datom of the page that does not pass
   child-apart : (p : Datom → Bool) (d x : Datom) (t : Tree) → Good cmp t → InTree d (childBy p t) → Stop p (own t) x → cmp d x ≡ Ordering·eq → ⊥
   unfolding childBy rankBy

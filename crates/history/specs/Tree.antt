@@ -1,11 +1,12 @@
 -- The middle layer: trees with no page number in them, what stands in one, and when one is good. Over any order.
 use Prim.Native.Nat.{ℕ, zero, suc, Ordering, Ordering·lt, Ordering·eq}
+use mathlib.Core.Bool.{Bool, true, false}
 use mathlib.Core.List.{List, [], _∷_, _++_}
 use mathlib.Core.Logic.{_⊎_, inl, inr, _↔_}
 use mathlib.Core.Path.{_≡_, refl, ap}
 use Rattle.datom.specs.declared.Datom.{Datom}
 use Rattle.rules.specs.Lists.{In, in-append, Rising}
-use Rattle.history.specs.Order.{not-both}
+use Rattle.history.specs.Order.{clash, not-both}
 
 -- no page; or a page with all that is below it, from left to right: each datom with the child before it, then the last child
 pub data Tree : Type 0 where
@@ -30,6 +31,22 @@ abbrev pub Real : Tree → Type 0
 Real blank = ⊥
 Real (last t) = Unit {0}
 Real (item t d r) = Unit {0}
+
+-- the test for no page
+abbrev pub isBlank : Tree → Bool
+isBlank blank = true
+isBlank (last t) = false
+isBlank (item t d r) = false
+
+pub real-flag : (t : Tree) → Real t → isBlank t ≡ false
+real-flag blank u = absurd u
+real-flag (last t) u = refl
+real-flag (item t d r) u = refl
+
+pub flag-real : (t : Tree) → isBlank t ≡ false → Real t
+flag-real blank e = clash e refl
+flag-real (last t) e = tt
+flag-real (item t d r) e = tt
 
 -- what level l asks of a last child: "above, the last child real"
 abbrev pub Ends : ℕ → Tree → Type 0

@@ -112,7 +112,8 @@ module _
     unfolding nth
     rest-pages count m o w i n e = subst (λ (q : ℕ). Writable t (capacity (x .size)) (pageId q) n) (omega arith) (w (suc i) n e)
 
-    page-long : (count : ℕ) (m : Node) (o : List Node) → Pages count (m ∷ o) → length (encodePage (x .size) (capacity (x .size)) m) ≡ x .size
+    page-long :
+        (count : ℕ) (m : Node) (o : List Node) → Pages count (m ∷ o) → length (encodePage (x .size) (capacity (x .size)) m) ≡ x .size
     unfolding nth
     page-long count m o w = encoded-length t (x .size) (capacity (x .size)) (pageId (count + 0)) m (w 0 m refl) big
 
@@ -149,7 +150,14 @@ module _
       unfolding fetchPage pageAt storeAfter patch
       fetch-new i n e =
           let z : (x .count + i) * x .size ≡ length (take (x .count * x .size) s) + i * x .size = omega (arith, front) in
-          rw (lt-ltb (x .count + i) (x .count + length o) (omega (arith, nth-lt o i n e)), z, append-assoc, drop-append-add, page-there (x .count) o _ w i n e, read-back t (x .size) (capacity (x .size)) (pageId (x .count + i)) n (w i n e) big)
+          rw (
+            lt-ltb (x .count + i) (x .count + length o) (omega (arith, nth-lt o i n e)),
+            z,
+            append-assoc,
+            drop-append-add,
+            page-there (x .count) o _ w i n e,
+            read-back t (x .size) (capacity (x .size)) (pageId (x .count + i)) n (w i n e) big,
+          )
 
       pub after-fits : (x .count + length o) * x .size ≤ length (storeAfter x s o)
       unfolding storeAfter patch

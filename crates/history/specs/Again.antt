@@ -1,4 +1,4 @@
--- A batch that is sent again, proved from the invariant of a history.
+-- A batch that is sent again. Rests on Invariant.
 use Prim.Native.Nat.{ℕ, _/_, _%_, _<_, Ordering}
 use native.Mathlib.Omega.{arith}
 use mathlib.Core.Bool.{false}
@@ -31,7 +31,8 @@ gathered-in (c ∷ bs) b (inl e) d i = in-left d (batchOf c) (gathered bs) (rw e
 gathered-in (c ∷ bs) b (inr j) d i = in-right d (batchOf c) (gathered bs) (gathered-in bs b j d i)
 
 -- a batch of which every datom is shared shares its first one first
-first-zero : (cmp : Datom → Datom → Ordering) (u b : List Datom) (i : ℕ) → ((d : Datom) → In d b → Shared cmp u d) → FirstShared cmp u b i → i ≡ 0
+first-zero :
+    (cmp : Datom → Datom → Ordering) (u b : List Datom) (i : ℕ) → ((d : Datom) → In d b → Shared cmp u d) → FirstShared cmp u b i → i ≡ 0
 first-zero cmp u b i a F = side (F .before) refl
   where
     side : (p : List Datom) → F .before ≡ p → i ≡ 0
@@ -74,6 +75,6 @@ resending t L size known m h k i b scratch lent some root n e m₁ l k₁ i₁ g
     let d = some-datom b some (w .multiple) in
     let sent : In b (k₁ .batches) = rw (g .1) (in-right b (g .0) (b ∷ k .batches) (inl refl)) in
     let o : inserting t m₁ k₁ scratch₁ b ≡ refuse (Repeated 0) =
-    shared-refused t L (m₁ .extent) (m₁ .store) scratch₁ (gathered (k₁ .batches)) b (inserted-at t L size known I₁ k₁ i₁ b scratch₁ lent₁) w ready (d .0) (d .1)
-    (gathered-in (k₁ .batches) b sent) in
+    shared-refused t L (m₁ .extent) (m₁ .store) scratch₁ (gathered (k₁ .batches)) b (inserted-at t L size known I₁ k₁ i₁ b scratch₁ lent₁) w ready
+    (d .0) (d .1) (gathered-in (k₁ .batches) b sent) in
     (rw o, rw o (store-same (m₁ .extent) (m₁ .store)))

@@ -49,10 +49,13 @@ pub data Inserted (t : DatomOrd) (x : Extent) (s : List ℕ) (scratch : ℕ) (u 
   badly : badScratch x scratch ≡ true → Inserted t x s scratch u b (refuse BadStore)
   early : {r : Refusal} → Early r → (WellFormed t b → ⊥) → Inserted t x s scratch u b (refuse r)
   met : {i : ℕ} → FirstShared (t .cmp) u (batchOf b) i → Inserted t x s scratch u b (refuse (Repeated i))
-  stays : {r : Refusal} {o : List Node} → Excused r → Fresh (t .cmp) (batchOf b) u → Inserted t x s scratch u b (record { answer = Refused r; pages = o })
+  stays :
+      {r : Refusal} {o : List Node} → Excused r → Fresh (t .cmp) (batchOf b) u →
+      Inserted t x s scratch u b (record { answer = Refused r; pages = o })
   done :
       {root : PageId} {o : List Node} → WellFormed t b → Fresh (t .cmp) (batchOf b) u →
-      Rooted t (envOf t x s) (λ y. In y u ⊎ In y (batchOf b)) [] root o → Inserted t x s scratch u b (record { answer = Done root (length o); pages = o })
+      Rooted t (envOf t x s) (λ y. In y u ⊎ In y (batchOf b)) [] root o →
+      Inserted t x s scratch u b (record { answer = Done root (length o); pages = o })
 
 -- what any call leaves: a refusal, or a root that holds the datoms that it held and the batch
 pub data Called (t : DatomOrd) (x : Extent) (s : List ℕ) (u b : List Datom) : Outcome → Type 0 where
@@ -62,11 +65,14 @@ pub data Called (t : DatomOrd) (x : Extent) (s : List ℕ) (u b : List Datom) : 
       Rooted t (envOf t x s) (λ y. In y u ⊎ In y b) [] root o → Called t x s u b (record { answer = Done root (length o); pages = o })
 
 -- the datoms of a batch may be stored
-may : (t : DatomOrd) (b : List ℕ) → ((i : ℕ) → getD b i 0 < 256) → ((y : Datom) → In y (batchOf b) → t .stored y ≡ true) → (y : Datom) → In y (batchOf b) → Storable t y
+may :
+    (t : DatomOrd) (b : List ℕ) → ((i : ℕ) → getD b i 0 < 256) → ((y : Datom) → In y (batchOf b) → t .stored y ≡ true) → (y : Datom) →
+    In y (batchOf b) → Storable t y
 may t b h f y i = record { form = f y i; words = batch-words b h y i }
 
 pub called :
-    (t : DatomOrd) (x : Extent) (s : List ℕ) (scratch : ℕ) (u : List Datom) (b : List ℕ) {o : Outcome} → Lent s b → Inserted t x s scratch u b o →
+    (t : DatomOrd) (x : Extent) (s : List ℕ) (scratch : ℕ) (u : List Datom) (b : List ℕ) {o : Outcome} → Lent s b →
+    Inserted t x s scratch u b o →
     Called t x s u (batchOf b) o
 called t x s scratch u b lent (badly y) = refuses
 called t x s scratch u b lent (early y n) = refuses
@@ -76,7 +82,8 @@ called t x s scratch u b lent (done w f R) = accepts (rising-distinct (t .cmp) (
 
 -- past a check
 check :
-    (C : Outcome → Type 0) {P : Type 0} {f : Finding} (rest : Outcome) → Finds P f → ((r : Refusal) → Early r → (P → ⊥) → C (refuse r)) → (P → C rest) →
+    (C : Outcome → Type 0) {P : Type 0} {f : Finding} (rest : Outcome) → Finds P f → ((r : Refusal) → Early r → (P → ⊥) → C (refuse r)) →
+    (P → C rest) →
     C (orElse refuse f rest)
 check C rest (isClear p) e k = k p
 check C rest (isFound {r} y n) e k = e r y n
@@ -98,7 +105,7 @@ module _ (t : DatomOrd) (e : Env) (E : EnvOk e) where
           tree = pending ds (last blank);
           holds = leaf-holds (held e []) ds;
           good = pending-good (e .cmp) ds (last blank) tt r (λ y z i j. absurd j) (λ y z i j. absurd j);
-          exactly = λ y. (λ i. elim (pending-in ds (last blank) y .0 i) [ inl j ↦ absurd j | inr j ↦ j ], λ i. pending-in ds (last blank) y .1 (inr i));
+          exactly = λ y. let e = pending-in ds (last blank) y in (λ i. elim (e .0 i) [ inl j ↦ absurd j | inr j ↦ j ], λ i. e .1 (inr i));
           more = same-more (none-written t e);
         };
         full = leaf-full (leaf-holds (held e []) ds);
@@ -106,7 +113,9 @@ module _ (t : DatomOrd) (e : Env) (E : EnvOk e) where
       (omega arith)
 
 -- "5 NoPage: root neither none nor below the count"
-pub root-known : (t : DatomOrd) (x : Extent) (s : List ℕ) {l : ℕ} {tr : Tree} (root : PageId) → Holds (fetchPage t x s) (child l root) tr → badRoot x root ≡ false
+pub root-known :
+    (t : DatomOrd) (x : Extent) (s : List ℕ) {l : ℕ} {tr : Tree} (root : PageId) → Holds (fetchPage t x s) (child l root) tr →
+    badRoot x root ≡ false
 unfolding badRoot
 root-known t x s root (noPage n) = rw n
 root-known t x s root (aPage {l} {n} r q h) =
@@ -135,8 +144,10 @@ module _
         finish w f st (goes q) = done w f q
 
         at-page :
-            (tr : Tree) (root : PageId) (n : Node) → fetchPage t x s root ≡ fine n → Holds (fetchPage t x s) (page (n .level) (n .datoms) (n .children)) tr →
-            Good (t .cmp) tr → Exactly (λ y. In y u) tr → WellFormed t b → Inserted t x s scratch u b (insertAt (envOf t x s) root (batchOf b) (fine n))
+            (tr : Tree) (root : PageId) (n : Node) → fetchPage t x s root ≡ fine n →
+            Holds (fetchPage t x s) (page (n .level) (n .datoms) (n .children)) tr →
+            Good (t .cmp) tr → Exactly (λ y. In y u) tr → WellFormed t b →
+            Inserted t x s scratch u b (insertAt (envOf t x s) root (batchOf b) (fine n))
         unfolding insertAt envOf
         at-page tr root n read h g ex w = side (lookups-ok (envOf t x s) L (n .level) root n tr g h 0 (batchOf b))
           where
@@ -166,7 +177,8 @@ module _
                 })
 
         at-root :
-            {l : ℕ} {root : PageId} {tr : Tree} → Holds (fetchPage t x s) (child l root) tr → Good (t .cmp) tr → Exactly (λ y. In y u) tr → WellFormed t b →
+            {l : ℕ} {root : PageId} {tr : Tree} → Holds (fetchPage t x s) (child l root) tr → Good (t .cmp) tr → Exactly (λ y. In y u) tr →
+            WellFormed t b →
             Inserted t x s scratch u b (insertUnder t x s root (batchOf b))
         unfolding insertUnder writeFresh envOf
         at-root (noPage n) g ex w =
@@ -202,7 +214,8 @@ module _
         finish d a st (stops y) = refuses
         finish d a st (goes q) =
             accepts d a (λ y z i j q. j)
-            (rerooted (λ y. (λ i. inr (sort-in (t .cmp) (batchOf b) y .0 i), λ i. elim i [ inl j ↦ absurd j | inr j ↦ sort-in (t .cmp) (batchOf b) y .1 j ])) q)
+            (rerooted (λ y.
+            let e = sort-in (t .cmp) (batchOf b) y in (λ i. inr (e .0 i), λ i. elim i [ inl j ↦ absurd j | inr j ↦ e .1 j ])) q)
 
         written :
             ((y : Datom) → In y (batchOf b) → t .stored y ≡ true) → Distinct (t .cmp) (batchOf b) →

@@ -69,7 +69,9 @@ module _ (cmp : Datom → Datom → Ordering) (L : Preorder cmp) where
       more e (isClear r) = isClear (below-all cmp L p d ds (less cmp p d e) r, r)
       more e (isFound r n) = isFound r λ a. n (a .1)
 
-      side : (b : Bool) → isLess (cmp p d) ≡ b → Finds (Rising cmp (d ∷ ds)) (lowFault cmp (suc i) d ds) → Finds (Rising cmp (p ∷ d ∷ ds)) (lowFault cmp i p (d ∷ ds))
+      side :
+          (b : Bool) → isLess (cmp p d) ≡ b → Finds (Rising cmp (d ∷ ds)) (lowFault cmp (suc i) d ds) →
+          Finds (Rising cmp (p ∷ d ∷ ds)) (lowFault cmp i p (d ∷ ds))
       side true e w = rw e (more e w)
       side false e w = rw e (isFound (inr (inr (i, refl))) λ a. clash e (rw (a .0 d (inl refl))))
 
@@ -99,15 +101,17 @@ module _ (cmp : Datom → Datom → Ordering) (L : Preorder cmp) where
       side Ordering·gt u w = other (rw u) (λ q. apart (cc)) w
 
   -- a batch that follows datoms already seen
-  abbrev Apart : List Datom → List Datom → Type 0
-  Apart seen ds = ((x y : Datom) → In x ds → In y seen → cmp y x ≡ Ordering·eq → ⊥) × Distinct cmp ds
+  abbrev Unseen : List Datom → List Datom → Type 0
+  Unseen seen ds = ((x y : Datom) → In x ds → In y seen → cmp y x ≡ Ordering·eq → ⊥) × Distinct cmp ds
 
-  finds-twin : (i : ℕ) (seen ds : List Datom) → Finds (Apart seen ds) (twinFault cmp i seen ds)
+  finds-twin : (i : ℕ) (seen ds : List Datom) → Finds (Unseen seen ds) (twinFault cmp i seen ds)
   unfolding twinFault
   finds-twin i seen [] = isClear (λ x y j. absurd j, tt)
   finds-twin i seen (d ∷ ds) = side (any-same d seen) (finds-twin (suc i) (d ∷ seen) ds)
     where
-      more : {f : Finding} → ((y : Datom) → In y seen → cmp y d ≡ Ordering·eq → ⊥) → Finds (Apart (d ∷ seen) ds) f → Finds (Apart seen (d ∷ ds)) f
+      more :
+          {f : Finding} → ((y : Datom) → In y seen → cmp y d ≡ Ordering·eq → ⊥) → Finds (Unseen (d ∷ seen) ds) f →
+          Finds (Unseen seen (d ∷ ds)) f
       more n (isClear w) =
           isClear (
             λ x y j k q. elim j [ inl h ↦ n y k (rw h at q) | inr h ↦ w .0 x y h (inr k) q ],
@@ -115,13 +119,15 @@ module _ (cmp : Datom → Datom → Ordering) (L : Preorder cmp) where
           )
       more n (isFound r w) = isFound r λ a. w (λ x y j k q. elim k [ inl h ↦ a .1 .0 x j (rw h at q) | inr h ↦ a .0 x y (inr j) h q ], a .1 .1)
 
-      side : Told d seen → Finds (Apart (d ∷ seen) ds) (twinFault cmp (suc i) (d ∷ seen) ds) → Finds (Apart seen (d ∷ ds)) (twinFault cmp i seen (d ∷ ds))
+      side :
+          Told d seen → Finds (Unseen (d ∷ seen) ds) (twinFault cmp (suc i) (d ∷ seen) ds) →
+          Finds (Unseen seen (d ∷ ds)) (twinFault cmp i seen (d ∷ ds))
       side (inl (e, n)) w = rw e (more n w)
       side (inr (e, y, k, q)) w = rw e (isFound (inr (inr (i, refl))) λ a. a .0 d y (inl refl) k q)
 
   pub finds-distinct : (ds : List Datom) → Finds (Distinct cmp ds) (twinFault cmp 0 [] ds)
   finds-distinct ds = only (finds-twin 0 [] ds)
     where
-      only : {f : Finding} → Finds (Apart [] ds) f → Finds (Distinct cmp ds) f
+      only : {f : Finding} → Finds (Unseen [] ds) f → Finds (Distinct cmp ds) f
       only (isClear w) = isClear (w .1)
       only (isFound r w) = isFound r λ a. w (λ x y j k. absurd k, a)

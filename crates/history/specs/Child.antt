@@ -57,17 +57,22 @@ module _ {f : PageId → Fetched} {l : ℕ} where
       rw (r, nextMidpoint, or-real t (firstChild s) (holds-real h)) (record { node = n; read = q; holds = h })
 
   pub child-stored :
-      {ds : List Datom} {cs : List PageId} {t : Tree} (p : Datom → Bool) → Holds f (page (suc l) ds cs) t → Stored f l (childAt p ds cs) (childBy p t)
+      {ds : List Datom} {cs : List PageId} {t : Tree} (p : Datom → Bool) → Holds f (page (suc l) ds cs) t →
+      Stored f l (childAt p ds cs) (childBy p t)
   unfolding rankBy childBy
   child-stored p (hLast k e) = first-stored (hLast k e)
   child-stored p (hItem {c} {t} {ds} {cs} {r} d k h) = side (p d) refl (child-stored p h)
     where
-      side : (b : Bool) → p d ≡ b → Stored f l (childAt p ds cs) (childBy p r) → Stored f l (childAt p (d ∷ ds) (c ∷ cs)) (childBy p (item t d r))
+      side :
+          (b : Bool) → p d ≡ b → Stored f l (childAt p ds cs) (childBy p r) →
+          Stored f l (childAt p (d ∷ ds) (c ∷ cs)) (childBy p (item t d r))
       side true e s = rw (e, rankBy, childBy) s
       side false e s = rw (e, rankBy, childBy) (first-stored (hItem d k h))
 
 -- a leaf has no child
-first-leaf : {f : PageId → Fetched} {ds : List Datom} {cs : List PageId} {t : Tree} (x : Datom) → Holds f (page 0 ds cs) t → InTree x (firstChild t) → ⊥
+first-leaf :
+    {f : PageId → Fetched} {ds : List Datom} {cs : List PageId} {t : Tree} (x : Datom) → Holds f (page 0 ds cs) t →
+    InTree x (firstChild t) → ⊥
 first-leaf x (hLast (noPage n) e) i = i
 first-leaf x (hItem d (noPage n) h) i = first-leaf x h i
 
@@ -131,7 +136,9 @@ module _ (cmp : Datom → Datom → Ordering) where
 
 module _ (cmp : Datom → Datom → Ordering) (L : Preorder cmp) where
   -- what is behind a datom is in the next child or above it
-  behind : (d x : Datom) (t r : Tree) → (Real t → cmp d x ≡ Ordering·lt) → InTree x r ⊎ (cmp d x ≡ Ordering·lt) → InTree x (orNext t r) ⊎ (cmp d x ≡ Ordering·lt)
+  behind :
+      (d x : Datom) (t r : Tree) → (Real t → cmp d x ≡ Ordering·lt) → InTree x r ⊎ (cmp d x ≡ Ordering·lt) →
+      InTree x (orNext t r) ⊎ (cmp d x ≡ Ordering·lt)
   behind d x blank r a b = b
   behind d x (last t) r a b = inr (a tt)
   behind d x (item t e s) r a b = inr (a tt)

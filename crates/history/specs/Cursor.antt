@@ -8,10 +8,12 @@ use Rattle.store.specs.declared.PageId.{PageId}
 use Rattle.store.specs.Page.{page}
 use Rattle.rules.specs.Listing.{Frame, framesFrom, eight, indicesOf, pagesOf}
 
-reversed : {A B : Type 0} (g : A → B) (a : A) (xs : List A) (rest : List B) → reverse (map g (a ∷ xs)) ++ rest ≡ reverse (map g xs) ++ (g a ∷ rest)
+reversed :
+    {A B : Type 0} (g : A → B) (a : A) (xs : List A) (rest : List B) → reverse (map g (a ∷ xs)) ++ rest ≡ reverse (map g xs) ++ (g a ∷ rest)
 reversed g a xs rest = rw (reverse-cons (g a) (map g xs)) (append-assoc (reverse (map g xs)) (g a ∷ []) rest)
 
-nth-last : {A B : Type 0} (g : A → B) (a : A) (xs : List A) (rest : List B) (z : B) → getD (reverse (map g xs) ++ (g a ∷ rest)) (length xs) z ≡ g a
+nth-last :
+    {A B : Type 0} (g : A → B) (a : A) (xs : List A) (rest : List B) (z : B) → getD (reverse (map g xs) ++ (g a ∷ rest)) (length xs) z ≡ g a
 nth-last g a xs rest z = getD-at (reverse (map g xs)) (g a) rest z (length xs) (length-reverse (map g xs) ∙ length-map xs g)
 
 from-front :

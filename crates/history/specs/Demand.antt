@@ -66,7 +66,9 @@ module _ (t : DatomOrd) (L : Preorder (t .cmp)) (x : Extent) (s : List ℕ) (scr
   not-repeated r (inl e) i q = apart (cc)
   not-repeated r (inr e) i q = apart (cc)
 
-  answered-ok : {o : Outcome} → Inserted t x s scratch u b o → WellFormed t b → badScratch x scratch ≡ false → Answered (t .cmp) u (batchOf b) (o .answer)
+  answered-ok :
+      {o : Outcome} → Inserted t x s scratch u b o → WellFormed t b → badScratch x scratch ≡ false →
+      Answered (t .cmp) u (batchOf b) (o .answer)
   answered-ok (badly y) w e = absurd (clash e y)
   answered-ok (early y n) w e = absurd (n w)
   answered-ok (met {i} F) w e =
@@ -87,7 +89,8 @@ module _ (t : DatomOrd) (L : Preorder (t .cmp)) (size : ℕ) (known : capacity s
   ready m I = in-order (m .extent) (m .store) (rw (I .sized) known) (I .fits)
 
   listed-at :
-      (m : Moment) → History t size m → (k : Known) → In k (m .roots) → (lo hi : Datom) → t .bound lo ≡ true → t .bound hi ≡ true → (n : ℕ) →
+      (m : Moment) → History t size m → (k : Known) → In k (m .roots) → (lo hi : Datom) → t .bound lo ≡ true → t .bound hi ≡ true →
+      (n : ℕ) →
       length (within (t .cmp) lo hi (ordered t k)) ≤ n → list t m k lo hi n ≡ whole (within (t .cmp) lo hi (ordered t k))
   listed-at m h k i =
       let I = inv t L size known (h .1) in

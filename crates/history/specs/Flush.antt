@@ -1,6 +1,6 @@
 -- Flush: a run of pending datoms and the child that ends it, replaced by what an insert into that child gives. "An insert reads only
 -- pages below the old count": a child behind a pending datom is held by the old pages, any other by the old and the new.
--- Rests on Pages and Span.
+-- Rests on Pages, Graft and Span.
 use Prim.Native.Nat.{ℕ, suc, _+_, _≤_, _<_, zero-le, suc-le-suc, Ordering}
 use native.Mathlib.Omega.{arith}
 use mathlib.Core.Bool.{Bool, true, false}
@@ -42,27 +42,33 @@ choose-grow f false x p n q = x p n q
 pub data Row (f g : PageId → Fetched) (l : ℕ) : Bool → List Datom → List PageId → Tree → Type 0 where
   rLast : {v : Bool} {c : PageId} {t : Tree} → Holds (choose v f g) (child (suc l) c) t → Real t → Row f g l v [] (c ∷ []) (last t)
   rItem :
-      {v : Bool} {c : PageId} {t : Tree} {ds : List Datom} {cs : List PageId} {r : Tree} (d : Datom) → Holds (choose v f g) (child (suc l) c) t →
+      {v : Bool} {c : PageId} {t : Tree} {ds : List Datom} {cs : List PageId} {r : Tree} (d : Datom) →
+      Holds (choose v f g) (child (suc l) c) t →
       Row f g l (isBlank t) ds cs r → Row f g l v (d ∷ ds) (c ∷ cs) (item t d r)
 
 module _ {f : PageId → Fetched} {l : ℕ} where
   pub row-of :
-      {g : PageId → Fetched} {ds : List Datom} {cs : List PageId} {t : Tree} (v : Bool) → Extends f g → Holds f (page (suc l) ds cs) t → Row f g l v ds cs t
+      {g : PageId → Fetched} {ds : List Datom} {cs : List PageId} {t : Tree} (v : Bool) → Extends f g → Holds f (page (suc l) ds cs) t →
+      Row f g l v ds cs t
   row-of v x (hLast k e) = rLast (holds-extends (choose-old v x) k) e
   row-of v x (hItem {t} d k h) = rItem d (holds-extends (choose-old v x) k) (row-of (isBlank t) x h)
 
   pub row-holds :
-      {g : PageId → Fetched} {v : Bool} {ds : List Datom} {cs : List PageId} {t : Tree} → Extends f g → Row f g l v ds cs t → Holds g (page (suc l) ds cs) t
+      {g : PageId → Fetched} {v : Bool} {ds : List Datom} {cs : List PageId} {t : Tree} → Extends f g → Row f g l v ds cs t →
+      Holds g (page (suc l) ds cs) t
   row-holds x (rLast {v} k e) = hLast (holds-extends (choose-new v x) k) e
   row-holds x (rItem {v} d k h) = hItem d (holds-extends (choose-new v x) k) (row-holds x h)
 
   row-grow :
-      {g g₁ : PageId → Fetched} {v : Bool} {ds : List Datom} {cs : List PageId} {t : Tree} → Extends g g₁ → Row f g l v ds cs t → Row f g₁ l v ds cs t
+      {g g₁ : PageId → Fetched} {v : Bool} {ds : List Datom} {cs : List PageId} {t : Tree} → Extends g g₁ → Row f g l v ds cs t →
+      Row f g₁ l v ds cs t
   row-grow x (rLast {v} k e) = rLast (holds-extends (choose-grow f v x) k) e
   row-grow x (rItem {v} d k h) = rItem d (holds-extends (choose-grow f v x) k) (row-grow x h)
 
   -- behind a real child
-  row-behind : {g : PageId → Fetched} {ds : List Datom} {cs : List PageId} {r : Tree} (t : Tree) → Real t → Row f g l false ds cs r → Row f g l (isBlank t) ds cs r
+  row-behind :
+      {g : PageId → Fetched} {ds : List Datom} {cs : List PageId} {r : Tree} (t : Tree) → Real t → Row f g l false ds cs r →
+      Row f g l (isBlank t) ds cs r
   row-behind t u h = rw (real-flag t u) h
 
 -- how many children are none: so many datoms are pending
@@ -103,7 +109,8 @@ module _ (f g : PageId → Fetched) (l : ℕ) where
         Holds (choose v f g) (child (suc l) c) k → Front (isBlank k) ds cs ks w → Front v (d ∷ ds) (c ∷ cs) ((k, d) ∷ ks) w
 
   data Fronted (v : Bool) (pD ds : List Datom) (pC cs : List PageId) : Tree → Type 0 where
-    fronted : {w : Bool} {r : Tree} (ks : List (Tree × Datom)) → Front v pD pC ks w → Row f g l w ds cs r → Fronted v pD ds pC cs (prepend ks r)
+    fronted :
+        {w : Bool} {r : Tree} (ks : List (Tree × Datom)) → Front v pD pC ks w → Row f g l w ds cs r → Fronted v pD ds pC cs (prepend ks r)
 
   row-front :
       {v : Bool} {ds : List Datom} {cs : List PageId} {t : Tree} (pD : List Datom) (pC : List PageId) → length pC ≡ length pD →
@@ -116,7 +123,9 @@ module _ (f g : PageId → Fetched) (l : ℕ) where
       more : {r : Tree} → Fronted (isBlank t) pD ds pC cs r → Fronted v (d ∷ pD) ds (c ∷ pC) cs (item t d r)
       more (fronted ks a b) = fronted ((t, d) ∷ ks) (fItem d k a) b
 
-  front-closed : {v w : Bool} {ds : List Datom} {cs : List PageId} {ks : List (Tree × Datom)} → Front v ds cs ks w → Closed v cs → ClosedItems v ks × (w ≡ false)
+  front-closed :
+      {v w : Bool} {ds : List Datom} {cs : List PageId} {ks : List (Tree × Datom)} → Front v ds cs ks w → Closed v cs →
+      ClosedItems v ks × (w ≡ false)
   front-closed fNil e = (e, e)
   front-closed (fItem d k h) e = front-closed h (rw (child-flag k) at e)
 
@@ -131,7 +140,8 @@ module _ (f g : PageId → Fetched) (l : ℕ) where
 
   -- behind a pending datom, or with one in the run, the child is held by the old pages
   run-of :
-      {qD : List Datom} {c : PageId} {qC : List PageId} {r : Tree} (v : Bool) (b : List Datom) (nC : List PageId) → length nC ≡ length b → Nones nC →
+      {qD : List Datom} {c : PageId} {qC : List PageId} {r : Tree} (v : Bool) (b : List Datom) (nC : List PageId) → length nC ≡ length b →
+      Nones nC →
       isNone c ≡ false → (length nC ≡ 0 → v ≡ true) → Row f g l v (b ++ qD) (nC ++ (c ∷ qC)) r → Ran b c qD qC r
   run-of v [] (x ∷ nC) n a u z h = absurd (omega arith)
   run-of v (d ∷ b) [] n a u z h = absurd (omega arith)
@@ -147,13 +157,15 @@ module _ (f g : PageId → Fetched) (l : ℕ) where
 
 module _ {f g g₁ : PageId → Fetched} {l : ℕ} (x : Extends g g₁) where
   front-row :
-      {v w : Bool} {pD ds : List Datom} {pC cs : List PageId} {ks : List (Tree × Datom)} {r : Tree} → Front f g l v pD pC ks w → Row f g₁ l w ds cs r →
+      {v w : Bool} {pD ds : List Datom} {pC cs : List PageId} {ks : List (Tree × Datom)} {r : Tree} → Front f g l v pD pC ks w →
+      Row f g₁ l w ds cs r →
       Row f g₁ l v (pD ++ ds) (pC ++ cs) (prepend ks r)
   front-row fNil h = h
   front-row (fItem {v} d k a) h = rItem d (holds-extends (choose-grow f v x) k) (front-row a h)
 
   row-graft :
-      {mD qD : List Datom} {mC qC : List PageId} {t : Tree} {q : Tail} → Holds g₁ (page (suc l) mD mC) t → Full (suc l) t → RowTail f g l qD qC q →
+      {mD qD : List Datom} {mC qC : List PageId} {t : Tree} {q : Tail} → Holds g₁ (page (suc l) mD mC) t → Full (suc l) t →
+      RowTail f g l qD qC q →
       Row f g₁ l false (mD ++ qD) (mC ++ qC) (graft t q)
   row-graft (hLast k e) u tStop = rLast k e
   row-graft (hLast {t} k e) u (tGo d h) = rItem d k (row-behind t e (row-grow x h))
@@ -178,12 +190,14 @@ pub record Target
   pub apart : Apart cmp b kid
   pub inside : (x : Datom) → InTree x kid ⊎ In x b → InTree x t
   pub rebuild :
-      {g₁ : PageId → Fetched} → Extends g g₁ → {mD : List Datom} {mC : List PageId} {t₁ : Tree} → Holds g₁ (page (suc l) mD mC) t₁ → Full (suc l) t₁ →
+      {g₁ : PageId → Fetched} → Extends g g₁ → {mD : List Datom} {mC : List PageId} {t₁ : Tree} → Holds g₁ (page (suc l) mD mC) t₁ →
+      Full (suc l) t₁ →
       Good cmp t₁ → Exactly (λ x. InTree x kid ⊎ In x b) t₁ → Rebuilt cmp f g₁ l t (pD ++ (mD ++ qD)) (pC ++ (mC ++ qC))
 
 module _ (cmp : Datom → Datom → Ordering) (L : Preorder cmp) {f g : PageId → Fetched} {l : ℕ} where
   assemble :
-      {pD qD : List Datom} {pC qC : List PageId} {c : PageId} {r : Tree} (ks : List (Tree × Datom)) (b : List Datom) → ClosedItems false ks →
+      {pD qD : List Datom} {pC qC : List PageId} {c : PageId} {r : Tree} (ks : List (Tree × Datom)) (b : List Datom) →
+      ClosedItems false ks →
       Front f g l false pD pC ks false → Ran f g l b c qD qC r → Good cmp (prepend ks r) → Target cmp f g l (prepend ks r) pD pC b c qD qC
   assemble ks b k a (ran {q} t h e w) g₀ =
       record {
@@ -206,7 +220,9 @@ module _ (cmp : Datom → Datom → Ordering) (L : Preorder cmp) {f g : PageId �
       A : Around cmp L b t q
       A = run-around cmp L b t q e (prepend-rest cmp ks (pending b (join t q)) g₀)
 
-      same : (t₁ : Tree) → Full (suc l) t₁ → Exactly (λ x. InTree x t ⊎ In x b) t₁ → Exactly (λ x. InTree x (pending b (join t q))) (graft t₁ q)
+      same :
+          (t₁ : Tree) → Full (suc l) t₁ → Exactly (λ x. InTree x t ⊎ In x b) t₁ →
+          Exactly (λ x. InTree x (pending b (join t q))) (graft t₁ q)
       same t₁ u ex x = (
         λ i. pending-in b (join t q) x .1 (elim (graft-in (suc l) t₁ q u x .0 i) [
           | inl j ↦ elim (ex x .0 j) [ inl v ↦ inl (join-in t q x .1 (inl v)) | inr v ↦ inr v ]
@@ -244,7 +260,9 @@ unfolding pendings
 pendings-nones [] a = refl
 pendings-nones (c ∷ r) a = rw (a c (inl refl), pendings) (ap suc (pendings-nones r (λ x i. a x (inr i))))
 
-full-pendings : {f : PageId → Fetched} {l : ℕ} {ds : List Datom} {cs : List PageId} {t : Tree} → Holds f (page (suc l) ds cs) t → Full (suc l) t → pendings cs ≡ 0
+full-pendings :
+    {f : PageId → Fetched} {l : ℕ} {ds : List Datom} {cs : List PageId} {t : Tree} → Holds f (page (suc l) ds cs) t → Full (suc l) t →
+    pendings cs ≡ 0
 unfolding pendings
 full-pendings (hLast (noPage n) e) u = absurd e
 full-pendings (hLast (aPage r q h) e) u = rw (r, pendings)
@@ -252,7 +270,8 @@ full-pendings (hItem d (noPage n) h) u = absurd (u .0)
 full-pendings (hItem d (aPage r q k) h) u = rw (r, pendings) (full-pendings h (u .1))
 
 pub pendings-fewer :
-    {f : PageId → Fetched} {l : ℕ} {mD : List Datom} {mC : List PageId} {t : Tree} (p r : List PageId) (c : PageId) (q : List PageId) → Nones r →
+    {f : PageId → Fetched} {l : ℕ} {mD : List Datom} {mC : List PageId} {t : Tree} (p r : List PageId) (c : PageId) (q : List PageId) →
+    Nones r →
     0 < length r → Holds f (page (suc l) mD mC) t → Full (suc l) t → pendings (p ++ (mC ++ q)) < pendings (p ++ (r ++ (c ∷ q)))
 unfolding pendings
 pendings-fewer {mC} p r c q a z h u =

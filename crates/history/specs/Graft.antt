@@ -51,7 +51,8 @@ graft-in l blank q u x = absurd u
 graft-in l (last t) q u x = join-in t q x
 graft-in l (item t d r) q u x = item-in t d (graft r q) r x (graft-in l r q (u .1) x)
 
-pub prepend-in : (t t₁ : Tree) (ks : List (Tree × Datom)) → Exactly (λ x. InTree x t) t₁ → Exactly (λ x. InTree x (prepend ks t)) (prepend ks t₁)
+pub prepend-in :
+    (t t₁ : Tree) (ks : List (Tree × Datom)) → Exactly (λ x. InTree x t) t₁ → Exactly (λ x. InTree x (prepend ks t)) (prepend ks t₁)
 prepend-in t t₁ [] e x = e x
 prepend-in t t₁ (k ∷ ks) e x = item-same (k .0) (k .1) (prepend ks t₁) (prepend ks t) x (prepend-in t t₁ ks e x)
 
@@ -74,7 +75,9 @@ module _ (cmp : Datom → Datom → Ordering) (L : Preorder cmp) where
   above-tail a (then d r) g b x (inl i) = rw i b
   above-tail a (then d r) g b x (inr i) = L .trans a d x b (g .0 x i)
 
-  pub graft-good : (l : ℕ) (t : Tree) (q : Tail) → Full (suc l) t → Good cmp t → GoodTail cmp q → ((x : Datom) → InTree x t → Above cmp q x) → Good cmp (graft t q)
+  pub graft-good :
+      (l : ℕ) (t : Tree) (q : Tail) → Full (suc l) t → Good cmp t → GoodTail cmp q → ((x : Datom) → InTree x t → Above cmp q x) →
+      Good cmp (graft t q)
   graft-good l blank q u g k b = absurd u
   graft-good l (last t) nothing u g k b = g
   graft-good l (last t) (then d r) u g k b = (midpoint cmp b (k .0), g, k .1)
@@ -148,7 +151,8 @@ module _ (cmp : Datom → Datom → Ordering) (L : Preorder cmp) where
             L .trans y (k .1) x (a (k .1) (inl refl))
             (g .0 .right (flag-real (k .0) e) x (prepend-in t t₁ ks same x .0 (own-in x (prepend ks t₁) i)))
 
-    pub prepend-good : (v : Bool) (ks : List (Tree × Datom)) → ClosedItems v ks → Good cmp (prepend ks t) → Good cmp t₁ → Good cmp (prepend ks t₁)
+    pub prepend-good :
+        (v : Bool) (ks : List (Tree × Datom)) → ClosedItems v ks → Good cmp (prepend ks t) → Good cmp t₁ → Good cmp (prepend ks t₁)
     prepend-good v [] u g w = w
     prepend-good v (k ∷ ks) u g w = (
       record {

@@ -61,7 +61,8 @@ Raised t e P l o m o₁ = (m .level ≡ suc l) × Made t e P (suc l) (m .datoms)
 
 module _ (t : DatomOrd) (e : Env) (E : EnvOk e) where
   settle-ok :
-      (l : ℕ) (P : Datom → Type 0) (o : List Node) (n : Node) (o₁ : List Node) → ((x : Datom) → P x → Storable t x) → Settling t e P l o n o₁ →
+      (l : ℕ) (P : Datom → Type 0) (o : List Node) (n : Node) (o₁ : List Node) → ((x : Datom) → P x → Storable t x) →
+      Settling t e P l o n o₁ →
       Goes (Raised t e P l o) (settle e n o₁)
   unfolding settle isOver
   settle-ok l P o n o₁ a w = side (ltb (e .cap) (length (n .datoms))) refl
@@ -98,11 +99,14 @@ module _ (t : DatomOrd) (e : Env) (E : EnvOk e) where
   -- an insert into a page of level l that does what is asked of it
   abbrev Inserts : ℕ → Below → Type 0
   Inserts l ins =
-      (p : PageId) (ds : List Datom) (o : List Node) (tr : Tree) → Stored (e .fetch) l p tr → Good (e .cmp) tr → Rising (e .cmp) ds → Apart (e .cmp) ds tr →
+      (p : PageId) (ds : List Datom) (o : List Node) (tr : Tree) → Stored (e .fetch) l p tr → Good (e .cmp) tr → Rising (e .cmp) ds →
+      Apart (e .cmp) ds tr →
       ((x : Datom) → InTree x tr ⊎ In x ds → Storable t x) → Written t e o → Goes (Raised t e (λ x. InTree x tr ⊎ In x ds) l o) (ins p ds o)
 
   module _ (l : ℕ) (ins : Below) (ins-ok : Inserts l ins) (P : Datom → Type 0) (a : (x : Datom) → P x → Storable t x) (o₀ : List Node) where
-    settled : {n : Node} {o : List Node} → (F : Flushing t e P l o₀ n o) → (isOver e n ≡ true → Full (suc l) (F .tree)) → Settling t e P (suc l) o₀ n o
+    settled :
+        {n : Node} {o : List Node} → (F : Flushing t e P l o₀ n o) → (isOver e n ≡ true → Full (suc l) (F .tree)) →
+        Settling t e P (suc l) o₀ n o
     settled {n} {o} F f =
         record {
           level = F .level;
@@ -156,7 +160,9 @@ module _ (t : DatomOrd) (e : Env) (E : EnvOk e) where
               rw (C .front, C .behind) (omega (arith, fewer, ap pendings (S .parts))),
             )
 
-    flush-all-ok : (k : ℕ) (n : Node) (o : List Node) → Flushing t e P l o₀ n o → pendings (n .children) ≤ k → Goes (Settling t e P (suc l) o₀) (flushAll e ins k n o)
+    flush-all-ok :
+        (k : ℕ) (n : Node) (o : List Node) → Flushing t e P l o₀ n o → pendings (n .children) ≤ k →
+        Goes (Settling t e P (suc l) o₀) (flushAll e ins k n o)
     unfolding flushAll
     flush-all-ok zero n o F f = goes (settled F λ v. row-full (F .row) (omega arith))
     flush-all-ok (suc k) n o F f = side (isOver e n) refl (anyPending (n .children)) refl (flush-all-ok k)
@@ -221,7 +227,8 @@ pub record Rooted (t : DatomOrd) (e : Env) (P : Datom → Type 0) (o : List Node
 module _ (t : DatomOrd) (e : Env) (E : EnvOk e) (P : Datom → Type 0) (a : (x : Datom) → P x → Storable t x) (o₀ : List Node) where
   -- "one child is the root, several are written as the root"
   root-of-ok :
-      (l : ℕ) (n : Node) (o : List Node) (cs : List PageId) → n .level ≡ l → n .children ≡ cs → (G : Grown t e P (page l (n .datoms) cs) o₀ o) →
+      (l : ℕ) (n : Node) (o : List Node) (cs : List PageId) → n .level ≡ l → n .children ≡ cs →
+      (G : Grown t e P (page l (n .datoms) cs) o₀ o) →
       length (n .datoms) ≤ e .cap → Goes (Rooted t e P o₀) (rootOf e cs n o)
   unfolding rootOf
   root-of-ok l n o [] q c G k = absurd (omega (arith, holds-lengths (G .holds)))
@@ -262,7 +269,8 @@ module _ (t : DatomOrd) (e : Env) (E : EnvOk e) (P : Datom → Type 0) (a : (x :
 
 module _ (t : DatomOrd) (e : Env) (E : EnvOk e) where
   pub insert-tree-ok :
-      (l : ℕ) (root : PageId) (ds : List Datom) (tr : Tree) → Stored (e .fetch) l root tr → Good (e .cmp) tr → Rising (e .cmp) ds → Apart (e .cmp) ds tr →
+      (l : ℕ) (root : PageId) (ds : List Datom) (tr : Tree) → Stored (e .fetch) l root tr → Good (e .cmp) tr → Rising (e .cmp) ds →
+      Apart (e .cmp) ds tr →
       ((x : Datom) → InTree x tr ⊎ In x ds → Storable t x) → Goes (Rooted t e (λ x. InTree x tr ⊎ In x ds) []) (insertTree e l root ds)
   unfolding insertTree
   insert-tree-ok l root ds tr s g r a b =

@@ -183,7 +183,8 @@ at-own l n e = rw (eq-eqb (n .level) l e)
 module _ (t : DatomOrd) (e : Env) (E : EnvOk e) where
   -- a node that is put is a child that holds its tree
   pub put-ok :
-      (l : ℕ) (n : Node) (tr : Tree) (o : List Node) → n .level ≡ l → Holds (held e o) (page l (n .datoms) (n .children)) tr → Good (e .cmp) tr →
+      (l : ℕ) (n : Node) (tr : Tree) (o : List Node) → n .level ≡ l → Holds (held e o) (page l (n .datoms) (n .children)) tr →
+      Good (e .cmp) tr →
       ((x : Datom) → InTree x tr → Storable t x) → length (n .datoms) ≤ e .cap → Written t e o →
       Goes (λ id o₁. Holds (held e o₁) (child (suc l) id) tr × More t e o o₁) (put e n o)
   unfolding put

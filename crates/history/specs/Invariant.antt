@@ -43,7 +43,9 @@ pub record Inv (t : DatomOrd) (size : ℕ) (m : Moment) : Type 0 where
   pub known : (k : Known) → In k (m .roots) → KnownOk t (m .extent) (m .store) k
   pub readable : Readable t (m .extent) (m .store)
 
-known-kept : {t : DatomOrd} {x x₁ : Extent} {s s₁ : List ℕ} {k : Known} → Extends (fetchPage t x s) (fetchPage t x₁ s₁) → KnownOk t x s k → KnownOk t x₁ s₁ k
+known-kept :
+    {t : DatomOrd} {x x₁ : Extent} {s s₁ : List ℕ} {k : Known} → Extends (fetchPage t x s) (fetchPage t x₁ s₁) → KnownOk t x s k →
+    KnownOk t x₁ s₁ k
 known-kept e w =
     let R = w .root in
     record {
@@ -68,7 +70,8 @@ nth-some (n ∷ o) (suc i) h = nth-some o i (omega arith)
 
 module _ (t : DatomOrd) (L : Preorder (t .cmp)) (size : ℕ) (known : capacity size ≡ 0 → ⊥) where
   same-pages :
-      (m : Moment) (s : List ℕ) → take (m .extent .count * m .extent .size) s ≡ take (m .extent .count * m .extent .size) (m .store) → Inv t size m →
+      (m : Moment) (s : List ℕ) → take (m .extent .count * m .extent .size) s ≡ take (m .extent .count * m .extent .size) (m .store) →
+      Inv t size m →
       Inv t size (record { extent = m .extent; store = s; roots = m .roots })
   same-pages m s e I =
       let x : Extends (fetchPage t (m .extent) (m .store)) (fetchPage t (m .extent) s) = fetch-kept t (m .extent) (m .extent) (m .store) s refl (omega arith) e in
@@ -103,7 +106,8 @@ module _ (t : DatomOrd) (L : Preorder (t .cmp)) (size : ℕ) (known : capacity s
 
       new-known :
           KnownOk t x s k → Distinct (t .cmp) (batchOf b) → ((y : Datom) → In y (batchOf b) → Storable t y) →
-          Fresh (t .cmp) (batchOf b) (gathered (k .batches)) → KnownOk t larger (storeAfter x s o) (record { root = root; batches = b ∷ k .batches })
+          Fresh (t .cmp) (batchOf b) (gathered (k .batches)) →
+          KnownOk t larger (storeAfter x s o) (record { root = root; batches = b ∷ k .batches })
       unfolding envOf
       new-known K d a f =
           let G = R .grown in

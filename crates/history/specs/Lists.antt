@@ -60,7 +60,8 @@ module _ (cmp : Datom → Datom → Ordering) (L : Preorder cmp) (f : PageId →
 
   -- equal indices: the tests agree on the tree
   ends-agree :
-      (p q : Datom → Bool) → Front cmp p → Front cmp q → (l : ℕ) (r : PageId) (n : Node) (t : Tree) → Holds f (page l (n .datoms) (n .children)) t →
+      (p q : Datom → Bool) → Front cmp p → Front cmp q → (l : ℕ) (r : PageId) (n : Node) (t : Tree) →
+      Holds f (page l (n .datoms) (n .children)) t →
       Good cmp t → sameIndices (map frameOf (opensBy f p l r (fine n))) (map frameOf (opensBy f q l r (fine n))) ≡ true →
       (x : Datom) → InTree x t → p x ≡ q x
   unfolding opensBy sameIndices

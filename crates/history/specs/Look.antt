@@ -68,7 +68,9 @@ module _ (cmp : Datom → Datom → Ordering) (L : Preorder cmp) (d : Datom) whe
           same Ordering·eq q = rw q (here (y, own-in y t (head-in y (rankBy (below cmp d) (own t)) (own t) (rw e refl)), q))
           same Ordering·gt q = rw q (further (into t g λ x h k. let z : x ≡ y = rw e at h in apart (cc)))
 
-  up : {t : Tree} {k : Look} → (Has cmp d t → Has cmp d (childBy (below cmp d) t)) → Looked cmp d (childBy (below cmp d) t) k → Looked cmp d t k
+  up :
+      {t : Tree} {k : Look} → (Has cmp d t → Has cmp d (childBy (below cmp d) t)) → Looked cmp d (childBy (below cmp d) t) k →
+      Looked cmp d t k
   up {t} f (isMet (x, i, q)) = isMet (x, child-in (below cmp d) x t i, q)
   up f (isAbsent a) = isAbsent λ j. a (f j)
 

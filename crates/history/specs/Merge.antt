@@ -37,7 +37,8 @@ pub record MergeHolds
 
 module _ (cmp : Datom → Datom → Ordering) {f : PageId → Fetched} where
   pub merge-holds :
-      {l : ℕ} {ds : List Datom} {cs : List PageId} {t : Tree} → Holds f (page l ds cs) t → (new : List Datom) → MergeHolds cmp f l ds cs t new
+      {l : ℕ} {ds : List Datom} {cs : List PageId} {t : Tree} → Holds f (page l ds cs) t → (new : List Datom) →
+      MergeHolds cmp f l ds cs t new
   unfolding mergeDatoms mergeChildren
   merge-holds (hLast {t} k e) new =
       record { tree = pending new (last t); merged = mLast t new; holds = rw append-nil at (holds-pending new (hLast k e)) }
@@ -108,7 +109,8 @@ module _ (cmp : Datom → Datom → Ordering) (L : Preorder cmp) where
   merge-clear (d ∷ ds) (x ∷ xs) a =
       side (cmp d x) refl (merge-clear ds (x ∷ xs) (λ u v i j. a u v i (inr j))) (merge-clear (d ∷ ds) xs (λ u v i j. a u v (inr i) j))
     where
-      side : (o : Ordering) → cmp d x ≡ o → meets cmp ds (x ∷ xs) ≡ false → meets cmp (d ∷ ds) xs ≡ false → meets cmp (d ∷ ds) (x ∷ xs) ≡ false
+      side :
+          (o : Ordering) → cmp d x ≡ o → meets cmp ds (x ∷ xs) ≡ false → meets cmp (d ∷ ds) xs ≡ false → meets cmp (d ∷ ds) (x ∷ xs) ≡ false
       side Ordering·lt e u v = rw (e, meets) u
       side Ordering·eq e u v = absurd (a x d (inl refl) (inl refl) (turned cmp L e))
       side Ordering·gt e u v = rw (e, meets) v

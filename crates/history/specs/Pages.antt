@@ -1,4 +1,4 @@
--- How pages hold a tree.
+-- How pages hold a tree: the middle layer's one tie to page numbers. Rests on Tree.
 use Prim.Native.Nat.{ℕ, suc}
 use mathlib.Core.Bool.{Bool, true, false}
 use mathlib.Core.List.{List, [], _∷_, _++_}
@@ -100,7 +100,8 @@ module _ {f : PageId → Fetched} where
 
   -- the children one by one
   pub holds-child :
-      {l : ℕ} {ds : List Datom} {cs : List PageId} {t : Tree} → Holds f (page l ds cs) t → (c : PageId) → In c cs → (k : Tree) × Holds f (child l c) k
+      {l : ℕ} {ds : List Datom} {cs : List PageId} {t : Tree} → Holds f (page l ds cs) t → (c : PageId) → In c cs →
+      (k : Tree) × Holds f (child l c) k
   holds-child (hLast {t} k e) c (inl i) = (t, rw i k)
   holds-child (hLast k e) c (inr i) = absurd i
   holds-child (hItem {t} d k h) c (inl i) = (t, rw i k)
@@ -117,7 +118,8 @@ module _ {f : PageId → Fetched} where
   leaf-full (hItem d k h) = (tt, leaf-full h)
 
   -- "above, the last child real"
-  pub real-last : {l : ℕ} {ds : List Datom} {cs : List PageId} {t : Tree} → Holds f (page (suc l) ds cs) t → isNone (getD cs (length ds) none) ≡ false
+  pub real-last :
+      {l : ℕ} {ds : List Datom} {cs : List PageId} {t : Tree} → Holds f (page (suc l) ds cs) t → isNone (getD cs (length ds) none) ≡ false
   real-last (hLast (noPage n) e) = absurd e
   real-last (hLast (aPage r q h) e) = r
   real-last (hItem d k h) = real-last h

@@ -70,12 +70,15 @@ module _ (cmp : Datom → Datom → Ordering) (L : Preorder cmp) where
   rank-above x (d ∷ ds) a = rw (up-false cmp (a d (inl refl)), rankBy)
 
   -- past the first datom that does not pass
-  pub rank-next : (p : Datom → Bool) (x : Datom) (ds : List Datom) → Rising cmp ds → Stop p ds x → rankBy (upTo cmp x) ds ≡ suc (rankBy p ds)
+  pub rank-next :
+      (p : Datom → Bool) (x : Datom) (ds : List Datom) → Rising cmp ds → Stop p ds x → rankBy (upTo cmp x) ds ≡ suc (rankBy p ds)
   unfolding rankBy
   rank-next p x [] r h = absurd h
   rank-next p x (d ∷ ds) r h = side (p d) refl (rank-next p x ds (r .1))
     where
-      side : (b : Bool) → p d ≡ b → (Stop p ds x → rankBy (upTo cmp x) ds ≡ suc (rankBy p ds)) → rankBy (upTo cmp x) (d ∷ ds) ≡ suc (rankBy p (d ∷ ds))
+      side :
+          (b : Bool) → p d ≡ b → (Stop p ds x → rankBy (upTo cmp x) ds ≡ suc (rankBy p ds)) →
+          rankBy (upTo cmp x) (d ∷ ds) ≡ suc (rankBy p (d ∷ ds))
       side true e ih =
           let k : Stop p ds x = rw (e, rankBy) at h in
           let v : upTo cmp x d ≡ true = up-true cmp (one-way cmp L (r .0 x (head-in x (rankBy p ds) ds k))) in

@@ -47,12 +47,16 @@ module _ (t : DatomOrd) (L : Preorder (t .cmp)) (x : Extent) (s : List ℕ) (inO
 
   module _ (lo hi : Datom) (less-than : t .cmp lo hi ≡ Ordering·lt) (u : List Datom) (r : Rising (t .cmp) u) where
     list-page :
-        (root : PageId) (n : Node) (tr : Tree) → fetchPage t x s root ≡ fine n → Holds (fetchPage t x s) (page (n .level) (n .datoms) (n .children)) tr →
+        (root : PageId) (n : Node) (tr : Tree) → fetchPage t x s root ≡ fine n →
+        Holds (fetchPage t x s) (page (n .level) (n .datoms) (n .children)) tr →
         Good (t .cmp) tr → Exactly (λ y. In y u) tr → (k : ℕ) → length (within (t .cmp) lo hi u) ≤ k →
         listing t x s k (startAt (t .cmp) (fetchPage t x s) root lo hi (fine n)) ≡ whole (within (t .cmp) lo hi u)
     unfolding startAt joinPaths listing isLess
     list-page root n tr e h g ex k f =
-        rw (along (fetchPage t x s) (below (t .cmp) lo) (n .level) root n tr h .way, along (fetchPage t x s) (below (t .cmp) hi) (n .level) root n tr h .way)
+        rw (
+          along (fetchPage t x s) (below (t .cmp) lo) (n .level) root n tr h .way,
+          along (fetchPage t x s) (below (t .cmp) hi) (n .level) root n tr h .way,
+        )
         (lists-ok t L x s inOrder (n .level) root n tr h g (rw e (at-own (n .level) n refl)) (fetch-low t x s root n e) hi k (below (t .cmp) lo)
         (within (t .cmp) lo hi u) left f)
       where
@@ -67,7 +71,8 @@ module _ (t : DatomOrd) (L : Preorder (t .cmp)) (x : Extent) (s : List ℕ) (inO
             }
 
   pub list-root :
-      (root : PageId) (u : List Datom) → RootIs t x s root u → Rising (t .cmp) u → (lo hi : Datom) → t .bound lo ≡ true → t .bound hi ≡ true → (k : ℕ) →
+      (root : PageId) (u : List Datom) → RootIs t x s root u → Rising (t .cmp) u → (lo hi : Datom) → t .bound lo ≡ true →
+      t .bound hi ≡ true → (k : ℕ) →
       length (within (t .cmp) lo hi u) ≤ k → listing t x s k (startList t x s root lo hi) ≡ whole (within (t .cmp) lo hi u)
   unfolding startList startUnder within
   list-root root u R r lo hi a b k f =
@@ -78,7 +83,8 @@ module _ (t : DatomOrd) (L : Preorder (t .cmp)) (x : Extent) (s : List ℕ) (inO
       nothing (d ∷ v) n = absurd (n d (inl refl))
 
       side :
-          {l : ℕ} {tr : Tree} (v : Bool) → isLess (t .cmp lo hi) ≡ v → Holds (fetchPage t x s) (child l root) tr → Good (t .cmp) tr → Exactly (λ y. In y u) tr →
+          {l : ℕ} {tr : Tree} (v : Bool) → isLess (t .cmp lo hi) ≡ v → Holds (fetchPage t x s) (child l root) tr → Good (t .cmp) tr →
+          Exactly (λ y. In y u) tr →
           listing t x s k
           (cond (isLess (t .cmp lo hi) && not (isNone root)) (startAt (t .cmp) (fetchPage t x s) root lo hi (fetchPage t x s root))
           (record { answer = start.Begun; cursor = cursorOf [] [] }))
@@ -94,7 +100,10 @@ module _ (t : DatomOrd) (L : Preorder (t .cmp)) (x : Extent) (s : List ℕ) (inO
   unfolding checkTree checkRoot
   check-root root u R = rw (inOrder, root-known t x s root (R .holds)) (side (R .holds) (R .good))
     where
-      side : {l : ℕ} {tr : Tree} → Holds (fetchPage t x s) (child l root) tr → Good (t .cmp) tr → cond (isNone root) Sound (checkRoot (t .cmp) (fetchPage t x s) root (fetchPage t x s root)) ≡ Sound
+      side :
+          {l : ℕ} {tr : Tree} → Holds (fetchPage t x s) (child l root) tr → Good (t .cmp) tr →
+          cond (isNone root) Sound (checkRoot (t .cmp) (fetchPage t x s) root (fetchPage t x s root)) ≡ Sound
       side (noPage n) g = rw n
       side (aPage {l} {n} {t = tr} e q h) g =
-          rw (e, level-fine l (fetchPage t x s root) n q) (root-sound (t .cmp) (fetchPage t x s) (n .level) root n tr (rw (level-is l (fetchPage t x s root) n q) h) g)
+          rw (e, level-fine l (fetchPage t x s root) n q)
+          (root-sound (t .cmp) (fetchPage t x s) (n .level) root n tr (rw (level-is l (fetchPage t x s root) n q) h) g)

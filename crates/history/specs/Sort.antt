@@ -54,7 +54,9 @@ module _ (cmp : Datom → Datom → Ordering) where
       let ih = sort-in ds x in
       (λ i. elim (p .0 i) [ inl j ↦ inl j | inr j ↦ inr (ih .0 j) ], λ i. p .1 (elim i [ inl j ↦ inl j | inr j ↦ inr (ih .1 j) ]))
 
-  pub within-in : (lo hi : Datom) (u : List Datom) (x : Datom) → In x (within cmp lo hi u) ↔ (In x u × (below cmp lo x ≡ false) × (below cmp hi x ≡ true))
+  pub within-in :
+      (lo hi : Datom) (u : List Datom) (x : Datom) →
+      In x (within cmp lo hi u) ↔ (In x u × (below cmp lo x ≡ false) × (below cmp hi x ≡ true))
   unfolding within
   within-in lo hi [] x = (λ i. absurd i, λ i. i .0)
   within-in lo hi (d ∷ u) x = side (below cmp lo d) refl (below cmp hi d) refl (within-in lo hi u x)
@@ -84,12 +86,15 @@ module _ (cmp : Datom → Datom → Ordering) where
   within-rising lo hi [] r = r
   within-rising lo hi (d ∷ u) r = side (not (below cmp lo d) && below cmp hi d) refl (within-rising lo hi u (r .1))
     where
-      side : (v : Bool) → (not (below cmp lo d) && below cmp hi d) ≡ v → Rising cmp (within cmp lo hi u) → Rising cmp (within cmp lo hi (d ∷ u))
+      side :
+          (v : Bool) → (not (below cmp lo d) && below cmp hi d) ≡ v → Rising cmp (within cmp lo hi u) →
+          Rising cmp (within cmp lo hi (d ∷ u))
       side true e ih = rw e (λ x i. r .0 x (within-in lo hi u x .0 i .0), ih)
       side false e ih = rw e ih
 
 module _ (cmp : Datom → Datom → Ordering) (L : Preorder cmp) where
-  place-rising : (d : Datom) (s : List Datom) → Rising cmp s → ((x : Datom) → In x s → cmp d x ≡ Ordering·eq → ⊥) → Rising cmp (place cmp d s)
+  place-rising :
+      (d : Datom) (s : List Datom) → Rising cmp s → ((x : Datom) → In x s → cmp d x ≡ Ordering·eq → ⊥) → Rising cmp (place cmp d s)
   unfolding place
   place-rising d [] r a = (λ x i. absurd i, tt)
   place-rising d (y ∷ s) r a = side (isLess (cmp y d)) refl (place-rising d s (r .1) (λ x i. a x (inr i)))

@@ -28,7 +28,8 @@ module _ (cmp : Datom → Datom → Ordering) (f : PageId → Fetched) where
   -- a check of the children that finds no fault
   abbrev Sounds : ℕ → Under → Type 0
   Sounds l under =
-      (c : PageId) (k : Tree) (lower upper : Option Datom) → Holds f (child l c) k → isNone c ≡ false → Good cmp k → Bounded cmp lower upper k →
+      (c : PageId) (k : Tree) (lower upper : Option Datom) → Holds f (child l c) k → isNone c ≡ false → Good cmp k →
+      Bounded cmp lower upper k →
       under c lower upper ≡ Sound
 
   module _ (l : ℕ) (under : Under) (ok : Sounds l under) (p : PageId) (upper : Option Datom) where
@@ -47,7 +48,8 @@ module _ (cmp : Datom → Datom → Ordering) (f : PageId → Fetched) where
         ((x : Datom) → In x (own tr) → aboveLower cmp lower x ≡ true) → belowUpper cmp lower upper ≡ true → Bounded cmp midpoint upper tr →
         walk cmp under p ds cs lower midpoint upper ≡ Sound
     unfolding walk midpointNext aboveLower belowUpper isLess
-    walk-sound lower midpoint (hLast {c} {t} k e) g a u b = rw (u, child-sound c t midpoint upper k g (record { lows = b .lows; highs = b .highs; apart = b .apart }))
+    walk-sound lower midpoint (hLast {c} {t} k e) g a u b =
+        rw (u, child-sound c t midpoint upper k g (record { lows = b .lows; highs = b .highs; apart = b .apart }))
     walk-sound lower midpoint (hItem {c} {t} {ds} {cs} {r} d k h) g a u b =
         rw (a d (inl refl), walk, child-sound c t midpoint (some d) k (g .1) before)
         (walk-sound (some d) (midpointNext c midpoint d) h (g .2) (λ x i. rw (g .0 .next x i)) (b .highs d (inr (inl refl))) behind)
@@ -70,17 +72,20 @@ module _ (cmp : Datom → Datom → Ordering) (f : PageId → Fetched) where
                 })
 
   page-sound :
-      (l : ℕ) (p : PageId) (n : Node) (tr : Tree) (lower upper : Option Datom) → Holds f (page l (n .datoms) (n .children)) tr → Good cmp tr →
+      (l : ℕ) (p : PageId) (n : Node) (tr : Tree) (lower upper : Option Datom) → Holds f (page l (n .datoms) (n .children)) tr →
+      Good cmp tr →
       Bounded cmp lower upper tr → checkAt cmp f l p lower upper (fine n) ≡ Sound
   unfolding checkAt
   page-sound zero p n tr lower upper h g b =
       walk-sound 0 (λ c x y. Sound) (λ c k lo up u v w z. refl) p upper lower lower h g (λ x i. b .lows x (own-in x tr i)) (b .apart) b
   page-sound (suc l) p n tr lower upper h g b =
-      walk-sound (suc l) (λ c x y. checkAt cmp f l c x y (atLevel l (f c))) (λ c k lo up u v w z. under c k lo up u v w z (λ m. page-sound l c m)) p upper lower
+      walk-sound (suc l) (λ c x y. checkAt cmp f l c x y (atLevel l (f c)))
+      (λ c k lo up u v w z. under c k lo up u v w z (λ m. page-sound l c m)) p upper lower
       lower h g (λ x i. b .lows x (own-in x tr i)) (b .apart) b
     where
       under :
-          (c : PageId) (k : Tree) (lower upper : Option Datom) → Holds f (child (suc l) c) k → isNone c ≡ false → Good cmp k → Bounded cmp lower upper k →
+          (c : PageId) (k : Tree) (lower upper : Option Datom) → Holds f (child (suc l) c) k → isNone c ≡ false → Good cmp k →
+          Bounded cmp lower upper k →
           ((m : Node) (tr : Tree) (lower upper : Option Datom) → Holds f (page l (m .datoms) (m .children)) tr → Good cmp tr →
           Bounded cmp lower upper tr → checkAt cmp f l c lower upper (fine m) ≡ Sound) →
           checkAt cmp f l c lower upper (atLevel l (f c)) ≡ Sound
@@ -88,6 +93,8 @@ module _ (cmp : Datom → Datom → Ordering) (f : PageId → Fetched) where
       under c k lower upper (aPage {n} r q h) v w z ih = rw q (ih n k lower upper h w z)
 
   -- a root has no bounds
-  pub root-sound : (l : ℕ) (root : PageId) (n : Node) (tr : Tree) → Holds f (page l (n .datoms) (n .children)) tr → Good cmp tr → checkAt cmp f l root nothing nothing (fine n) ≡ Sound
+  pub root-sound :
+      (l : ℕ) (root : PageId) (n : Node) (tr : Tree) → Holds f (page l (n .datoms) (n .children)) tr → Good cmp tr →
+      checkAt cmp f l root nothing nothing (fine n) ≡ Sound
   unfolding aboveLower belowUpper
   root-sound l root n tr h g = page-sound l root n tr nothing nothing h g (record { lows = λ x i. refl; highs = λ x i. refl; apart = refl })

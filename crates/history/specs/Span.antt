@@ -47,7 +47,9 @@ unfolding anyPending
 any-real [] c a e = rw e
 any-real (x ∷ p) c a e = side (isNone x) refl (any-real p c)
   where
-    side : (b : Bool) → isNone x ≡ b → (anyPending p ≡ false → isNone c ≡ false → anyPending (p ++ (c ∷ [])) ≡ false) → (isNone x || anyPending (p ++ (c ∷ []))) ≡ false
+    side :
+        (b : Bool) → isNone x ≡ b → (anyPending p ≡ false → isNone c ≡ false → anyPending (p ++ (c ∷ [])) ≡ false) →
+        (isNone x || anyPending (p ++ (c ∷ []))) ≡ false
     side true u ih = absurd (clash a (rw u))
     side false u ih = rw u (ih (rw u at a) e)
 
@@ -96,7 +98,9 @@ walk-ok all (c ∷ cs) p r i start b e hi hs n k w = side (isNone c) refl (λ p�
         let z : r ≡ [] = nothing-in r (omega (arith, q .1)) in
         inr (rw (z, append-nil p) (any-real p c (q .0) u), q .1)
 
-    choose : (m : Bool) → ltb (b .upto - b .from) (i - start) ≡ m → isNone c ≡ false → Best all ((p ++ r) ++ (c ∷ [])) (cond m (record { from = start; upto = i }) b)
+    choose :
+        (m : Bool) → ltb (b .upto - b .from) (i - start) ≡ m → isNone c ≡ false →
+        Best all ((p ++ r) ++ (c ∷ [])) (cond m (record { from = start; upto = i }) b)
     choose true h u = inl (place u (omega (arith, ltb-true (b .upto - b .from) (i - start) h)))
     choose false h u = keep u (ltb-false (b .upto - b .from) (i - start) h) w
 
@@ -147,14 +151,13 @@ pub cuts : {A : Type 0} (ds : List A) (cs : List PageId) (s : Span) (S : Spotted
 cuts ds cs s S e =
     record {
       datoms =
-          ap (_++ (drop (s .from) (take (s .upto) ds) ++ drop (s .upto) ds)) (sym (take-take (s .from) (s .upto) ds (omega (arith, S .from, S .upto))))
-          ∙ rw (← append-assoc (take (s .from) (take (s .upto) ds)) (drop (s .from) (take (s .upto) ds)) (drop (s .upto) ds), take-append-drop (s .from) (take (s .upto) ds))
+          rw (← take-take (s .from) (s .upto) ds (omega (arith, S .from, S .upto)), ← append-assoc, take-append-drop)
           (take-append-drop (s .upto) ds);
       front = ap (take (s .from)) (S .parts) ∙ take-at (S .before) _ (s .from) (S .from);
       child = ap (λ (z : List PageId). getD z (s .upto) none) whole ∙ getD-at (S .before ++ S .run) (S .end) (S .behind) none (s .upto) sum;
       behind =
           ap (drop (suc (s .upto))) (whole ∙ sym (append-assoc (S .before ++ S .run) (S .end ∷ []) (S .behind)))
-          ∙ drop-at ((S .before ++ S .run) ++ (S .end ∷ [])) (S .behind) (suc (s .upto)) (length-append (S .before ++ S .run) (S .end ∷ []) ∙ (omega (arith, sum)));
+          ∙ drop-at ((S .before ++ S .run) ++ (S .end ∷ [])) (S .behind) (suc (s .upto)) (simp length-append (omega (arith, S .upto)));
       first = simp length-take (omega (arith, S .from, S .upto, total));
       sent = simp (length-drop, length-take) (omega (arith, S .from, S .upto, total));
     }

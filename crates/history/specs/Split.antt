@@ -40,7 +40,8 @@ record Halves
 module _ (cmp : Datom → Datom → Ordering) (L : Preorder cmp) where
   -- behind a child that may end a page, the datom is below all that follows
   full-right :
-      {f : PageId → Fetched} {ds : List Datom} {cs : List PageId} (l : ℕ) (t : Tree) (d : Datom) (r : Tree) → Good cmp (item t d r) → Ends l t →
+      {f : PageId → Fetched} {ds : List Datom} {cs : List PageId} (l : ℕ) (t : Tree) (d : Datom) (r : Tree) → Good cmp (item t d r) →
+      Ends l t →
       Holds f (page l ds cs) r → (x : Datom) → InTree x r → cmp d x ≡ Ordering·lt
   full-right zero t d r g u h x i = g .0 .next x (leaf-own x h i)
   full-right (suc l) t d r g u h x i = g .0 .right u x i
@@ -94,8 +95,10 @@ pub record Made (t : DatomOrd) (e : Env) (P : Datom → Type 0) (l : ℕ) (ds : 
 
 module _ (t : DatomOrd) (e : Env) (E : EnvOk e) (l : ℕ) where
   puts :
-      (ns : List Node) (up : List Datom) (tr : Tree) (o : List Node) → suc (length up) ≡ length ns → ((n : Node) → In n ns → Part l (e .cap) n) →
-      Holds (held e o) (page l (weave ns up) (allChildren ns)) tr → Full l tr → Good (e .cmp) tr → ((x : Datom) → InTree x tr → Storable t x) →
+      (ns : List Node) (up : List Datom) (tr : Tree) (o : List Node) → suc (length up) ≡ length ns →
+      ((n : Node) → In n ns → Part l (e .cap) n) →
+      Holds (held e o) (page l (weave ns up) (allChildren ns)) tr → Full l tr → Good (e .cmp) tr →
+      ((x : Datom) → InTree x tr → Storable t x) →
       Written t e o → Goes (λ ids o₁. Made t e (λ x. InTree x tr) (suc l) up ids o o₁) (putAll e ns o)
   unfolding putAll then weave allChildren
   puts [] up tr o n part h u g a ws = absurd (omega arith)
@@ -133,7 +136,8 @@ module _ (t : DatomOrd) (e : Env) (E : EnvOk e) (l : ℕ) where
 
   -- the node one level higher, with fewer datoms
   pub split-ok :
-      (n : Node) (tr : Tree) (o : List Node) → n .level ≡ l → Holds (held e o) (page l (n .datoms) (n .children)) tr → Full l tr → Good (e .cmp) tr →
+      (n : Node) (tr : Tree) (o : List Node) → n .level ≡ l → Holds (held e o) (page l (n .datoms) (n .children)) tr → Full l tr →
+      Good (e .cmp) tr →
       ((x : Datom) → InTree x tr → Storable t x) → isOver e n ≡ true → Written t e o →
       Goes
       (λ m o₁. (m .level ≡ suc l) × Made t e (λ x. InTree x tr) (suc l) (m .datoms) (m .children) o o₁ × (length (m .datoms) < length (n .datoms)))

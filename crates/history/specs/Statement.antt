@@ -73,7 +73,8 @@ pub record Lent (s b : List ℕ) : Type 0 where
 -- what may come next: a call, accepted or refused, at any root that is known; or somebody else
 pub data Next (t : DatomOrd) (m : Moment) : Moment → Type 0 where
   -- "Insert only at none or at a root an accepted call returned."
-  inserts : (k : Known) → In k (m .roots) → (b : List ℕ) (scratch : ℕ) → Lent (m .store) b → Next t m (after m k b (inserting t m k scratch b))
+  inserts :
+      (k : Known) → In k (m .roots) → (b : List ℕ) (scratch : ℕ) → Lent (m .store) b → Next t m (after m k b (inserting t m k scratch b))
   initialises : (b : List ℕ) (scratch : ℕ) → Lent (m .store) b → Next t m (after m noRoot b (initialising t m scratch b))
   -- "let nobody else write below it": the bytes at or past the count may change between calls, and so may the slice's length
   others :

@@ -24,7 +24,8 @@ use Rattle.history.specs.Pages.{page, Holds, hLast, hItem, Stored, holds
 use Rattle.history.specs.Child.{childBy, firstChild, nextChild, childAt, child-stored, child-leaf, or-in, first-in, child-in, child-good, cover}
 
 -- beside a pending datom the next child stays
-same-child : (cs : List PageId) (i : ℕ) → isNone (getD cs i none) ≡ true → i < length cs → nextChild (drop i cs) ≡ nextChild (drop (suc i) cs)
+same-child :
+    (cs : List PageId) (i : ℕ) → isNone (getD cs i none) ≡ true → i < length cs → nextChild (drop i cs) ≡ nextChild (drop (suc i) cs)
 unfolding nextMidpoint
 same-child [] i e k = absurd (omega arith)
 same-child (c ∷ cs) zero e k = rw (e, nextMidpoint)
@@ -66,7 +67,8 @@ module _ (f : PageId → Fetched) (p : Datom → Bool) where
             long = rw (s .read) (ap suc (a .long));
             way = rw (s .read) (ap (longer (record { at = rankBy p (n .datoms); page = q })) (a .way));
             opens = λ e.
-                let k : length (map frameOf (opensBy f p l (down p n) (fine (s .node)))) ≡ suc l = length-map (opensBy f p l (down p n) (fine (s .node))) frameOf ∙ a .long in
+                let os = opensBy f p l (down p n) (fine (s .node)) in
+                let k : length (map frameOf os) ≡ suc l = length-map os frameOf ∙ a .long in
                 rw (s .read, k, e, le-leb (rankBy p (n .datoms)) (length (n .datoms)) (rank-le p (n .datoms)), a .opens (s .read));
           }
 
@@ -85,7 +87,8 @@ path-agree f p q (suc l) r n t h a =
 
 module _ (cmp : Datom → Datom → Ordering) (L : Preorder cmp) where
   -- what is in the child is never equal to the first datom of the page that does not pass
-  child-apart : (p : Datom → Bool) (d x : Datom) (t : Tree) → Good cmp t → InTree d (childBy p t) → Stop p (own t) x → cmp d x ≡ Ordering·eq → ⊥
+  child-apart :
+      (p : Datom → Bool) (d x : Datom) (t : Tree) → Good cmp t → InTree d (childBy p t) → Stop p (own t) x → cmp d x ≡ Ordering·eq → ⊥
   unfolding childBy rankBy
   child-apart p d x blank g i h = absurd i
   child-apart p d x (last t) g i h = absurd h
@@ -110,7 +113,8 @@ module _ (cmp : Datom → Datom → Ordering) (L : Preorder cmp) where
     where
       side :
           (b : Bool) → p d ≡ b →
-          (Stop p ds x → isNone (getD cs (rankBy p ds) none) ≡ false → InTree z (childBy (upTo cmp x) r) → cmp x z ≡ Ordering·lt) → cmp x z ≡ Ordering·lt
+          (Stop p ds x → isNone (getD cs (rankBy p ds) none) ≡ false → InTree z (childBy (upTo cmp x) r) → cmp x z ≡ Ordering·lt) →
+          cmp x z ≡ Ordering·lt
       side true e ih =
           let u : Stop p ds x = rw (e, rankBy) at s in
           let v : upTo cmp x d ≡ true = up-true cmp (one-way cmp L (g .0 .next x (rw (holds-own h) (head-in x (rankBy p ds) ds u)))) in
@@ -121,7 +125,9 @@ module _ (cmp : Datom → Datom → Ordering) (L : Preorder cmp) where
           rw u (g .0 .right (child-real k (rw (e, rankBy) at n)) z (child-in (upTo cmp x) z r (rw (v, childBy) at i)))
 
 -- the least datom under the frames of a test
-pub data LeastOk (cmp : Datom → Datom → Ordering) (f : PageId → Fetched) (p : Datom → Bool) (l : ℕ) (q : PageId) (n : Node) (t : Tree) : Least → Type 0 where
+pub data LeastOk
+    (cmp : Datom → Datom → Ordering) (f : PageId → Fetched) (p : Datom → Bool) (l : ℕ) (q : PageId) (n : Node) (t : Tree)
+    : Least → Type 0 where
   isNothing : ((x : Datom) → InTree x t → p x ≡ true) → LeastOk cmp f p l q n t noneLeft
   isLeast :
       (d : Datom) → InTree d t → p d ≡ false → ((x : Datom) → InTree x t → p x ≡ false → AtMost cmp d x) →

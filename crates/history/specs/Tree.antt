@@ -90,7 +90,8 @@ Exactly P t = (x : Datom) → InTree x t ↔ P x
 
 -- contents behind an item, and behind a pending datom
 pub item-in :
-    {Q : Type 0} (t : Tree) (d : Datom) (r r₁ : Tree) (x : Datom) → InTree x r ↔ (InTree x r₁ ⊎ Q) → InTree x (item t d r) ↔ (InTree x (item t d r₁) ⊎ Q)
+    {Q : Type 0} (t : Tree) (d : Datom) (r r₁ : Tree) (x : Datom) → InTree x r ↔ (InTree x r₁ ⊎ Q) →
+    InTree x (item t d r) ↔ (InTree x (item t d r₁) ⊎ Q)
 item-in t d r r₁ x e = (
   λ i. elim i [
     | inl j ↦ inl (inl j)
@@ -137,13 +138,15 @@ pending-own (d ∷ ds) t = ap (d ∷_) (pending-own ds t)
 module _ (cmp : Datom → Datom → Ordering) where
   -- a datom without a child before it
   pub alone :
-      {d : Datom} {r : Tree} → ((x : Datom) → In x (own r) → cmp d x ≡ Ordering·lt) → ((x : Datom) → InTree x r → cmp d x ≡ Ordering·eq → ⊥) →
+      {d : Datom} {r : Tree} → ((x : Datom) → In x (own r) → cmp d x ≡ Ordering·lt) →
+      ((x : Datom) → InTree x r → cmp d x ≡ Ordering·eq → ⊥) →
       Between cmp blank d r
   alone n a = record { left = λ x i. absurd i; next = n; apart = a; right = λ u. absurd u }
 
   -- a datom below all that is behind it
   pub midpoint :
-      {t : Tree} {d : Datom} {r : Tree} → ((x : Datom) → InTree x t → cmp x d ≡ Ordering·lt) → ((x : Datom) → InTree x r → cmp d x ≡ Ordering·lt) →
+      {t : Tree} {d : Datom} {r : Tree} → ((x : Datom) → InTree x t → cmp x d ≡ Ordering·lt) →
+      ((x : Datom) → InTree x r → cmp d x ≡ Ordering·lt) →
       Between cmp t d r
   midpoint {r} a b = record { left = a; next = λ x i. b x (own-in x r i); apart = λ x i. not-both cmp (b x i); right = λ u. b }
 

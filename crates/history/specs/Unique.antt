@@ -23,7 +23,8 @@ same-tree (hLast k e) (hLast h u) = ap last (same-tree k h)
 same-tree (hItem d k h) (hItem _ u v) = ap₂ (λ (s r : Tree). item s d r) (same-tree k u) (same-tree h v)
 
 pub same-pattern :
-    {f g : PageId → Fetched} {l m : ℕ} {ds ds₁ : List Datom} {cs cs₁ : List PageId} {t : Tree} → Holds f (page l ds cs) t → Holds g (page m ds₁ cs₁) t →
+    {f g : PageId → Fetched} {l m : ℕ} {ds ds₁ : List Datom} {cs cs₁ : List PageId} {t : Tree} → Holds f (page l ds cs) t →
+    Holds g (page m ds₁ cs₁) t →
     (ds ≡ ds₁) × (map isNone cs ≡ map isNone cs₁)
 same-pattern (hLast k e) (hLast h u) = (refl, rw (child-flag k, child-flag h))
 same-pattern (hItem {t} d k h) (hItem _ u v) =

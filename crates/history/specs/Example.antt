@@ -2,7 +2,6 @@
 -- Rests on Base and on the rules, computed.
 use Prim.Native.Nat.{ℕ, _≤_}
 use native.Mathlib.Omega.{arith}
-use mathlib.Core.Bool.{true}
 use mathlib.Core.List.{List, [], _∷_}
 use mathlib.Core.Logic.{inl, inr}
 use mathlib.Core.Path.{_≡_, refl, _∙_, ap}
@@ -13,9 +12,10 @@ use Rattle.datom.specs.declared.Datom.{Datom}
 use Rattle.datom.specs.Datom.{datomsBytes}
 use Rattle.index.specs.Order.{eavt}
 use Rattle.rules.specs.Listing.{whole}
+use Rattle.rules.specs.Lists.{In}
 use Rattle.rules.specs.Table.{d, run}
 use Rattle.rules.specs.Open.{rules}
-use Rattle.history.specs.Statement.{Known, Moment, inserting, initialising, noRoot, beginning, after, Lent, inserts, initialises, now, step, History, within, ordered, list}
+use Rattle.history.specs.Statement.{Known, Moment, inserting, initialising, noRoot, beginning, after, inserts, initialises, Later, now, step, History, within, ordered, list}
 use Rattle.history.specs.Batch.{datoms-bytes}
 use Rattle.history.specs.Base.{base}
 
@@ -26,6 +26,7 @@ initialised m ds = after m noRoot (datomsBytes ds) (initialising eavt m 65536 (d
 abbrev pub inserted : Moment → Known → List Datom → Moment
 inserted m k ds = after m k (datomsBytes ds) (inserting eavt m k 65536 (datomsBytes ds))
 
+-- the roots: "root 2", "root 3", "root 6"
 abbrev pub rootC : Known
 rootC = record { root = page 2; batches = datomsBytes (run 0 7) ∷ [] }
 
@@ -35,6 +36,7 @@ rootE = record { root = page 3; batches = datomsBytes (run 7 5) ∷ rootC .batch
 abbrev pub rootF : Known
 rootF = record { root = page 6; batches = datomsBytes (run 12 1) ∷ rootE .batches }
 
+-- "c d(0)..d(6)", "e After c, insert d7..d11", "f Then d12", "g Then d12 again: Repeated(0)"
 unfoldable pub start : Moment
 start = beginning 256 (zeros 2048)
 
@@ -47,83 +49,60 @@ afterE = inserted afterC rootC (run 7 5)
 unfoldable pub afterF : Moment
 afterF = inserted afterE rootE (run 12 1)
 
--- d(12) once more, refused
 unfoldable pub afterG : Moment
 afterG = inserted afterF rootF (run 12 1)
 
-known-c : afterC .roots ≡ rootC ∷ noRoot ∷ []
-unfolding rules start afterC
-known-c = refl
+-- what is known at a moment, computed
+record At (m : Moment) (ks : List Known) : Type 0 where
+  roots : m .roots ≡ ks
+  long : length (m .store) ≡ 2048
 
-known-e : afterE .roots ≡ rootE ∷ rootC ∷ noRoot ∷ []
-unfolding rules start afterC afterE
-known-e = refl
-
-known-g : afterG .roots ≡ rootF ∷ rootE ∷ rootC ∷ noRoot ∷ []
-unfolding rules start afterC afterE afterF afterG
-known-g = refl
-
-lent : (m : Moment) (ds : List Datom) → length (m .store) ≡ 2048 → Lent (m .store) (datomsBytes ds)
-lent m ds e = record { short = omega arith; bytes = datoms-bytes ds }
-
-long-start : length (start .store) ≡ 2048
+at-start : At start (noRoot ∷ [])
 unfolding rules start
-long-start = refl
+at-start = record { roots = refl; long = refl }
 
-long-c : length (afterC .store) ≡ 2048
+at-c : At afterC (rootC ∷ noRoot ∷ [])
 unfolding rules start afterC
-long-c = refl
+at-c = record { roots = refl; long = refl }
 
-long-e : length (afterE .store) ≡ 2048
+at-e : At afterE (rootE ∷ rootC ∷ noRoot ∷ [])
 unfolding rules start afterC afterE
-long-e = refl
+at-e = record { roots = refl; long = refl }
 
-long-f : length (afterF .store) ≡ 2048
+at-f : At afterF (rootF ∷ rootE ∷ rootC ∷ noRoot ∷ [])
 unfolding rules start afterC afterE afterF
-long-f = refl
+at-f = record { roots = refl; long = refl }
 
-known-f : afterF .roots ≡ rootF ∷ rootE ∷ rootC ∷ noRoot ∷ []
-unfolding rules start afterC afterE afterF
-known-f = refl
+at-g : At afterG (rootF ∷ rootE ∷ rootC ∷ noRoot ∷ [])
+unfolding rules start afterC afterE afterF afterG
+at-g = record { roots = refl; long = refl }
+
+calls :
+    {m : Moment} {ks : List Known} (k : Known) (ds : List Datom) → At m ks → In k ks → Later eavt start m → Later eavt start (inserted m k ds)
+calls k ds a i l =
+    step l (inserts k (rw (a .roots) i) (datomsBytes ds) 65536 (record { short = omega (arith, a .long); bytes = datoms-bytes ds }))
 
 pub example : History eavt 256 afterG
 unfolding start afterC afterE afterF afterG
 example = (
   zeros 2048,
-  step
-      (step
-      (step (step now (initialises (datomsBytes (run 0 7)) 65536 (lent start (run 0 7) long-start)))
-      (inserts rootC (rw known-c (inl refl)) (datomsBytes (run 7 5)) 65536 (lent afterC (run 7 5) long-c)))
-      (inserts rootE (rw known-e (inl refl)) (datomsBytes (run 12 1)) 65536 (lent afterE (run 12 1) long-e)))
-      (inserts rootF (rw known-f (inl refl)) (datomsBytes (run 12 1)) 65536 (lent afterF (run 12 1) long-f)),
+  calls rootF (run 12 1) at-f (inl refl)
+      (calls rootE (run 12 1) at-e (inl refl)
+      (calls rootC (run 7 5) at-c (inl refl)
+      (step now (initialises (datomsBytes (run 0 7)) 65536 (record { short = omega (arith, at-start .long); bytes = datoms-bytes (run 0 7) }))))),
 )
 
--- what the theorem then says of a listing: every datom once; and at the oldest root what it had
-ordered-f : within (eavt .cmp) (d 0) (d 13) (ordered eavt rootF) ≡ run 0 13
-unfolding rules within
-ordered-f = refl
-
-ordered-c : within (eavt .cmp) (d 0) (d 13) (ordered eavt rootC) ≡ run 0 7
-unfolding rules within
-ordered-c = refl
-
-may-be-bounds : (eavt .bound (d 0) ≡ true) × (eavt .bound (d 13) ≡ true)
+-- what the theorem then says of listings: every datom once; and at the oldest root what it had
+lists :
+    (k : Known) → In k (afterG .roots) → (n : ℕ) (ds : List Datom) → within (eavt .cmp) (d 0) (d 13) (ordered eavt k) ≡ ds → length ds ≤ n →
+    list eavt afterG k (d 0) (d 13) n ≡ whole ds
 unfolding rules
-may-be-bounds = (refl, refl)
+lists k i n ds e f = base 256 (inl refl) afterG example k i .listed (d 0) (d 13) refl refl n (rw e f) ∙ ap whole e
 
-few : (ds es : List Datom) (n : ℕ) → ds ≡ es → length es ≤ n → length ds ≤ n
-few ds es n e h = rw e h
+pub lists-c : list eavt afterG rootC (d 0) (d 13) 7 ≡ whole (run 0 7)
+unfolding rules within
+lists-c = lists rootC (rw (at-g .roots) (inr (inr (inl refl)))) 7 (run 0 7) refl (omega arith)
 
-pub listed-f : list eavt afterG rootF (d 0) (d 13) 13 ≡ whole (run 0 13)
-unfolding run
-listed-f =
-    base 256 (inl refl) afterG example rootF (rw known-g (inl refl)) .listed (d 0) (d 13) (may-be-bounds .0) (may-be-bounds .1) 13
-    (few _ (run 0 13) 13 ordered-f (omega arith))
-    ∙ ap whole ordered-f
-
-pub listed-c : list eavt afterG rootC (d 0) (d 13) 7 ≡ whole (run 0 7)
-unfolding run
-listed-c =
-    base 256 (inl refl) afterG example rootC (rw known-g (inr (inr (inl refl)))) .listed (d 0) (d 13) (may-be-bounds .0) (may-be-bounds .1) 7
-    (few _ (run 0 7) 7 ordered-c (omega arith))
-    ∙ ap whole ordered-c
+pub lists-f : list eavt afterG rootF (d 0) (d 13) 13 ≡ whole (run 0 13)
+unfolding rules within
+lists-f = lists rootF (rw (at-g .roots) (inl refl)) 13 (run 0 13) refl (omega arith)

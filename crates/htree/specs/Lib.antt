@@ -5,3 +5,4 @@ pub mod PutLaws
 pub mod Load
 pub mod Split
 pub mod Settle
+pub mod Flush

@@ -1,20 +1,21 @@
 -- A datom's bytes and words round-trip, and a well-formed value is told by its content.
 use Prim.Native.Nat.{ℕ, zero, suc, _+_, _-_, _*_, _/_, _%_, _^_, _≤_, _<_}
-use native.Mathlib.Nat.{div-div-eq-div-mul, mod-add-div}
+use native.Mathlib.Nat.{div-div-eq-div-mul, mod-add-div, add-zero}
 use native.Mathlib.Omega.{arith}
 use mathlib.Core.Bool.{Bool, true, false, _&&_, _||_}
 use mathlib.Core.Path.{_≡_, refl, sym, _∙_, ap, ap₂}
 use mathlib.Core.List.{List, [], _∷_, _++_, append-assoc}
 use borrow.Author.Tests.{ltb-true, leb-true, eqb-true}
 use lib.Dec.{leb, ltb, eqb}
-use lib.ListN.{length, take, drop, getD, length-append}
-use lib.Seq.{take-at, drop-at, take-append-le, take-add, take-all, drop-drop, getD-take, getD-drop, length-take-le}
+use lib.ListN.{length, take, drop, getD}
+use lib.Seq.{take-add, take-all, take-take, drop-drop}
 use Rattle.store.specs.Words.{little, bytesOf, wordAt}
+use Rattle.store.specs.Cells.{drop-take-le, cells-at, cells-from}
 use Rattle.store.specs.Laws.{apart, both, bytes-length, little-bytes, low-bytes, word-back, word-small}
 use Rattle.datom.specs.declared.Datom.{Datom}
 use Rattle.datom.specs.declared.Value.{Value}
 use Rattle.datom.specs.Value.{isInt, strLen, isStr, isMax, storedValue, boundValue, Content, int, str, top, content}
-use Rattle.datom.specs.Datom.{datomAt, datomOf, datomBytes, Words}
+use Rattle.datom.specs.Datom.{datomAt, datomOf, datomBytes, datomsOf, Words}
 
 pub datom-length : (d : Datom) → length (datomBytes d) ≡ 32
 unfolding datomBytes bytesOf
@@ -54,6 +55,24 @@ words-of s h at f =
       value = word-small s h (at + 16) (omega arith);
       last = word-small s h (at + 24) (omega arith);
     }
+
+-- a datom among bytes, and the rest of n datoms from index i on
+cell-word : (k at : ℕ) (s : List ℕ) → k + 8 ≤ 32 → wordAt (take 32 (drop at s)) k ≡ wordAt s (at + k)
+unfolding wordAt
+cell-word k at s h =
+    let g : 8 ≤ 32 - k = omega arith in
+    rw (drop-take-le k 32 (drop at s) (omega arith), take-take 8 (32 - k) _ g, drop-drop)
+
+pub datom-cell : (s : List ℕ) (at : ℕ) → datomOf (take 32 (drop at s)) ≡ datomAt s at
+unfolding datomOf datomAt
+datom-cell s at =
+    rw (cell-word 0 at s (omega arith), cell-word 8 at s (omega arith), cell-word 16 at s (omega arith), cell-word 24 at s (omega arith), add-zero)
+
+pub datoms-at : (n i : ℕ) (s : List ℕ) (d : Datom) → i < n → getD (datomsOf n s) i d ≡ datomAt s (32 * i)
+datoms-at n i s d h = rw (cells-at datomOf 32 n i s d h, datom-cell)
+
+pub datoms-from : (n i : ℕ) (s : List ℕ) → i < n → drop i (datomsOf n s) ≡ datomAt s (32 * i) ∷ drop (i + 1) (datomsOf n s)
+datoms-from n i s h = rw (cells-from datomOf 32 n i s h, datom-cell)
 
 -- a byte string: its head, its length, its contents
 pub record Str (v : Value) : Type 0 where
@@ -126,3 +145,15 @@ content-tells v w p q e = ap (λ (n : ℕ). record { 0 = n }) (side (form-of v p
     side (aMax a c) (anInt b d) = absurd (apart (cc))
     side (aMax a c) (aStr b d) = absurd (apart (cc))
     side (aMax a c) (aMax b d) = cc
+
+-- a bit shifted by n bytes
+pub shifted : (n : ℕ) → n ≤ 7 → (1 * 2 ^ (8 * n)) % 18446744073709551616 ≡ 256 ^ n
+shifted zero h = refl
+shifted (suc zero) h = refl
+shifted (suc (suc zero)) h = refl
+shifted (suc (suc (suc zero))) h = refl
+shifted (suc (suc (suc (suc zero)))) h = refl
+shifted (suc (suc (suc (suc (suc zero))))) h = refl
+shifted (suc (suc (suc (suc (suc (suc zero)))))) h = refl
+shifted (suc (suc (suc (suc (suc (suc (suc zero))))))) h = refl
+shifted (suc (suc (suc (suc (suc (suc (suc (suc n)))))))) h = absurd (omega arith)

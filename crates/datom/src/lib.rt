@@ -1,7 +1,9 @@
 // Datoms and what they are made of, after datom.rs of the Rust. The heap, temporaries and text are left out.
 ghost use mathlib.Core.Path.{_≡_};
-ghost use Prim.Native.Nat.{_+_, _*_, _/_, _^_, _-_};
-ghost use Rattle.datom.specs.Value.{isInt, isMax, inlineInt};
+ghost use Prim.Native.Nat.{_+_, _^_, _-_, _≤_};
+ghost use lib.ListN.{length};
+ghost use Rattle.datom.specs.Value.{isInt, isStr, isMax, storedValue, boundValue, inlineInt};
+ghost use Rattle.datom.specs.Datom.{datomAt, storedDatom, boundDatom};
 ghost use Rattle.datom.specs.Word.{lastWord, transactionOf, operationOf};
 
 // Entity id.
@@ -140,6 +142,40 @@ impl Value {
         self.0 < Value::TAG_EXTERNAL
     }
 
+    // Whether this is an inline byte string: the tag, a length of at most seven, and zeros past it.
+    pub fn is_bytes(self) -> bool
+        ensures { λ r. ⌜ r ≡ isStr self ⌝ }
+    {
+        if self.0 / Value::TAG_EXTERNAL != 2 {
+            return false;
+        }
+        let length = self.0 / 0x100_0000_0000_0000 % 64;
+        if 7 < length {
+            return false;
+        }
+        self.0 % 0x100_0000_0000_0000 < past(length)
+    }
+
+    // Whether a stored datom may have this value.
+    pub fn is_stored(self) -> bool
+        ensures { λ r. ⌜ r ≡ storedValue self ⌝ }
+    {
+        if self.0 < Value::TAG_EXTERNAL {
+            return true;
+        }
+        self.is_bytes()
+    }
+
+    // Whether a bound may have this value.
+    pub fn is_bound(self) -> bool
+        ensures { λ r. ⌜ r ≡ boundValue self ⌝ }
+    {
+        if self.is_stored() {
+            return true;
+        }
+        self.is_max()
+    }
+
     pub fn from_u64_inline(value: u64) -> Inline
         ensures { λ r. ⌜ r ≡ inlineInt value ⌝ }
     {
@@ -152,6 +188,14 @@ impl Value {
     pub fn from_bool(value: bool) -> Value {
         if value { Value(1) } else { Value(0) }
     }
+}
+
+// The first number that n bytes do not hold.
+fn past(n: u64) -> u64
+    requires { ⌜ n ≤ 7 ⌝ }
+    ensures { λ r. ⌜ r ≡ 256 ^ n ⌝ }
+{
+    1 << (8 * n)
 }
 
 // A fact about an entity, with the transaction that asserted or retracted it.
@@ -179,5 +223,50 @@ impl Datom {
             value,
             transaction_operation: word,
         }
+    }
+
+    // Shorthand for `new` with an assert.
+    pub fn assert(entity: Eid, attribute: Aid, value: Value, transaction: Tid) -> Datom
+        ensures { λ r. ⌜ r ≡ record { entity = entity; attribute = attribute; value = value; «transaction_operation» = lastWord transaction Operation.Assert } ⌝ }
+    {
+        Datom::new(entity, attribute, value, transaction, Operation::Assert)
+    }
+
+    // Shorthand for `new` with a retract.
+    pub fn retract(entity: Eid, attribute: Aid, value: Value, transaction: Tid) -> Datom
+        ensures { λ r. ⌜ r ≡ record { entity = entity; attribute = attribute; value = value; «transaction_operation» = lastWord transaction Operation.Retract } ⌝ }
+    {
+        Datom::new(entity, attribute, value, transaction, Operation::Retract)
+    }
+
+    // Whether this datom may be stored.
+    pub fn is_stored(self) -> bool
+        ensures { λ r. ⌜ r ≡ storedDatom self ⌝ }
+    {
+        self.value.is_stored()
+    }
+
+    // Whether this datom may be a bound.
+    pub fn is_bound(self) -> bool
+        ensures { λ r. ⌜ r ≡ boundDatom self ⌝ }
+    {
+        self.value.is_bound()
+    }
+}
+
+// The datom whose 32 bytes stand at byte `at`.
+pub fn datom_at(s: &[u8], at: usize) -> Datom
+    requires { ⌜ at + 32 ≤ length (now s) ⌝ }
+    ensures { λ r. ⌜ r ≡ datomAt (now (s .entry)) at ⌝ }
+{
+    let entity = store::word(s, at);
+    let attribute = store::word(s, at + 8);
+    let value = store::word(s, at + 16);
+    let last = store::word(s, at + 24);
+    Datom {
+        entity: Eid(entity),
+        attribute: Aid(attribute),
+        value: Value(value),
+        transaction_operation: TidOp(last),
     }
 }

@@ -1,3 +1,8 @@
--- The order of datoms, and its laws.
+-- The order of datoms, its laws, and a number for each value that is in the order.
 pub mod Order
+pub mod Examples
 pub mod Laws
+pub mod Key
+pub mod Compare
+pub mod Keys
+pub mod Ways

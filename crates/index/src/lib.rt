@@ -1,8 +1,94 @@
 // The order of datoms, after index.rs of the Rust. Its rule and its laws stand in specs/.
+use datom::Datom;
+use datom::TidOp;
+use datom::Value;
+ghost use mathlib.Core.Path.{_≡_};
+ghost use Prim.Native.Nat.{_+_, _*_, _/_, compare};
+ghost use Rattle.index.specs.Order.{andThen, cmpValue, cmpEavt, named};
+ghost use Rattle.index.specs.Key.{key, turned};
 
 // How one datom stands to another.
 pub enum Order {
     Less,
     Equal,
     Greater,
+}
+
+// All eight bytes, the first of them highest: one byte swap to the compiler.
+fn swap(v: u64) -> u64
+    ensures { λ r. ⌜ r ≡ turned v * 256 + v / 72057594037927936 ⌝ }
+{
+    v % 256 * 72057594037927936
+        + v / 256 % 256 * 281474976710656
+        + v / 65536 % 256 * 1099511627776
+        + v / 16777216 % 256 * 4294967296
+        + v / 4294967296 % 256 * 16777216
+        + v / 1099511627776 % 256 * 65536
+        + v / 281474976710656 % 256 * 256
+        + v / 72057594037927936
+}
+
+// The seven low bytes, the first of them highest.
+fn turn(v: u64) -> u64
+    ensures { λ r. ⌜ r ≡ turned v ⌝ }
+{
+    swap(v) / 256
+}
+
+// A number that is ordered as the value is, so that no comparison walks along bytes.
+fn key_of(v: Value) -> u64
+    ensures { λ r. ⌜ r ≡ key v ⌝ }
+{
+    if v.is_u64() {
+        return v.0;
+    }
+    if v.is_bytes() {
+        return 4611686018427387904 + (turn(v.0) * 8 + v.0 / 72057594037927936 % 64);
+    }
+    9223372036854775808
+}
+
+// Value, then last word.
+fn order_of_rest(a: Value, b: Value, s: TidOp, t: TidOp) -> Order
+    ensures { λ r. ⌜ r ≡ named (andThen (cmpValue a b) (compare (s .0) (t .0))) ⌝ }
+{
+    let v = key_of(a);
+    let w = key_of(b);
+    if v < w {
+        return Order::Less;
+    }
+    if w < v {
+        return Order::Greater;
+    }
+    if s.0 < t.0 {
+        return Order::Less;
+    }
+    if t.0 < s.0 {
+        return Order::Greater;
+    }
+    Order::Equal
+}
+
+// Entity, attribute, value, last word: the first difference decides.
+pub fn order_of(a: Datom, b: Datom) -> Order
+    ensures { λ r. ⌜ r ≡ named (cmpEavt a b) ⌝ }
+{
+    if a.entity.0 < b.entity.0 {
+        return Order::Less;
+    }
+    if b.entity.0 < a.entity.0 {
+        return Order::Greater;
+    }
+    if a.attribute.0 < b.attribute.0 {
+        return Order::Less;
+    }
+    if b.attribute.0 < a.attribute.0 {
+        return Order::Greater;
+    }
+    order_of_rest(
+        a.value,
+        b.value,
+        a.transaction_operation,
+        b.transaction_operation,
+    )
 }

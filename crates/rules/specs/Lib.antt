@@ -17,3 +17,4 @@ pub mod SplitLaws
 pub mod MergeLaws
 pub mod Sizes
 pub mod Reads
+pub mod Further

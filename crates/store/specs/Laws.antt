@@ -6,11 +6,14 @@ use native.Mathlib.Omega.{arith}
 use mathlib.Core.Bool.{Bool, true, false, _&&_}
 use mathlib.Core.Path.{_≡_, refl, ap}
 use mathlib.Core.List.{List, [], _∷_, _++_, append-assoc}
+use borrow.Author.Tests.{eqb-true}
+use lib.Dec.{eqb}
 use lib.ListN.{length, take, drop, getD, length-append, length-replicate, length-take, length-drop, List·getD-eq-default}
 use lib.Seq.{take-at, drop-at, getD-take, getD-drop, length-take-le}
 use Rattle.store.specs.declared.PageId.{PageId}
 use Rattle.store.specs.Words.{little, bytesOf, wordAt, cells, spread, pad}
 use Rattle.store.specs.Page.{pageOf, pageBytes}
+use Rattle.store.specs.Size.{capacity}
 
 -- what congruence closure is asked for where two constructors meet
 pub apart : _≡_ {A = ℕ} 0 1 → ⊥
@@ -117,3 +120,23 @@ page-length p = bytes-length 8 (p .0)
 pub page-back : (p : PageId) → p .0 < 2 ^ 64 → pageOf (pageBytes p) ≡ p
 unfolding pageOf pageBytes
 page-back p h = ap (λ (n : ℕ). record { 0 = n }) (little-bytes 8 (p .0) h)
+
+-- what is known of a page size that is known: its pages hold a datom, and all of C datoms with their children and the header
+pub record Known (size : ℕ) : Type 0 where
+  pub some : 0 < capacity size
+  pub fits : 40 * capacity size + 10 ≤ size
+  pub most : size ≤ 4096
+  pub few : capacity size ≤ 102
+
+pub known-size : (size : ℕ) → (capacity size ≡ 0 → ⊥) → Known size
+unfolding capacity
+known-size size h = side (eqb size 256) refl (eqb size 568) refl (eqb size 4096) refl
+  where
+    one : (k c : ℕ) → size ≡ k → capacity size ≡ c → 0 < c → 40 * c + 10 ≤ k → k ≤ 4096 → c ≤ 102 → Known size
+    one k c e f a b m l = record { some = omega arith; fits = omega arith; most = omega arith; few = omega arith }
+
+    side : (a : Bool) → eqb size 256 ≡ a → (b : Bool) → eqb size 568 ≡ b → (c : Bool) → eqb size 4096 ≡ c → Known size
+    side true p b q c r = one 256 6 (eqb-true size 256 p) (rw p) (omega arith) (omega arith) (omega arith) (omega arith)
+    side false p true q c r = one 568 13 (eqb-true size 568 q) (rw (p, q)) (omega arith) (omega arith) (omega arith) (omega arith)
+    side false p false q true r = one 4096 102 (eqb-true size 4096 r) (rw (p, q, r)) (omega arith) (omega arith) (omega arith) (omega arith)
+    side false p false q false r = absurd (h (rw (p, q, r)))

@@ -3,3 +3,4 @@ pub mod Words
 pub mod Page
 pub mod Size
 pub mod Laws
+pub mod Cells

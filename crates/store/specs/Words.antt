@@ -17,6 +17,11 @@ bytesOf (suc n) v = (v % 256) ∷ bytesOf n (v / 256)
 unfoldable pub wordAt : List ℕ → ℕ → ℕ
 wordAt s at = little (take 8 (drop at s))
 
+-- eight bytes as a number
+abbrev pub wordOf : ℕ → ℕ → ℕ → ℕ → ℕ → ℕ → ℕ → ℕ → ℕ
+wordOf b0 b1 b2 b3 b4 b5 b6 b7 =
+    b0 + b1 * 256 + b2 * 65536 + b3 * 16777216 + (b4 + b5 * 256 + b6 * 65536 + b7 * 16777216) * 4294967296
+
 -- the n things of w bytes each from the front of a list of bytes
 unfoldable pub cells : {A : Type 0} → (List ℕ → A) → ℕ → ℕ → List ℕ → List A
 cells f w zero s = []

@@ -1,5 +1,8 @@
 // Page ids, page sizes and the store's record, after store.rs of the Rust.
 ghost use mathlib.Core.Path.{_≡_};
+ghost use Prim.Native.Nat.{_+_, _≤_};
+ghost use lib.ListN.{length};
+ghost use Rattle.store.specs.Words.{bytesOf, wordAt, wordOf, patch};
 ghost use Rattle.store.specs.Size.{capacity};
 ghost use Rattle.store.specs.Page.{none, isNone};
 
@@ -47,4 +50,63 @@ pub fn capacity_of(size: u64) -> usize
         return 102;
     }
     0
+}
+
+// The eight bytes of a word, lowest first. The products are shifts to the compiler, and with the reads below one load.
+fn joined(b0: u8, b1: u8, b2: u8, b3: u8, b4: u8, b5: u8, b6: u8, b7: u8) -> u64
+    ensures { λ r. ⌜ r ≡ wordOf b0 b1 b2 b3 b4 b5 b6 b7 ⌝ }
+{
+    let lo = (b0 as u64) + (b1 as u64) * 256 + (b2 as u64) * 65536 + (b3 as u64) * 16777216;
+    let hi = (b4 as u64) + (b5 as u64) * 256 + (b6 as u64) * 65536 + (b7 as u64) * 16777216;
+    lo + hi * 4294967296
+}
+
+// The word that stands at byte `at`.
+pub fn word(s: &[u8], at: usize) -> u64
+    requires { ⌜ at + 8 ≤ length (now s) ⌝ }
+    ensures { λ r. ⌜ r ≡ wordAt (now (s .entry)) at ⌝ }
+{
+    joined(
+        s[at],
+        s[at + 1],
+        s[at + 2],
+        s[at + 3],
+        s[at + 4],
+        s[at + 5],
+        s[at + 6],
+        s[at + 7],
+    )
+}
+
+// All of `p` goes into `s` from byte `at` on.
+pub fn put(s: &mut [u8], at: usize, p: &[u8])
+    requires { ⌜ at + length (now p) ≤ length (now s) ⌝ }
+    ensures { λ _. ⌜ now (s .exit) ≡ patch (now (s .entry)) at (now (p .entry)) ⌝ }
+{
+    bytes::copy(p, &mut s[at..at + p.len()]);
+}
+
+// The eight bytes of `w` go into `s` from byte `at` on.
+pub fn put_word(s: &mut [u8], at: usize, w: u64)
+    requires { ⌜ at + 8 ≤ length (now s) ⌝ }
+    ensures { λ _. ⌜ now (s .exit) ≡ patch (now (s .entry)) at (bytesOf 8 w) ⌝ }
+{
+    let w1 = w / 256;
+    let w2 = w1 / 256;
+    let w3 = w2 / 256;
+    let w4 = w3 / 256;
+    let w5 = w4 / 256;
+    let w6 = w5 / 256;
+    let w7 = w6 / 256;
+    let word = [
+        (w % 256) as u8,
+        (w1 % 256) as u8,
+        (w2 % 256) as u8,
+        (w3 % 256) as u8,
+        (w4 % 256) as u8,
+        (w5 % 256) as u8,
+        (w6 % 256) as u8,
+        (w7 % 256) as u8,
+    ];
+    put(s, at, &word);
 }

@@ -1,0 +1,8 @@
+-- What the insert and its parts leave.
+pub mod Wrote
+pub mod Told
+pub mod PutLaws
+pub mod Load
+pub mod Split
+pub mod Settle
+pub mod Flush

@@ -1,0 +1,3 @@
+// The hitchhiker tree, after htree.rs of the Rust.
+pub mod insert;
+pub mod place;

@@ -1,0 +1,8 @@
+-- What the reader's answers say, and laws for the loops that read and write pages.
+pub mod Reading
+pub mod Layout
+pub mod RankLaws
+pub mod Steps
+pub mod FetchLaws
+pub mod Ways
+pub mod WriterLaws

@@ -1,0 +1,73 @@
+-- The ways through the reader: one law for each of its answers.
+use Prim.Native.Nat.{ℕ, zero, suc, _+_, _*_, _<_, _≤_}
+use native.Mathlib.Numerals.{add-one}
+use native.Mathlib.Omega.{arith}
+use mathlib.Core.Bool.{Bool, true, false, not}
+use mathlib.Core.List.{List}
+use mathlib.Core.Path.{_≡_, refl}
+use borrow.Author.Tests.{eq-eqb, ne-eqb, le-leb, lt-leb}
+use lib.ListN.{length, drop, getD}
+use Rattle.store.specs.declared.PageId.{PageId}
+use Rattle.store.specs.Words.{wordAt, cells}
+use Rattle.store.specs.Page.{page, none, isNone, pageOf}
+use Rattle.store.specs.Cells.{pages-at}
+use Rattle.store.specs.Laws.{cells-length}
+use Rattle.datom.specs.Datom.{datomOf, datomsOf, storedDatom}
+use Rattle.index.specs.Order.{cmpEavt, eavt}
+use Rattle.answer.specs.declared.Rule.the-variants.{Level, Count, Form, Order, LeafChild, LastChild, ChildId}
+use Rattle.rules.specs.Page.{broken, good, nodeOf, levelOf, countOf, all, rising, older, childRules, nodeRules, readPage}
+use Rattle.memory_store.specs.Steps.{none-word, real-word}
+
+-- the last child, by the bytes
+last-child : (c k : ℕ) (s : List ℕ) → getD (cells pageOf 8 (suc k) (drop (32 * c) s)) (length (datomsOf k s)) none ≡ page (wordAt s (32 * c + 8 * k))
+last-child c k s = rw (cells-length datomOf 32 k s) (pages-at (suc k) k (32 * c) s none (omega arith))
+
+module _ (id : PageId) (c l k : ℕ) (s : List ℕ) where
+  module _ (z : l ≡ 0) where
+    pub way-leaf : all isNone (cells pageOf 8 (k + 1) (drop (32 * c) s)) ≡ false → broken LeafChild ≡ childRules id (nodeOf c l k s)
+    unfolding childRules nodeOf
+    way-leaf n = simp (eq-eqb l 0 z, ← add-one, n)
+
+    pub way-flat : all isNone (cells pageOf 8 (k + 1) (drop (32 * c) s)) ≡ true → good (nodeOf c l k s) ≡ childRules id (nodeOf c l k s)
+    unfolding childRules nodeOf
+    way-flat n = simp (eq-eqb l 0 z, ← add-one, n)
+
+  module _ (z : l ≡ 0 → ⊥) where
+    pub way-last : wordAt s (32 * c + 8 * k) ≡ 0xffff_ffff_ffff_ffff → broken LastChild ≡ childRules id (nodeOf c l k s)
+    unfolding childRules nodeOf
+    way-last n = rw (ne-eqb l 0 z, last-child c k s, none-word _ n)
+
+    module _ (n : wordAt s (32 * c + 8 * k) ≡ 0xffff_ffff_ffff_ffff → ⊥) where
+      pub way-child : all (older id) (cells pageOf 8 (k + 1) (drop (32 * c) s)) ≡ false → broken ChildId ≡ childRules id (nodeOf c l k s)
+      unfolding childRules nodeOf
+      way-child o = simp (ne-eqb l 0 z, last-child c k s, real-word _ n, ← add-one, o)
+
+      pub way-tall : all (older id) (cells pageOf 8 (k + 1) (drop (32 * c) s)) ≡ true → good (nodeOf c l k s) ≡ childRules id (nodeOf c l k s)
+      unfolding childRules nodeOf
+      way-tall o = simp (ne-eqb l 0 z, last-child c k s, real-word _ n, ← add-one, o)
+
+module _ (c : ℕ) (id : PageId) (s : List ℕ) where
+  pub way-level : 7 < getD s (40 * c + 8) 0 → broken Level ≡ readPage eavt c id s
+  unfolding readPage levelOf
+  way-level h = simp (lt-leb _ _ h)
+
+  module _ (hl : getD s (40 * c + 8) 0 ≤ 7) where
+    pub way-count : c < getD s (40 * c + 9) 0 → broken Count ≡ readPage eavt c id s
+    unfolding readPage levelOf countOf
+    way-count h = simp (le-leb _ _ hl, lt-leb _ _ h)
+
+    module _ (hk : getD s (40 * c + 9) 0 ≤ c) where
+      pub way-form : all storedDatom (datomsOf (getD s (40 * c + 9) 0) s) ≡ false → broken Form ≡ readPage eavt c id s
+      unfolding readPage levelOf countOf nodeRules nodeOf eavt
+      way-form f = simp (le-leb _ _ hl, le-leb _ _ hk, f)
+
+      module _ (f : all storedDatom (datomsOf (getD s (40 * c + 9) 0) s) ≡ true) where
+        pub way-order : rising cmpEavt (datomsOf (getD s (40 * c + 9) 0) s) ≡ false → broken Order ≡ readPage eavt c id s
+        unfolding readPage levelOf countOf nodeRules nodeOf eavt
+        way-order g = simp (le-leb _ _ hl, le-leb _ _ hk, f, g)
+
+        pub way-on :
+            rising cmpEavt (datomsOf (getD s (40 * c + 9) 0) s) ≡ true →
+            childRules id (nodeOf c (getD s (40 * c + 8) 0) (getD s (40 * c + 9) 0) s) ≡ readPage eavt c id s
+        unfolding readPage levelOf countOf nodeRules nodeOf eavt
+        way-on g = simp (le-leb _ _ hl, le-leb _ _ hk, f, g)

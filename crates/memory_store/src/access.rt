@@ -1,0 +1,73 @@
+// What stands in a page, or in an area that is laid out as one: n datoms from 0 on, and n + 1 children from 32 * m on, m being how
+// many datoms there is room for.
+use answer::NextMidpoint;
+use datom::Datom;
+use index::Order;
+use store::PageId;
+ghost use mathlib.Core.Bool.{true};
+ghost use mathlib.Core.Path.{_≡_};
+ghost use Prim.Native.Nat.{_+_, _*_, _≤_};
+ghost use lib.ListN.{length, drop};
+ghost use Rattle.store.specs.Words.{wordAt};
+ghost use Rattle.store.specs.Page.{page};
+ghost use Rattle.datom.specs.Datom.{datomsOf};
+ghost use Rattle.index.specs.Order.{cmpEavt};
+ghost use Rattle.rules.specs.Page.{rising};
+ghost use Rattle.rules.specs.Node.{isMidpoint, nextMidpoint, rank};
+ghost use Rattle.memory_store.specs.Layout.{childrenOf};
+
+// The child at index i.
+pub fn child_at(s: &[u8], m: usize, i: usize) -> PageId
+    requires { ⌜ 32 * m + 8 * i + 8 ≤ length (now s) ⌝ }
+    ensures { λ r. ⌜ r ≡ page (wordAt (now (s .entry)) (32 * m + 8 * i)) ⌝ }
+{
+    PageId(store::word(s, 32 * m + 8 * i))
+}
+
+// Whether the datom at index i is a midpoint: the child at its index is real.
+pub fn is_midpoint_at(s: &[u8], m: usize, n: usize, i: usize) -> bool
+    requires { ⌜ (n ≤ m) × ((40 * m + 8 ≤ length (now s)) × (i ≤ n)) ⌝ }
+    ensures { λ r. ⌜ r ≡ isMidpoint (childrenOf m n (now (s .entry))) i ⌝ }
+{
+    !child_at(s, m, i).is_none()
+}
+
+// The first real child at or after an index.
+pub fn next_midpoint(s: &[u8], m: usize, n: usize, from: usize) -> NextMidpoint
+    requires { ⌜ (n ≤ m) × (40 * m + 8 ≤ length (now s)) ⌝ }
+    ensures { λ r. ⌜ r ≡ nextMidpoint (drop from (childrenOf m n (now (s .entry)))) ⌝ }
+{
+    let mut i = from;
+    while i <= n {
+        let child = child_at(s, m, i);
+        if !child.is_none() {
+            return NextMidpoint::Child(child);
+        }
+        i += 1;
+    }
+    NextMidpoint::Nothing
+}
+
+// The index of the first of k rising datoms that is not below d, by halving.
+pub fn first_not_below(s: &[u8], k: usize, d: Datom) -> usize
+    requires { ⌜ (32 * k ≤ length (now s)) × (rising cmpEavt (datomsOf k (now s)) ≡ true) ⌝ }
+    ensures { λ r. ⌜ r ≡ rank cmpEavt d (datomsOf k (now (s .entry))) ⌝ }
+{
+    let mut lo = 0;
+    let mut hi = k;
+    while lo < hi {
+        let mid = lo + (hi - lo) / 2;
+        match index::order_of(datom::datom_at(s, 32 * mid), d) {
+            Order::Less => {
+                lo = mid + 1;
+            }
+            Order::Equal => {
+                hi = mid;
+            }
+            Order::Greater => {
+                hi = mid;
+            }
+        }
+    }
+    lo
+}

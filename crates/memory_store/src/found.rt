@@ -1,0 +1,33 @@
+// A page as it is read during a call.
+use crate::reader::Reading;
+use answer::Fault;
+use store::Extent;
+use store::PageId;
+ghost use mathlib.Core.Bool.{false};
+ghost use mathlib.Core.Path.{_≡_};
+ghost use Rattle.store.specs.Size.{capacity};
+ghost use Rattle.index.specs.Order.{eavt};
+ghost use Rattle.rules.specs.Store.{badStore, fetchPage};
+ghost use Rattle.memory_store.specs.Reading.{told};
+
+// What is wrong with the page, or its level and count.
+pub enum Found {
+    Faulty(Fault),
+    Fine { level: usize, count: usize },
+}
+
+// Page `page` of a store in order, whose pages hold c datoms.
+pub fn node_at(store: &[u8], extent: Extent, c: usize, page: PageId) -> Found
+    requires { ⌜ (badStore extent (now store) ≡ false) × (c ≡ capacity (extent .size)) ⌝ }
+    ensures { λ r. ⌜ told extent (now (store .entry)) page r ≡ fetchPage eavt extent (now (store .entry)) page ⌝ }
+{
+    if extent.count <= page.0 {
+        return Found::Faulty(Fault::Missing);
+    }
+    let size = extent.size as usize;
+    let at = page.0 as usize * size;
+    match crate::reader::read_page(&store[at..at + size], c, page) {
+        Reading::Broken(rule) => Found::Faulty(Fault::Breaks(rule)),
+        Reading::Good { level, count } => Found::Fine { level, count },
+    }
+}

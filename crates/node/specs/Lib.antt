@@ -1,0 +1,10 @@
+-- A node in an area: what the code promises of it, and the laws behind that.
+pub mod Area
+pub mod Moves
+pub mod Stores
+pub mod Spans
+pub mod Merge
+pub mod Turns
+pub mod Splice
+pub mod Frames
+pub mod Parts

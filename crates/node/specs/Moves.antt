@@ -1,0 +1,123 @@
+-- Bytes that move within one slice, and cells among them.
+use Prim.Native.Nat.{ℕ, suc, _+_, _-_, _*_, _≤_, _<_}
+use native.Mathlib.Decide.{decLe}
+use native.Mathlib.Nat.{mul-add, mul-suc, mul-zero, add-zero, mul-le-mul-left}
+use native.Mathlib.Numerals.{add-one}
+use native.Mathlib.Omega.{arith}
+use mathlib.Core.List.{List, _++_, append-assoc, append-nil}
+use mathlib.Core.Path.{_≡_, sym, ap, _∙_}
+use lib.ListN.{length, take, drop, length-drop, length-append, drop-of-length-le, take-append-drop}
+use lib.Seq.{length-take-le, take-length, take-add, take-take, take-at, drop-at, drop-drop}
+use Rattle.store.specs.Words.{cells, patch}
+use Rattle.store.specs.Laws.{cells-length}
+use Rattle.store.specs.Cells.{take-patch, patch-length, drop-patch-le, drop-take-le, cells-more, cells-front, cells-put}
+
+-- a part has the length that was asked for
+pub cut : (n at : ℕ) (s : List ℕ) → at + n ≤ length s → length (take n (drop at s)) ≡ n
+cut n at s h = length-take-le n (drop at s) (simp length-drop (omega arith))
+
+-- w bytes that are copied to an array of w
+pub copied :
+    (w from : ℕ) (s z : List ℕ) → from + w ≤ length s → length z ≡ w →
+    take (length (take (from + w - from) (drop from s))) (take (from + w - from) (drop from s))
+    ++ drop (length (take (from + w - from) (drop from s))) z
+    ≡ take w (drop from s)
+copied w from s z h e =
+    let n : from + w - from ≡ w = omega arith in
+    let k = cut w from s h in
+    rw (n, take-length (take w (drop from s)), drop-of-length-le z {i = length (take w (drop from s))} (omega arith), append-nil)
+
+-- the slice after `size` bytes have gone from one place to another
+abbrev pub moveOf : List ℕ → ℕ → ℕ → ℕ → List ℕ
+moveOf s from to size = patch s to (take size (drop from s))
+
+module _ (s : List ℕ) (from to size : ℕ) (h : from + size ≤ length s) (g : to + size ≤ length s) where
+  pub move-length : length (moveOf s from to size) ≡ length s
+  move-length = patch-length s to (take size (drop from s)) (omega (arith, cut size from s h))
+
+  pub move-past : (at : ℕ) → to + size ≤ at → at ≤ length s → drop at (moveOf s from to size) ≡ drop at s
+  move-past at k l = drop-patch-le s to (take size (drop from s)) at (omega (arith, cut size from s h)) l
+
+-- two stores side by side are one
+patch-patch :
+    (s : List ℕ) (at : ℕ) (p q : List ℕ) → at + length p + length q ≤ length s → patch (patch s at p) (at + length p) q ≡ patch s at (p ++ q)
+unfolding patch
+patch-patch s at p q h =
+    let k : length (take at s ++ p) ≡ at + length p = rw (length-append, length-take-le at s (omega arith)) in
+    let f : at + length p + length q ≡ at + length (p ++ q) = omega (arith, length-append p q) in
+    let e : drop (at + length p + length q) ((take at s ++ p) ++ drop (at + length p) s) ≡ drop (at + length (p ++ q)) s =
+    sym (drop-drop (length q) (at + length p) _) ∙ ap (drop (length q)) (drop-at (take at s ++ p) (drop (at + length p) s) (at + length p) k)
+    ∙ drop-drop (length q) (at + length p) s ∙ ap (λ (j : ℕ). drop j s) f in
+    rw (take-at (take at s ++ p) (drop (at + length p) s) (at + length p) k, e)
+    (ap (λ (t : List ℕ). t ++ drop (at + length (p ++ q)) s) (append-assoc (take at s) p q))
+
+-- bytes in front of a store
+before-patch : (w from : ℕ) (s : List ℕ) (at : ℕ) (p : List ℕ) → from + w ≤ at → at ≤ length s → take w (drop from (patch s at p)) ≡ take w (drop from s)
+before-patch w from s at p h l = sym (front (patch s at p)) ∙ ap (λ (x : List ℕ). take w (drop from x)) (take-patch s at p l) ∙ front s
+  where
+    front : (x : List ℕ) → take w (drop from (take at x)) ≡ take w (drop from x)
+    front x =
+        let k : w ≤ at - from = omega arith in
+        rw (drop-take-le from at x (omega arith), take-take w (at - from) (drop from x) k)
+
+-- A move of n cells of w bytes, one after the other, first cell first. They go down, or to a place past all of them.
+module _ (w : ℕ) (s : List ℕ) (from to : ℕ) where
+  pub move-start : s ≡ moveOf s from to (w * 0)
+  unfolding patch
+  move-start =
+      rw mul-zero (sym (ap (λ (t : List ℕ). t ++ drop (to + 0) s) (append-nil (take to s)) ∙ rw add-zero (take-append-drop to s)))
+
+  module _ (n i : ℕ) (within : i < n) (here : from + w * n ≤ length s) (there : to + w * n ≤ length s) (apart : from < to → from + w * n ≤ to) where
+    turn : w * i + w ≤ w * n
+    turn = omega (arith, mul-le-mul-left {m = suc i} {n = n} w (omega arith), mul-suc w i)
+
+    -- the cell that is next is still as it was
+    next : take w (drop (from + w * i) (moveOf s from to (w * i))) ≡ take w (drop (w * i) (drop from s))
+    next = still ∙ rw drop-drop
+      where
+        still : take w (drop (from + w * i) (moveOf s from to (w * i))) ≡ take w (drop (from + w * i) s)
+        still = elim (decLe to from) [
+          | yes a ↦ ap (take w) (move-past s from to (w * i) (omega (arith, turn)) (omega (arith, turn)) (from + w * i) (omega (arith, a)) (omega (arith, turn)))
+          | no a ↦ before-patch w (from + w * i) s to (take (w * i) (drop from s)) (omega (arith, turn, apart (omega (arith, a)))) (omega arith)
+        ]
+
+    -- and its move makes the move of i cells one of i + 1
+    pub move-on : (t : List ℕ) → t ≡ moveOf s from to (w * i) → moveOf t (from + w * i) (to + w * i) w ≡ moveOf s from to (w * (i + 1))
+    move-on t e =
+        let d = drop from s in
+        let p = take (w * i) d in
+        let q = take w (drop (w * i) d) in
+        let lp : length p ≡ w * i = cut (w * i) from s (omega (arith, turn)) in
+        let lq : length q ≡ w = cut w (w * i) d (simp length-drop (omega (arith, turn))) in
+        let j : patch (patch s to p) (to + length p) q ≡ patch s to (p ++ q) = patch-patch s to p q (omega (arith, turn)) in
+        rw (e, next, add-one, mul-suc, take-add, ← j, lp)
+
+-- the first i cells, and those from index i on
+module _ {A : Type 0} (f : List ℕ → A) (w : ℕ) where
+  pub cells-drop : (n i : ℕ) (s : List ℕ) → i ≤ n → drop i (cells f w n s) ≡ cells f w (n - i) (drop (w * i) s)
+  cells-drop n i s h =
+      let e : n ≡ i + (n - i) = omega arith in
+      ap (λ (k : ℕ). drop i (cells f w k s)) e ∙ rw (cells-more f w i (n - i) s) (drop-at (cells f w i s) _ i (cells-length f w i s))
+
+  pub cells-take : (n i : ℕ) (s : List ℕ) → i ≤ n → take i (cells f w n s) ≡ cells f w i s
+  cells-take n i s h =
+      let e : n ≡ i + (n - i) = omega arith in
+      ap (λ (k : ℕ). take i (cells f w k s)) e ∙ rw (cells-more f w i (n - i) s) (take-at (cells f w i s) _ i (cells-length f w i s))
+
+  -- i cells, and two runs of others that are stored behind them
+  pub two-runs :
+      (i a b : ℕ) (s x y : List ℕ) → w * (i + a + b) ≤ length s → w * a ≤ length x → w * b ≤ length y →
+      cells f w (i + a + b) (patch (patch s (w * i) (take (w * a) x)) (w * (i + a)) (take (w * b) y)) ≡ cells f w i s ++ (cells f w a x ++ cells f w b y)
+  two-runs i a b s x y h hx hy =
+      let e₁ = mul-add w i a in
+      let e₂ = mul-add w (i + a) b in
+      let lx : length (take (w * a) x) ≡ w * a = length-take-le (w * a) x hx in
+      let ly : length (take (w * b) y) ≡ w * b = length-take-le (w * b) y hy in
+      let k = patch-length s (w * i) (take (w * a) x) (omega arith) in
+      rw (
+        cells-put f w (i + a) b (patch s (w * i) (take (w * a) x)) (take (w * b) y) ly (omega arith),
+        cells-put f w i a s (take (w * a) x) lx (omega arith),
+        cells-front f w a (w * a) x (omega arith),
+        cells-front f w b (w * b) y (omega arith),
+        append-assoc,
+      )

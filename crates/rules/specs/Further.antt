@@ -1,0 +1,132 @@
+-- More cases that the rules compute: listings between bounds at new and old roots, the reader's rules one by one, the checks, and the
+-- four words. Each stands for a sentence of document 01 that no starred example shows.
+use Prim.Native.Nat.{ℕ}
+use mathlib.Core.Bool.{true, false}
+use mathlib.Core.List.{List, [], _∷_, _++_}
+use mathlib.Core.Path.{_≡_, refl}
+use lib.ListN.{replicate, set}
+use Rattle.store.specs.declared.PageId.{PageId}
+use Rattle.store.specs.Words.{zeros}
+use Rattle.store.specs.Page.{page, none}
+use Rattle.datom.specs.declared.Datom.{Datom}
+use Rattle.index.specs.Order.{eavt}
+use Rattle.answer.specs.declared.Rule.the-variants.{Level, Count, Form, Order, LeafChild, LastChild, ChildId}
+use Rattle.answer.specs.declared.Refusal.the-variants.{BadStore, NoPage, Damaged}
+use Rattle.answer.specs.declared.Answer.the-variants.{Refused}
+use Rattle.answer.specs.declared.Check.{Check}
+use Rattle.answer.specs.declared.Check.the-variants.{Sound, Unsound}
+use Rattle.rules.specs.Page.{Read, broken, good, readPage, encodePage}
+use Rattle.rules.specs.Insert.{insert, insertBytes}
+use Rattle.rules.specs.Entry.{insertReply}
+use Rattle.rules.specs.Listing.{Listed, whole, cut, startList, listing}
+use Rattle.rules.specs.Check.{checkTree}
+use Rattle.rules.specs.Table.{d, run, scratch, Place, calls, small}
+use Rattle.rules.specs.Open.{rules}
+
+-- example e: page 3 has d3 and the pending d7 to d11 above d4 to d6
+abbrev e : Place
+e = calls (run 0 7) (run 7 5 ∷ [])
+
+abbrev listed : ℕ → Datom → Datom → Listed
+listed root lo hi = listing eavt (e .extent) (e .store) 20 (startList eavt (e .extent) (e .store) (page root) lo hi)
+
+lists-all : listed 3 (d 0) (d 12) ≡ whole (run 0 12)
+unfolding rules
+lists-all = refl
+
+-- from the lower bound up to but not including the upper
+lists-between : listed 3 (d 3) (d 9) ≡ whole (run 3 6)
+unfolding rules
+lists-between = refl
+
+-- "Lower bound at or above upper .. height 0"
+lists-none : listed 3 (d 9) (d 9) ≡ whole []
+unfolding rules
+lists-none = refl
+
+-- the older root lists what it did
+lists-older : listed 2 (d 0) (d 12) ≡ whole (run 0 7)
+unfolding rules
+lists-older = refl
+
+refused-root : listed 4 (d 0) (d 12) ≡ cut NoPage []
+unfolding rules
+refused-root = refl
+
+-- the check at both roots, and where a leaf stands outside its bounds: d4 to d6 above the midpoint d3 made d1 to d6
+checks-sound : checkTree eavt (e .extent) (e .store) (page 3) ≡ Sound
+unfolding rules
+checks-sound = refl
+
+checks-none : checkTree eavt (e .extent) (e .store) none ≡ Sound
+unfolding rules
+checks-none = refl
+
+checks-bounds : checkTree eavt (e .extent) (set (e .store) 256 1) (page 3) ≡ Unsound (page 1)
+unfolding rules
+checks-bounds = refl
+
+-- a leaf and a page above it, as bytes
+abbrev leafPage : List ℕ
+leafPage = encodePage 256 6 (record { level = 0; datoms = run 5 3; children = replicate 4 none })
+
+abbrev topPage : List PageId → List ℕ
+topPage cs = encodePage 256 6 (record { level = 1; datoms = run 3 1; children = cs })
+
+abbrev read : ℕ → List ℕ → Read
+read id s = readPage eavt 6 (page id) s
+
+-- "level at most 7" goes before "count at most C"
+breaks-level : read 2 (set (set leafPage 248 8) 249 7) ≡ broken Level
+unfolding rules
+breaks-level = refl
+
+breaks-count : read 2 (set leafPage 249 7) ≡ broken Count
+unfolding rules
+breaks-count = refl
+
+-- the third datom malformed, and the second not above the first: form goes first
+breaks-form : read 2 (set (set leafPage 87 64) 32 1) ≡ broken Form
+unfolding rules
+breaks-form = refl
+
+breaks-order : read 2 (set leafPage 32 1) ≡ broken Order
+unfolding rules
+breaks-order = refl
+
+breaks-leaf : read 2 (set leafPage 200 0) ≡ broken LeafChild
+unfolding rules
+breaks-leaf = refl
+
+breaks-last : read 2 (topPage (page 9 ∷ none ∷ [])) ≡ broken LastChild
+unfolding rules
+breaks-last = refl
+
+breaks-child : read 1 (topPage (page 0 ∷ page 1 ∷ [])) ≡ broken ChildId
+unfolding rules
+breaks-child = refl
+
+-- "the reader ignores those places"
+reads-past : read 2 (set (set leafPage 180 9) 250 9) ≡ good (record { level = 0; datoms = run 5 3; children = replicate 4 none })
+unfolding rules
+reads-past = refl
+
+-- an insert names the page
+damaged : insert eavt (record { size = 256; count = 1 }) (set leafPage 249 7 ++ zeros 256) scratch (page 0) (run 9 1) .answer ≡ Refused (Damaged (page 0))
+unfolding rules
+damaged = refl
+
+-- refusals in the table's order: a bad store goes before bytes that are no datoms, an unknown root after them
+store-first : insertBytes eavt (record { size = 257; count = 0 }) [] scratch (page 5) (0 ∷ []) .answer ≡ Refused BadStore
+unfolding rules
+store-first = refl
+
+-- four words: 6, the given root, 0 pages, index 0, of example g's resent batch; an area of another length stays as it was
+words-repeated :
+    insertReply eavt (e .extent) (e .store) scratch (page 3) (small 7 ++ (small 1 ++ (small 7 ++ small 3))) (zeros 32) .area ≡ small 6 ++ (small 3 ++ zeros 16)
+unfolding rules
+words-repeated = refl
+
+area-first : insertReply eavt (e .extent) (e .store) scratch (page 3) [] (zeros 31) .area ≡ zeros 31
+unfolding rules
+area-first = refl

@@ -1,0 +1,21 @@
+#!/usr/bin/env bash
+# Makes the recorded answers anew, compares them byte for byte with those in the repository, and
+# replays them on both oracles. Needs build.sh to have run.
+set -euo pipefail
+
+here=$(cd "$(dirname "${BASH_SOURCE[0]}")" && pwd)
+repo=$(cd "$here/../.." && pwd)
+oracle=$repo/build/oracle/oracle
+recorded=$here/recorded/answers.bin
+anew=$repo/build/oracle/answers.bin
+
+if [ ! -x "$oracle" ]; then
+    echo "$0: no $oracle; run tests/oracle/build.sh first" >&2
+    exit 1
+fi
+
+"$oracle" selftest
+"$oracle" record "$anew"
+cmp "$anew" "$recorded"
+"$oracle" replay "$recorded"
+echo "the recorded answers are the oracle's"

@@ -1,0 +1,35 @@
+//! The oracle's driver: runs both builds of noblit's tree by command, and records their answers.
+
+mod history;
+mod record;
+mod recording;
+mod replay;
+mod run;
+mod selftest;
+mod text;
+
+use std::env;
+use std::process::exit;
+
+const USAGE: &str = "usage:
+  oracle run [--echo]   answer the commands on standard input
+  oracle selftest       compare noblit's order with the one written to document 01
+  oracle record FILE    record the fixed list of answers
+  oracle replay FILE    replay a recorded list on both oracles";
+
+fn main() {
+    let arguments: Vec<String> = env::args().skip(1).collect();
+    let words: Vec<&str> = arguments.iter().map(String::as_str).collect();
+    let outcome = match words[..] {
+        ["run"] => run::run(false),
+        ["run", "--echo"] => run::run(true),
+        ["selftest"] => selftest::selftest(),
+        ["record", file] => record::record(file),
+        ["replay", file] => replay::replay(file),
+        _ => Err(USAGE.to_string()),
+    };
+    if let Err(problem) = outcome {
+        eprintln!("oracle: {}", problem);
+        exit(1);
+    }
+}

@@ -1,0 +1,224 @@
+//! The file of recorded answers: a sequence of records of little-endian words (docs/ORACLE.md).
+
+use harness::Datom;
+
+/// A reader may keep one record in memory, so none is longer, its length word not counted.
+pub const LONGEST_RECORD: usize = 65_536;
+
+/// Which oracles gave an answer.
+#[derive(Clone, Copy, Debug, PartialEq)]
+pub enum Who {
+    Patched,
+    Both,
+}
+
+/// Bytes as they are, or only their digest.
+#[derive(Clone, Debug, PartialEq)]
+pub enum Carried {
+    Digest(u64),
+    Raw(Vec<u8>),
+}
+
+impl Carried {
+    /// Whether these are the bytes that were carried.
+    pub fn stands_for(&self, bytes: &[u8]) -> bool {
+        match self {
+            Carried::Digest(expected) => digest(bytes) == *expected,
+            Carried::Raw(expected) => bytes == &expected[..],
+        }
+    }
+}
+
+/// The answer to a call that writes pages.
+#[derive(Clone, Debug, PartialEq)]
+pub struct Written {
+    pub root: u64,
+    pub count: u64,
+    pub pages: Carried,
+}
+
+#[derive(Clone, Debug, PartialEq)]
+pub enum Record {
+    Begin { page_size: u64, room: u64, history: u64 },
+    Initialise { who: Who, batch: Vec<Datom>, written: Written },
+    Insert { who: Who, root: u64, batch: Vec<Datom>, written: Written },
+    List { who: Who, root: u64, lower: Datom, upper: Datom, count: u64, datoms: Carried },
+    /// The page at fault, or nothing for a sound tree.
+    Check { who: Who, root: u64, fault: Option<u64> },
+    Poke { page: u64, bytes: Vec<u8> },
+    End { count: u64, digest: u64 },
+}
+
+/// h = (h * 31 + byte) mod 4294967291, from h = 0.
+pub fn digest(bytes: &[u8]) -> u64 {
+    bytes.iter().fold(0, |h, &byte| (h * 31 + byte as u64) % 4_294_967_291)
+}
+
+pub fn datom_bytes(datoms: &[Datom]) -> Vec<u8> {
+    datoms.iter().flatten().flat_map(|word| word.to_le_bytes()).collect()
+}
+
+impl Record {
+    pub fn encode(&self) -> Vec<u8> {
+        let mut body = Body::default();
+        match self {
+            Record::Begin { page_size, room, history } => body.words(&[1, *page_size, *room, *history]),
+            Record::Initialise { who, batch, written } => {
+                body.words(&[2, who.number()]);
+                body.batch(batch);
+                body.written(written);
+            }
+            Record::Insert { who, root, batch, written } => {
+                body.words(&[3, who.number(), *root]);
+                body.batch(batch);
+                body.written(written);
+            }
+            Record::List { who, root, lower, upper, count, datoms } => {
+                body.words(&[4, who.number(), *root]);
+                body.words(lower);
+                body.words(upper);
+                body.words(&[*count]);
+                body.carried(datoms);
+            }
+            Record::Check { who, root, fault } => {
+                body.words(&[5, who.number(), *root, fault.is_some() as u64, fault.unwrap_or(0)]);
+            }
+            Record::Poke { page, bytes } => {
+                body.words(&[6, *page]);
+                body.bytes.extend(bytes);
+            }
+            Record::End { count, digest } => body.words(&[7, *count, *digest]),
+        }
+        assert!(body.bytes.len() <= LONGEST_RECORD, "a record of {} bytes is too long", body.bytes.len());
+        let mut record = (body.bytes.len() as u64).to_le_bytes().to_vec();
+        record.extend(body.bytes);
+        record
+    }
+
+    /// Takes the first record off `file`.
+    pub fn decode(file: &mut &[u8]) -> Result<Record, String> {
+        let length = Fields(file).word()? as usize;
+        if length > LONGEST_RECORD || length % 8 != 0 || 8 + length > file.len() {
+            return Err(format!("no record has {} bytes here", length));
+        }
+        let mut fields = Fields(&file[8..8 + length]);
+        *file = &file[8 + length..];
+        let record = fields.record()?;
+        if !fields.0.is_empty() {
+            return Err(format!("{} bytes too many in {:?}", fields.0.len(), record));
+        }
+        Ok(record)
+    }
+}
+
+impl Who {
+    fn number(self) -> u64 {
+        match self {
+            Who::Patched => 1,
+            Who::Both => 3,
+        }
+    }
+}
+
+/// A record being written.
+#[derive(Default)]
+struct Body {
+    bytes: Vec<u8>,
+}
+
+impl Body {
+    fn words(&mut self, words: &[u64]) {
+        self.bytes.extend(words.iter().flat_map(|word| word.to_le_bytes()));
+    }
+
+    fn batch(&mut self, batch: &[Datom]) {
+        self.words(&[batch.len() as u64]);
+        self.bytes.extend(datom_bytes(batch));
+    }
+
+    fn written(&mut self, written: &Written) {
+        self.words(&[written.root, written.count]);
+        self.carried(&written.pages);
+    }
+
+    fn carried(&mut self, carried: &Carried) {
+        match carried {
+            Carried::Digest(digest) => self.words(&[0, *digest]),
+            Carried::Raw(bytes) => {
+                self.words(&[1]);
+                self.bytes.extend(bytes);
+            }
+        }
+    }
+}
+
+/// What is left to read of a record.
+struct Fields<'a>(&'a [u8]);
+
+impl<'a> Fields<'a> {
+    fn record(&mut self) -> Result<Record, String> {
+        Ok(match self.word()? {
+            1 => Record::Begin { page_size: self.word()?, room: self.word()?, history: self.word()? },
+            2 => Record::Initialise { who: self.who()?, batch: self.batch()?, written: self.written()? },
+            3 => Record::Insert { who: self.who()?, root: self.word()?, batch: self.batch()?, written: self.written()? },
+            4 => Record::List {
+                who: self.who()?,
+                root: self.word()?,
+                lower: self.datom()?,
+                upper: self.datom()?,
+                count: self.word()?,
+                datoms: self.carried()?,
+            },
+            5 => Record::Check { who: self.who()?, root: self.word()?, fault: self.fault()? },
+            6 => Record::Poke { page: self.word()?, bytes: self.rest() },
+            7 => Record::End { count: self.word()?, digest: self.word()? },
+            kind => return Err(format!("there is no kind {}", kind)),
+        })
+    }
+
+    fn word(&mut self) -> Result<u64, String> {
+        let (word, rest) = self.0.split_first_chunk().ok_or("the record is too short")?;
+        self.0 = rest;
+        Ok(u64::from_le_bytes(*word))
+    }
+
+    fn datom(&mut self) -> Result<Datom, String> {
+        Ok([self.word()?, self.word()?, self.word()?, self.word()?])
+    }
+
+    fn batch(&mut self) -> Result<Vec<Datom>, String> {
+        (0..self.word()?).map(|_| self.datom()).collect()
+    }
+
+    fn who(&mut self) -> Result<Who, String> {
+        match self.word()? {
+            1 => Ok(Who::Patched),
+            3 => Ok(Who::Both),
+            number => Err(format!("there is no oracle {}", number)),
+        }
+    }
+
+    fn written(&mut self) -> Result<Written, String> {
+        Ok(Written { root: self.word()?, count: self.word()?, pages: self.carried()? })
+    }
+
+    fn carried(&mut self) -> Result<Carried, String> {
+        match self.word()? {
+            0 => Ok(Carried::Digest(self.word()?)),
+            1 => Ok(Carried::Raw(self.rest())),
+            mode => Err(format!("there is no mode {}", mode)),
+        }
+    }
+
+    fn fault(&mut self) -> Result<Option<u64>, String> {
+        match (self.word()?, self.word()?) {
+            (0, 0) => Ok(None),
+            (1, page) => Ok(Some(page)),
+            (verdict, page) => Err(format!("there is no verdict {} at page {}", verdict, page)),
+        }
+    }
+
+    fn rest(&mut self) -> Vec<u8> {
+        std::mem::take(&mut self.0).to_vec()
+    }
+}

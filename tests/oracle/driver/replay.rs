@@ -1,0 +1,204 @@
+//! Replays a file of recorded answers on both oracles.
+
+use std::collections::BTreeMap;
+use std::fmt;
+use std::fs;
+
+use harness::{Datom, Node, Oracle, Order, Pages, Panic, Verdict, Which, PAGE_SIZES};
+
+use crate::recording::{datom_bytes, digest, Record, Who, Written};
+
+// The answers were recorded with noblit's own order; here the one written to document 01 must give them too.
+const PATCHED: Oracle = Oracle { which: Which::Patched, order: Order::Rule };
+const PLAIN: Oracle = Oracle { which: Which::Plain, order: Order::Rule };
+
+pub fn replay(file: &str) -> Result<(), String> {
+    let bytes = fs::read(file).map_err(|error| format!("{}: {}", file, error))?;
+    let mut rest = &bytes[..];
+    let mut summary = Summary::default();
+    let mut store = None;
+    while !rest.is_empty() {
+        let at = bytes.len() - rest.len();
+        Record::decode(&mut rest)
+            .and_then(|record| step(&mut store, &mut summary, &record))
+            .map_err(|problem| format!("{}, record at byte {}: {}", file, at, problem))?;
+    }
+    if store.is_some() {
+        return Err(format!("{} stops within a history", file));
+    }
+    println!("{}", summary);
+    Ok(())
+}
+
+/// Both oracles' stores within a history.
+struct Stores {
+    patched: Pages,
+    /// Given up at the first answer that only the patched oracle gave.
+    plain: Option<Pages>,
+    room: u64,
+}
+
+fn step(store: &mut Option<Stores>, summary: &mut Summary, record: &Record) -> Result<(), String> {
+    if let Record::Begin { page_size, room, .. } = record {
+        if store.is_some() {
+            return Err("a history begins within another".to_string());
+        }
+        *store = Some(Stores::new(*page_size, *room)?);
+        summary.histories += 1;
+        return Ok(());
+    }
+    let stores = store.as_mut().ok_or("no history has begun")?;
+    match record {
+        Record::Begin { .. } => unreachable!("answered above"),
+        Record::Initialise { who, batch, written } => {
+            stores.write(*who, written, |oracle, pages| oracle.initialise(pages, batch))?;
+            summary.count(*who, |counts| &mut counts.initialise);
+            summary.see_height(stores, written.root);
+        }
+        Record::Insert { who, root, batch, written } => {
+            stores.write(*who, written, |oracle, pages| oracle.insert(pages, *root, batch))?;
+            summary.count(*who, |counts| &mut counts.insert);
+            summary.see_height(stores, written.root);
+        }
+        Record::List { who, root, lower, upper, count, datoms } => {
+            stores.read(*who, |oracle, pages| {
+                let listed = list(oracle, pages, *root, lower, upper)?;
+                expect(listed.len() as u64 == *count && datoms.stands_for(&datom_bytes(&listed)), "the listing")
+            })?;
+            summary.count(*who, |counts| &mut counts.list);
+        }
+        Record::Check { who, root, fault } => {
+            stores.read(*who, |oracle, pages| {
+                let found = match oracle.check(pages, *root) {
+                    Verdict::Sound => None,
+                    Verdict::Unsound(page, _) => Some(page),
+                };
+                expect(found == *fault, "the check")
+            })?;
+            summary.count(*who, |counts| if fault.is_none() { &mut counts.sound } else { &mut counts.unsound });
+        }
+        Record::Poke { page, bytes } => {
+            stores.poke(*page, bytes)?;
+            summary.pokes += 1;
+        }
+        Record::End { count, digest: expected } => {
+            let (found, room) = (stores.patched.count(), stores.room);
+            expect(found == *count && found <= room && digest(stores.patched.bytes()) == *expected, "the store at the end")?;
+            *store = None;
+        }
+    }
+    Ok(())
+}
+
+fn expect(holds: bool, what: &str) -> Result<(), String> {
+    if holds { Ok(()) } else { Err(format!("{} differs from the recorded one", what)) }
+}
+
+fn list(oracle: Oracle, pages: &Pages, root: u64, lower: &Datom, upper: &Datom) -> Result<Vec<Datom>, String> {
+    let mut listed = Vec::new();
+    oracle.list(pages, root, lower, upper, &mut listed).map_err(|panic| panic.message)?;
+    Ok(listed)
+}
+
+impl Stores {
+    fn new(page_size: u64, room: u64) -> Result<Stores, String> {
+        let size = page_size as usize;
+        if !PAGE_SIZES.contains(&size) {
+            return Err(format!("there is no page size {}", page_size));
+        }
+        Ok(Stores { patched: Pages::new(size), plain: Some(Pages::new(size)), room })
+    }
+
+    fn write<Call>(&mut self, who: Who, written: &Written, call: Call) -> Result<(), String>
+    where Call: Fn(Oracle, &mut Pages) -> Result<u64, Panic> {
+        self.drop_plain(who)?;
+        for (oracle, pages) in [(PATCHED, Some(&mut self.patched)), (PLAIN, self.plain.as_mut())] {
+            let Some(pages) = pages else { continue };
+            let before = pages.count();
+            let root = call(oracle, pages).map_err(|panic| panic.message)?;
+            let same = root == written.root
+                && pages.count() - before == written.count
+                && written.pages.stands_for(pages.bytes_from(before));
+            expect(same, "what is written")?;
+        }
+        Ok(())
+    }
+
+    fn read<Look>(&mut self, who: Who, look: Look) -> Result<(), String>
+    where Look: Fn(Oracle, &Pages) -> Result<(), String> {
+        self.drop_plain(who)?;
+        look(PATCHED, &self.patched)?;
+        self.plain.as_ref().map_or(Ok(()), |plain| look(PLAIN, plain))
+    }
+
+    /// A history's plain answers stop at the first that only the patched oracle gave.
+    fn drop_plain(&mut self, who: Who) -> Result<(), String> {
+        match who {
+            Who::Patched => self.plain = None,
+            Who::Both if self.plain.is_none() => return Err("the plain oracle was given up before".to_string()),
+            Who::Both => {}
+        }
+        Ok(())
+    }
+
+    fn poke(&mut self, page: u64, bytes: &[u8]) -> Result<(), String> {
+        if page >= self.patched.count() || bytes.len() != self.patched.page_size() {
+            return Err(format!("{} bytes cannot replace page {}", bytes.len(), page));
+        }
+        if !Node::decode(bytes).map_or(false, |node| node.is_readable(page)) {
+            return Err(format!("the damage leaves page {} unreadable, where the Rust's check has no rule", page));
+        }
+        self.patched.replace(page, bytes);
+        self.plain.iter_mut().for_each(|plain| plain.replace(page, bytes));
+        Ok(())
+    }
+}
+
+/// How many answers of each kind there were.
+#[derive(Default)]
+struct Counts {
+    initialise: usize,
+    insert: usize,
+    list: usize,
+    sound: usize,
+    unsound: usize,
+}
+
+#[derive(Default)]
+struct Summary {
+    histories: usize,
+    all: Counts,
+    by_both: Counts,
+    pokes: usize,
+    /// How many roots of each height were written, by page size.
+    heights: [BTreeMap<u8, usize>; PAGE_SIZES.len()],
+}
+
+impl Summary {
+    fn count(&mut self, who: Who, kind: impl Fn(&mut Counts) -> &mut usize) {
+        *kind(&mut self.all) += 1;
+        if who == Who::Both {
+            *kind(&mut self.by_both) += 1;
+        }
+    }
+
+    fn see_height(&mut self, stores: &Stores, root: u64) {
+        let place = PAGE_SIZES.iter().position(|&size| size == stores.patched.page_size());
+        if let (Some(place), Ok(height)) = (place, PATCHED.height(&stores.patched, root)) {
+            *self.heights[place].entry(height).or_default() += 1;
+        }
+    }
+}
+
+impl fmt::Display for Summary {
+    fn fmt(&self, out: &mut fmt::Formatter) -> fmt::Result {
+        let (all, both) = (&self.all, &self.by_both);
+        write!(
+            out,
+            "{} histories agree (all, of these by both oracles): initialise {}, {}; insert {}, {}; list {}, {}; \
+             sound {}, {}; unsound {}, {}; pages damaged or repaired {}; roots by height at {:?} bytes {:?}",
+            self.histories, all.initialise, both.initialise, all.insert, both.insert, all.list, both.list,
+            all.sound, both.sound, all.unsound, both.unsound, self.pokes, PAGE_SIZES, self.heights,
+        )
+    }
+}

@@ -1,0 +1,120 @@
+//! Compares noblit's order and byte strings with those written to document 01, on random pairs.
+
+use std::cmp::Ordering;
+
+use harness::{byte_string, compare, is_bound, Datom, Oracle, Order, Random, Value, Which, MAX_VALUE};
+
+use crate::text::show_datom;
+
+const SEED: u64 = 1;
+const PAIRS: usize = 400_000;
+
+pub fn selftest() -> Result<(), String> {
+    let mut random = Random::new(SEED);
+    let (mut less, mut equal, mut greater) = (0, 0, 0);
+    for _ in 0..PAIRS {
+        agreed_string(&bytes(&mut random))?;
+        let left = bound(&mut random);
+        let right = neighbour(&mut random, &left);
+        match agreed_order(&left, &right)? {
+            Ordering::Less => less += 1,
+            Ordering::Equal => equal += 1,
+            Ordering::Greater => greater += 1,
+        }
+    }
+    println!("{} pairs agree: {} less, {} equal, {} greater", PAIRS, less, equal, greater);
+    Ok(())
+}
+
+/// Both oracles must have the word that document 01 gives a byte string.
+fn agreed_string(bytes: &[u8]) -> Result<(), String> {
+    for which in [Which::Plain, Which::Patched] {
+        let found = Oracle { which, order: Order::Eavt }.inline_bytes(bytes);
+        if found != Some(byte_string(bytes)) {
+            return Err(format!("the {:?} Rust has {:x?} for the byte string {:x?}", which, found, bytes));
+        }
+    }
+    Ok(())
+}
+
+/// What both orders say of a pair, which both oracles must say both ways round.
+fn agreed_order(left: &Datom, right: &Datom) -> Result<Ordering, String> {
+    assert!(is_bound(left) && is_bound(right), "the generator makes well-formed datoms only");
+    let ruled = compare(left, right);
+    for which in [Which::Plain, Which::Patched] {
+        let oracle = Oracle { which, order: Order::Eavt };
+        for (l, r, expected) in [(left, right, ruled), (right, left, ruled.reverse())] {
+            let found = oracle.compare(l, r);
+            if found != Ok(expected) {
+                return Err(format!(
+                    "{} and {} are {:?} by document 01 but {:?} in the {:?} Rust",
+                    show_datom(l), show_datom(r), expected, found, which,
+                ));
+            }
+        }
+    }
+    Ok(ruled)
+}
+
+fn bound(random: &mut Random) -> Datom {
+    [word(random), word(random), value(random), word(random)]
+}
+
+/// A datom that agrees with the other one in most places, so that each place gets to decide.
+fn neighbour(random: &mut Random, datom: &Datom) -> Datom {
+    let mut near = *datom;
+    match random.below(8) {
+        0 => {}
+        1 => near[0] = word(random),
+        2 => near[1] = word(random),
+        3 => near[3] = word(random),
+        4 | 5 => near[2] = value(random),
+        6 => near[2] = similar_value(random, datom[2]),
+        _ => near = bound(random),
+    }
+    near
+}
+
+fn word(random: &mut Random) -> u64 {
+    match random.below(4) {
+        0 => random.below(4) as u64,
+        1 => u64::MAX - random.below(4) as u64,
+        _ => random.word(),
+    }
+}
+
+fn value(random: &mut Random) -> u64 {
+    match random.below(8) {
+        0 => MAX_VALUE,
+        1 => random.below(3) as u64,
+        2 => (1 << 62) - 1 - random.below(3) as u64,
+        3 => random.word() >> 2,
+        _ => byte_string(&bytes(random)),
+    }
+}
+
+/// Strings over few letters, so that prefixes and equal beginnings are common.
+fn bytes(random: &mut Random) -> Vec<u8> {
+    let length = random.below(8);
+    (0..length).map(|_| random.pick(&[0x00, 0x01, b'a', b'b', 0x7f, 0x80, 0xff])).collect()
+}
+
+/// A byte string that differs in one byte or in length by one; another value for other kinds.
+fn similar_value(random: &mut Random, word: u64) -> u64 {
+    let Some(Value::Bytes(content, length)) = Value::of_word(word) else {
+        return value(random);
+    };
+    let mut bytes = content[..length].to_vec();
+    match random.below(3) {
+        0 if length < 7 => bytes.push(random.pick(&[0x00, b'a', 0xff])),
+        1 if length > 0 => {
+            bytes.pop();
+        }
+        _ if length > 0 => {
+            let at = random.below(length);
+            bytes[at] = random.word() as u8;
+        }
+        _ => {}
+    }
+    byte_string(&bytes)
+}

@@ -1,0 +1,53 @@
+#!/usr/bin/env bash
+# Tests the recorded answers: builds the patched oracle with one fault at a time from faults.txt and
+# requires that the replay refuses it. Needs build.sh to have run; takes some minutes.
+set -euo pipefail
+
+here=$(cd "$(dirname "${BASH_SOURCE[0]}")" && pwd)
+repo=$(cd "$here/../.." && pwd)
+sound=$repo/build/oracle
+out=$repo/build/oracle-faults
+flags=(-C opt-level=1 -C debug-assertions=on -C overflow-checks=on -C codegen-units=1)
+# shellcheck source=steps.sh
+source "$here/steps.sh"
+
+if [ ! -x "$sound/oracle" ]; then
+    echo "$0: no $sound/oracle; run tests/oracle/build.sh first" >&2
+    exit 1
+fi
+
+# Applies a sed script to the file with the fault, and fails if that changes nothing.
+put_fault() {
+    local file
+    case $1 in
+        htree) file=$out/source/patched/htree.rs ;;
+        datom) file=$out/harness/datom.rs ;;
+        *) echo "$0: faults.txt names an unknown file $1" >&2; exit 1 ;;
+    esac
+    cp "$file" "$out/before"
+    sed -i -e "$2" "$file"
+    if cmp --quiet "$out/before" "$file"; then
+        echo "$0: \`$2\` changes nothing in $1" >&2
+        exit 1
+    fi
+}
+
+refused=0 missed=0
+while IFS='|' read -r file name script; do
+    rm -rf "$out"
+    mkdir -p "$out"
+    cp -r "$sound/source" "$sound/libnoblit_plain.rlib" "$here/harness" "$out/"
+    put_fault "$file" "$script"
+    build_noblit patched
+    build_harness "$out/harness"
+    build_driver
+    if "$out/oracle" replay "$here/recorded/answers.bin" > "$out/replay" 2>&1; then
+        missed=$((missed + 1))
+        echo "MISSED   $name"
+    else
+        refused=$((refused + 1))
+        echo "refused  $name"
+    fi
+done < <(grep -v '^#' "$here/faults.txt")
+echo "$refused faults refused, $missed missed"
+[ "$missed" -eq 0 ]

@@ -1,0 +1,25 @@
+//! What programs that run the Rust oracle share: datoms, pages, both oracles, random numbers.
+//!
+//! A program links this crate and thereby both builds of noblit. It sees datoms as four words and
+//! a store as bytes, never a type of noblit, so plain and patched are used alike.
+
+#[cfg(not(all(target_pointer_width = "64", target_endian = "little")))]
+compile_error!("the Rust stores datoms as the host has them: the oracle needs a 64-bit little-endian host");
+
+mod damage;
+mod datom;
+mod node;
+mod oracle;
+mod pages;
+mod panics;
+mod random;
+mod supply;
+
+pub use damage::readable_damage;
+pub use datom::{byte_string, compare, is_bound, is_storable, Datom, Value, MAX_VALUE};
+pub use node::{capacity, Node, PAGE_SIZES};
+pub use oracle::{Oracle, Order, Verdict, Which};
+pub use pages::{Pages, NONE};
+pub use panics::Panic;
+pub use random::Random;
+pub use supply::{Held, Kind, Plan, Supply};

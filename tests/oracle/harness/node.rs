@@ -1,0 +1,74 @@
+//! A page's content, read and written to document 01's layout, apart from noblit.
+
+use std::cmp::Ordering;
+
+use crate::datom::{compare, is_storable, Datom};
+use crate::pages::NONE;
+
+pub const PAGE_SIZES: [usize; 3] = [256, 568, 4096];
+
+const HIGHEST_LEVEL: u8 = 7;
+
+/// How many datoms a page holds; nothing for an unknown size.
+pub fn capacity(page_size: usize) -> Option<usize> {
+    match page_size {
+        256 => Some(6),
+        568 => Some(13),
+        4096 => Some(102),
+        _ => None,
+    }
+}
+
+/// What a page holds: one child more than datoms.
+#[derive(Clone, Debug, PartialEq)]
+pub struct Node {
+    pub level: u8,
+    pub datoms: Vec<Datom>,
+    pub children: Vec<u64>,
+}
+
+impl Node {
+    /// Reads a page's content; nothing if its count is over the capacity.
+    pub fn decode(page: &[u8]) -> Option<Node> {
+        let cap = capacity(page.len())?;
+        let (level, count) = (page[40 * cap + 8], page[40 * cap + 9] as usize);
+        if count > cap {
+            return None;
+        }
+        let word = |at: usize| u64::from_le_bytes(page[at..at + 8].try_into().expect("a word has 8 bytes"));
+        let datom = |i: usize| [word(32 * i), word(32 * i + 8), word(32 * i + 16), word(32 * i + 24)];
+        Some(Node {
+            level,
+            datoms: (0..count).map(datom).collect(),
+            children: (0..count + 1).map(|i| word(32 * cap + 8 * i)).collect(),
+        })
+    }
+
+    /// Lays the content over a page, whose other bytes stay as they are.
+    pub fn encode_over(&self, page: &mut [u8]) {
+        let cap = capacity(page.len()).expect("a page of known size");
+        assert!(self.datoms.len() <= cap && self.children.len() == self.datoms.len() + 1, "a node that fits the page");
+        let mut put = |at: usize, word: u64| page[at..at + 8].copy_from_slice(&word.to_le_bytes());
+        for (i, datom) in self.datoms.iter().enumerate() {
+            for (j, &word) in datom.iter().enumerate() {
+                put(32 * i + 8 * j, word);
+            }
+        }
+        for (i, &child) in self.children.iter().enumerate() {
+            put(32 * cap + 8 * i, child);
+        }
+        page[40 * cap + 8] = self.level;
+        page[40 * cap + 9] = self.datoms.len() as u8;
+    }
+
+    /// Document 01's "Readable" for the page with this id, apart from the count, which `decode` tests.
+    pub fn is_readable(&self, id: u64) -> bool {
+        let real = |&child: &u64| child != NONE;
+        self.level <= HIGHEST_LEVEL
+            && self.datoms.iter().all(is_storable)
+            && self.datoms.windows(2).all(|pair| compare(&pair[0], &pair[1]) == Ordering::Less)
+            && (self.level > 0 || !self.children.iter().any(real))
+            && (self.level == 0 || self.children.last().map_or(false, real))
+            && self.children.iter().filter(|child| real(child)).all(|&child| child < id)
+    }
+}

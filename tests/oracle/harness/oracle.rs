@@ -1,0 +1,309 @@
+//! Both builds of noblit's tree, behind one type that takes and gives words.
+
+use crate::datom::{compare, Datom};
+use crate::pages::Pages;
+use crate::panics::{catching, Panic};
+
+/// Which build of the Rust answers.
+#[derive(Clone, Copy, Debug, PartialEq)]
+pub enum Which {
+    /// The Rust unchanged, whose split drops the remainder.
+    Plain,
+    /// The Rust with document 01's split.
+    Patched,
+}
+
+/// Which comparator the Rust's tree is given.
+#[derive(Clone, Copy, Debug, PartialEq)]
+pub enum Order {
+    /// Noblit's own.
+    Eavt,
+    /// The one written to document 01.
+    Rule,
+}
+
+/// What the invariant check says.
+#[derive(Clone, Debug, PartialEq)]
+pub enum Verdict {
+    Sound,
+    /// The page at fault, and the Rust's message.
+    Unsound(u64, String),
+}
+
+/// The Rust's tree over a store of any known page size.
+///
+/// Every call answers a panic of the Rust as an error. A store that a panicking insert has written
+/// to keeps those pages; the caller truncates it if it wants to go on.
+#[derive(Clone, Copy)]
+pub struct Oracle {
+    pub which: Which,
+    pub order: Order,
+}
+
+/// Calls an operation of one of the modules below, at the build this oracle stands for.
+macro_rules! at_build {
+    ($oracle:expr, $operation:ident($($argument:expr),*)) => {
+        match $oracle.which {
+            Which::Plain => plain::$operation($($argument),*),
+            Which::Patched => patched::$operation($($argument),*),
+        }
+    };
+}
+
+impl Oracle {
+    /// The root of a new tree with these datoms, appended to the store.
+    pub fn initialise(self, pages: &mut Pages, batch: &[Datom]) -> Result<u64, Panic> {
+        pages.forget_last_read();
+        let outcome = catching(|| at_build!(self, initialise(self.order, pages, batch)));
+        with_page_read(pages, outcome)
+    }
+
+    /// The root of the tree at `root` with these datoms added, appended to the store.
+    pub fn insert(self, pages: &mut Pages, root: u64, batch: &[Datom]) -> Result<u64, Panic> {
+        pages.forget_last_read();
+        let outcome = catching(|| at_build!(self, insert(self.order, pages, root, batch)));
+        with_page_read(pages, outcome)
+    }
+
+    /// Appends to `listed` the datoms from `lower` on and before `upper`, as far as the Rust gets.
+    pub fn list(self, pages: &Pages, root: u64, lower: &Datom, upper: &Datom, listed: &mut Vec<Datom>) -> Result<(), Panic> {
+        pages.forget_last_read();
+        let outcome = catching(|| at_build!(self, list(self.order, pages, root, lower, upper, listed)));
+        with_page_read(pages, outcome)
+    }
+
+    /// One more than the level of the root page.
+    pub fn height(self, pages: &Pages, root: u64) -> Result<u8, Panic> {
+        pages.forget_last_read();
+        let outcome = catching(|| at_build!(self, height(self.order, pages, root)));
+        with_page_read(pages, outcome)
+    }
+
+    /// The invariant check. The page at fault is the one its message names; where the message names
+    /// none, the fault lies in the page just read (its level, or that it cannot be read at all).
+    pub fn check(self, pages: &Pages, root: u64) -> Verdict {
+        pages.forget_last_read();
+        let outcome = catching(|| at_build!(self, check(self.order, pages, root)));
+        match with_page_read(pages, outcome) {
+            Ok(()) => Verdict::Sound,
+            Err(panic) => Verdict::Unsound(page_named(&panic.message).unwrap_or(panic.last_read), panic.message),
+        }
+    }
+
+    /// How two datoms compare.
+    pub fn compare(self, left: &Datom, right: &Datom) -> Result<std::cmp::Ordering, String> {
+        catching(|| at_build!(self, compare_datoms(self.order, left, right)))
+    }
+
+    /// The longest pending span of a node with these children, as start and end.
+    pub fn longest_pending_span(self, children: &[u64]) -> (usize, usize) {
+        at_build!(self, longest_pending_span(children))
+    }
+
+    /// The word of an integer that has an inline form.
+    pub fn inline_integer(self, number: u64) -> Option<u64> {
+        at_build!(self, inline_integer(number))
+    }
+
+    /// The word of a byte string that has an inline form.
+    pub fn inline_bytes(self, bytes: &[u8]) -> Option<u64> {
+        at_build!(self, inline_bytes(bytes))
+    }
+}
+
+fn with_page_read<T>(pages: &Pages, outcome: Result<T, String>) -> Result<T, Panic> {
+    outcome.map_err(|message| Panic { message, last_read: pages.last_read() })
+}
+
+/// The number in "Violation at page PageId(NUMBER)".
+fn page_named(message: &str) -> Option<u64> {
+    let (_, rest) = message.split_once("Violation at page PageId(")?;
+    let (number, _) = rest.split_once(')')?;
+    number.parse().ok()
+}
+
+/// Calls an operation below with the comparator and the page size as types.
+macro_rules! at_order_and_size {
+    ($order:expr, $pages:expr, $operation:ident($($argument:expr),*)) => {
+        match ($order, $pages.page_size()) {
+            (Order::Eavt, 256) => $operation::<_, PageSize256>(Eavt, $($argument),*),
+            (Order::Eavt, 568) => $operation::<_, PageSize568>(Eavt, $($argument),*),
+            (Order::Eavt, 4096) => $operation::<_, PageSize4096>(Eavt, $($argument),*),
+            (Order::Rule, 256) => $operation::<_, PageSize256>(ByRule, $($argument),*),
+            (Order::Rule, 568) => $operation::<_, PageSize568>(ByRule, $($argument),*),
+            (Order::Rule, 4096) => $operation::<_, PageSize4096>(ByRule, $($argument),*),
+            (_, size) => panic!("noblit has no page size {}", size),
+        }
+    };
+}
+
+/// The operations over one build of noblit, whose types differ from those of the other build.
+macro_rules! build_of_noblit {
+    ($name:ident, $noblit:ident) => {
+        mod $name {
+            use std::cmp::Ordering;
+            use std::io;
+            use std::marker::PhantomData;
+            use std::mem::{offset_of, size_of};
+            use std::ops::{Deref, DerefMut};
+
+            use $noblit::datom::{Aid, Datom as Fact, Eid, Operation, Tid, Value};
+            use $noblit::heap::Heap;
+            use $noblit::htree::{HTree, Node};
+            use $noblit::index::{DatomOrd, Eavt};
+            use $noblit::memory_store::MemoryHeap;
+            use $noblit::store::{PageId, PageSize, PageSize256, PageSize4096, PageSize568, Store, StoreMut};
+
+            use super::{Datom, Order, Pages};
+
+            // The Rust fixes no layout for its datoms; the oracle stands for the declared order.
+            const _: () = assert!(
+                size_of::<Fact>() == 32
+                    && offset_of!(Fact, entity) == 0
+                    && offset_of!(Fact, attribute) == 8
+                    && offset_of!(Fact, value) == 16
+                    && offset_of!(Fact, transaction_operation) == 24
+            );
+
+            fn fact(datom: &Datom) -> Fact {
+                let operation = if datom[3] % 2 == 1 { Operation::Assert } else { Operation::Retract };
+                Fact::new(Eid(datom[0]), Aid(datom[1]), Value(datom[2]), Tid(datom[3] & !1), operation)
+            }
+
+            fn words(fact: &Fact) -> Datom {
+                let last = fact.transaction_operation;
+                let operation = match last.operation() {
+                    Operation::Assert => 1,
+                    Operation::Retract => 0,
+                };
+                [fact.entity.0, fact.attribute.0, fact.value.0, last.transaction().0 | operation]
+            }
+
+            fn facts(batch: &[Datom]) -> Vec<Fact> {
+                batch.iter().map(fact).collect()
+            }
+
+            /// The comparator written to document 01.
+            struct ByRule;
+
+            impl DatomOrd for ByRule {
+                fn cmp(&self, left: &Fact, right: &Fact, _heap: &dyn Heap) -> Ordering {
+                    super::compare(&words(left), &words(right))
+                }
+            }
+
+            /// Pages, lent to the Rust as a store of one page size.
+            struct Lent<P, Size> {
+                pages: P,
+                size: PhantomData<Size>,
+            }
+
+            impl<P, Size> Lent<P, Size> {
+                fn new(pages: P) -> Lent<P, Size> {
+                    Lent { pages, size: PhantomData }
+                }
+            }
+
+            impl<P: Deref<Target = Pages>, Size: PageSize> Store for Lent<P, Size> {
+                type Size = Size;
+
+                fn get(&self, page: PageId) -> &[u8] {
+                    self.pages.read(page.0)
+                }
+
+                fn dump(&self, out: &mut dyn io::Write) -> io::Result<()> {
+                    out.write_all(self.pages.bytes())
+                }
+            }
+
+            impl<P: DerefMut<Target = Pages>, Size: PageSize> StoreMut for Lent<P, Size> {
+                fn write_page(&mut self, page: &[u8]) -> io::Result<PageId> {
+                    Ok(PageId(self.pages.append(page)))
+                }
+            }
+
+            const IN_MEMORY: &str = "a store in memory gives no input or output error";
+
+            fn initialise_at<Cmp: DatomOrd, Size: PageSize>(order: Cmp, pages: &mut Pages, batch: &[Datom]) -> u64 {
+                let store = Lent::<_, Size>::new(pages);
+                HTree::initialize(order, store, MemoryHeap::new(), &facts(batch)).expect(IN_MEMORY).root_page.0
+            }
+
+            fn insert_at<Cmp: DatomOrd, Size: PageSize>(order: Cmp, pages: &mut Pages, root: u64, batch: &[Datom]) -> u64 {
+                let store = Lent::<_, Size>::new(pages);
+                let mut tree = HTree::new(PageId(root), order, store, MemoryHeap::new());
+                tree.insert(&facts(batch)).expect(IN_MEMORY).0
+            }
+
+            fn list_at<Cmp: DatomOrd, Size: PageSize>(
+                order: Cmp,
+                pages: &Pages,
+                root: u64,
+                lower: &Datom,
+                upper: &Datom,
+                listed: &mut Vec<Datom>,
+            ) {
+                let (store, heap) = (Lent::<_, Size>::new(pages), MemoryHeap::new());
+                let tree = HTree::new(PageId(root), order, &store, &heap);
+                for found in tree.into_iter(&fact(lower), &fact(upper)) {
+                    listed.push(words(found));
+                }
+            }
+
+            fn check_at<Cmp: DatomOrd, Size: PageSize>(order: Cmp, pages: &Pages, root: u64) {
+                let store = Lent::<_, Size>::new(pages);
+                HTree::new(PageId(root), order, store, MemoryHeap::new()).check_invariants().expect(IN_MEMORY)
+            }
+
+            fn height_at<Cmp: DatomOrd, Size: PageSize>(order: Cmp, pages: &Pages, root: u64) -> u8 {
+                let store = Lent::<_, Size>::new(pages);
+                HTree::new(PageId(root), order, store, MemoryHeap::new()).height()
+            }
+
+            pub fn initialise(order: Order, pages: &mut Pages, batch: &[Datom]) -> u64 {
+                at_order_and_size!(order, pages, initialise_at(pages, batch))
+            }
+
+            pub fn insert(order: Order, pages: &mut Pages, root: u64, batch: &[Datom]) -> u64 {
+                at_order_and_size!(order, pages, insert_at(pages, root, batch))
+            }
+
+            pub fn list(order: Order, pages: &Pages, root: u64, lower: &Datom, upper: &Datom, listed: &mut Vec<Datom>) {
+                at_order_and_size!(order, pages, list_at(pages, root, lower, upper, listed))
+            }
+
+            pub fn check(order: Order, pages: &Pages, root: u64) {
+                at_order_and_size!(order, pages, check_at(pages, root))
+            }
+
+            pub fn height(order: Order, pages: &Pages, root: u64) -> u8 {
+                at_order_and_size!(order, pages, height_at(pages, root))
+            }
+
+            pub fn compare_datoms(order: Order, left: &Datom, right: &Datom) -> Ordering {
+                let heap = MemoryHeap::new();
+                match order {
+                    Order::Eavt => Eavt.cmp(&fact(left), &fact(right), &heap),
+                    Order::Rule => ByRule.cmp(&fact(left), &fact(right), &heap),
+                }
+            }
+
+            pub fn longest_pending_span(children: &[u64]) -> (usize, usize) {
+                let ids: Vec<PageId> = children.iter().map(|&child| PageId(child)).collect();
+                let span = Node { level: 1, datoms: &[], children: &ids }.longest_pending_span();
+                (span.start, span.end)
+            }
+
+            pub fn inline_integer(number: u64) -> Option<u64> {
+                Value::try_from_u64_inline(number).map(|value| value.0)
+            }
+
+            pub fn inline_bytes(bytes: &[u8]) -> Option<u64> {
+                Value::try_from_bytes_inline(bytes).map(|value| value.0)
+            }
+        }
+    };
+}
+
+build_of_noblit!(plain, noblit_plain);
+build_of_noblit!(patched, noblit_patched);

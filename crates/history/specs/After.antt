@@ -1,21 +1,22 @@
 -- The store after a call: what could be fetched still can, and the pages written are fetched as the nodes that they were written from.
 -- Rests on Held and on the rules' round trip.
-use Prim.Native.Nat.{ℕ, zero, suc, _+_, _-_, _*_, _^_, _≤_, _<_, zero-le, suc-le-suc}
+use Prim.Native.Nat.{ℕ, zero, suc, _+_, _-_, _*_, _^_, _≤_, _<_}
 use native.Mathlib.Nat.{add-zero, suc-mul, mul-le-mul-left, mul-le-mul-right, div-le-self}
 use native.Mathlib.Omega.{arith}
 use mathlib.Core.Bool.{Bool, true, false}
 use mathlib.Core.List.{List, [], _∷_, _++_, append-assoc, append-nil}
 use mathlib.Core.Path.{_≡_, refl, sym, _∙_, ap, subst}
-use borrow.Author.Tests.{eqb-true, ne-eqb, ltb-false, lt-ltb, le-ltb}
-use lib.Dec.{ltb, eqb}
+use borrow.Author.Tests.{ne-eqb, ltb-false, lt-ltb, le-ltb}
+use lib.Dec.{ltb}
 use lib.ListN.{length, take, drop, length-append, length-take, take-append-drop}
-use lib.Seq.{take-at, take-add, take-take, length-take-le, drop-append-seam, drop-append-add}
+use lib.Seq.{drop-drop, take-at, take-take, length-take-le, drop-append-add}
 use Rattle.store.specs.declared.PageId.{PageId}
 use Rattle.store.specs.declared.Extent.{Extent}
 use Rattle.store.specs.Words.{spread, patch}
 use Rattle.store.specs.Page.{page as pageId}
 use Rattle.store.specs.Size.{capacity}
-use Rattle.store.specs.Laws.{apart}
+use Rattle.store.specs.Laws.{apart, known-size}
+use Rattle.store.specs.Cells.{drop-take, take-patch, drop-patch}
 use Rattle.index.specs.Order.{DatomOrd}
 use Rattle.index.specs.Laws.{Preorder}
 use Rattle.rules.specs.Page.{Node, encodePage}
@@ -27,15 +28,10 @@ use Rattle.history.specs.Pages.{Extends}
 use Rattle.history.specs.Held.{nth, nth-lt, held, EnvOk}
 
 -- a part of a list that lies in a front that two lists share
-segment : (k m : ℕ) (b : List ℕ) → take m (drop k b) ≡ drop (length (take k b)) (take (k + m) b)
-segment k m b = rw (take-add k m b) (sym (drop-append-seam (take k b) (take m (drop k b))))
-
 same-part : (n k m : ℕ) (b b₁ : List ℕ) → take n b₁ ≡ take n b → k + m ≤ n → take m (drop k b₁) ≡ take m (drop k b)
 same-part n k m b b₁ e h =
     let u : take (k + m) b₁ ≡ take (k + m) b = sym (take-take (k + m) n b₁ h) ∙ ap (take (k + m)) e ∙ take-take (k + m) n b h in
-    let v : take k b₁ ≡ take k b = sym (take-take k n b₁ (omega arith)) ∙ ap (take k) e ∙ take-take k n b (omega arith) in
-    let w : drop (length (take k b₁)) (take (k + m) b₁) ≡ drop (length (take k b)) (take (k + m) b) = cc in
-    segment k m b₁ ∙ w ∙ sym (segment k m b)
+    sym (drop-take k m b₁) ∙ ap (drop k) u ∙ drop-take k m b
 
 -- "let nobody else write below it"
 pub fetch-kept :
@@ -57,45 +53,29 @@ pub in-order : (x : Extent) (s : List ℕ) → (capacity (x .size) ≡ 0 → ⊥
 unfolding badStore
 in-order x s c f = rw (ne-eqb (capacity (x .size)) 0 c, le-ltb (length s) (x .count * x .size) f)
 
-module _ (x : Extent) (s : List ℕ) (fits : x .count * x .size ≤ length s) where
-  pub store-keeps : (o : List Node) → take (x .count * x .size) (storeAfter x s o) ≡ take (x .count * x .size) s
-  unfolding storeAfter patch
-  store-keeps o =
-      rw append-assoc (take-at (take (x .count * x .size) s) _ (x .count * x .size) (length-take-le (x .count * x .size) s fits))
+-- "nothing below the count changes"
+pub store-keeps :
+    (x : Extent) (s : List ℕ) → x .count * x .size ≤ length s → (o : List Node) → take (x .count * x .size) (storeAfter x s o) ≡ take (x .count * x .size) s
+unfolding storeAfter
+store-keeps x s fits o = take-patch s (x .count * x .size) _ fits
 
 -- a call that writes no page leaves every byte
 pub store-same : (x : Extent) (s : List ℕ) → storeAfter x s [] ≡ s
 unfolding storeAfter patch spread
 store-same x s = rw (append-nil, add-zero) (take-append-drop (x .count * x .size) s)
 
-positive : (z : ℕ) → (capacity z ≡ 0 → ⊥) → 0 < z
-unfolding capacity
-positive zero c = absurd (c refl)
-positive (suc z) c = suc-le-suc zero-le
-
--- a header fits behind datoms and children
-pub big-of : (size : ℕ) → (capacity size ≡ 0 → ⊥) → 40 * capacity size + 10 ≤ size
-unfolding capacity
-big-of size c = side (eqb size 256) refl (eqb size 568) refl (eqb size 4096) refl
-  where
-    side : (a : Bool) → eqb size 256 ≡ a → (b : Bool) → eqb size 568 ≡ b → (d : Bool) → eqb size 4096 ≡ d → 40 * capacity size + 10 ≤ size
-    side true u b v d w = rw u (omega (arith, eqb-true size 256 u))
-    side false u true v d w = rw (u, v) (omega (arith, eqb-true size 568 v))
-    side false u false v true w = rw (u, v, w) (omega (arith, eqb-true size 4096 w))
-    side false u false v false w = absurd (c (rw (u, v, w)))
-
 pub env-ok :
     (t : DatomOrd) → Preorder (t .cmp) → (x : Extent) (s : List ℕ) → (capacity (x .size) ≡ 0 → ⊥) → x .count * x .size ≤ length s →
     length s < 2 ^ 64 → EnvOk (envOf t x s)
 unfolding envOf
 env-ok t L x s c fits h =
-    let one : 0 < x .size = positive (x .size) c in
-    let few : x .count ≤ length s = omega (arith, mul-le-mul-left {m = 1} {n = x .size} (x .count) one) in
+    let K = known-size (x .size) c in
+    let few : x .count ≤ length s = omega (arith, mul-le-mul-left {m = 1} {n = x .size} (x .count) (omega (arith, K .fits))) in
     record {
       laws = L;
       bound = λ p n e. fetch-tells t x s p n e .0;
       small = omega (arith, div-le-self (length s) (x .size));
-      pos = omega (arith, c);
+      pos = K .some;
     }
 
 -- the pages that Done has written
@@ -143,25 +123,23 @@ module _
       abbrev extent : Extent
       extent = record { size = x .size; count = x .count + length o }
 
-      front : length (take (x .count * x .size) s) ≡ x .count * x .size
-      front = length-take-le (x .count * x .size) s fits
-
       pub fetch-new : (i : ℕ) (n : Node) → nth o i ≡ fine n → fetchPage t extent (storeAfter x s o) (pageId (x .count + i)) ≡ fine n
-      unfolding fetchPage pageAt storeAfter patch
+      unfolding fetchPage pageAt storeAfter
       fetch-new i n e =
-          let z : (x .count + i) * x .size ≡ length (take (x .count * x .size) s) + i * x .size = omega (arith, front) in
+          let z : (x .count + i) * x .size ≡ x .count * x .size + i * x .size = omega arith in
           rw (
             lt-ltb (x .count + i) (x .count + length o) (omega (arith, nth-lt o i n e)),
             z,
-            append-assoc,
-            drop-append-add,
+            ← drop-drop (i * x .size) (x .count * x .size) _,
+            drop-patch s (x .count * x .size) _ fits,
             page-there (x .count) o _ w i n e,
             read-back t (x .size) (capacity (x .size)) (pageId (x .count + i)) n (w i n e) big,
           )
 
       pub after-fits : (x .count + length o) * x .size ≤ length (storeAfter x s o)
       unfolding storeAfter patch
-      after-fits = simp length-append (omega (arith, front, bytes-long (x .count) o w))
+      after-fits =
+          simp length-append (omega (arith, length-take-le (x .count * x .size) s fits, bytes-long (x .count) o w))
 
       pub held-after : Extends (held (envOf t x s) o) (fetchPage t extent (storeAfter x s o))
       unfolding held envOf

@@ -12,6 +12,7 @@ use lib.ListN.{length, take}
 use Rattle.store.specs.declared.PageId.{PageId}
 use Rattle.store.specs.declared.Extent.{Extent}
 use Rattle.store.specs.Size.{capacity}
+use Rattle.store.specs.Laws.{known-size}
 use Rattle.datom.specs.declared.Datom.{Datom}
 use Rattle.index.specs.Order.{DatomOrd}
 use Rattle.index.specs.Laws.{Preorder}
@@ -25,7 +26,7 @@ use Rattle.history.specs.Tree.{blank}
 use Rattle.history.specs.Pages.{noPage, Extends, holds-extends, none-is}
 use Rattle.history.specs.Held.{nth, held, Storable}
 use Rattle.history.specs.Grow.{Rooted}
-use Rattle.history.specs.After.{fetch-kept, long-enough, store-keeps, big-of, after-fits, held-after}
+use Rattle.history.specs.After.{fetch-kept, long-enough, store-keeps, after-fits, held-after}
 use Rattle.history.specs.Sort.{Distinct, Fresh, distinct-append}
 use Rattle.history.specs.Calls.{RootIs, Inserted, Called, refuses, accepts, insert-ok, called, initialise-ok}
 
@@ -91,7 +92,7 @@ module _ (t : DatomOrd) (L : Preorder (t .cmp)) (size : ℕ) (known : capacity s
       larger = record { size = x .size; count = x .count + length o }
 
       big : 40 * capacity (x .size) + 10 ≤ x .size
-      big = rw sized (big-of size known)
+      big = rw sized (known-size size known .fits)
 
       grows : Extends (held (envOf t x s) o) (fetchPage t larger (storeAfter x s o))
       unfolding envOf

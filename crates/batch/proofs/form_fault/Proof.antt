@@ -32,7 +32,8 @@ is-stored-requires : tie.Need-is-stored-requires Inv-loop μ-loop
 is-stored-requires c κs = search needs
 
 returns : tie.Need-returns Inv-loop μ-loop
-returns c = let a = c .before .before .before .before .before .before .args in
+returns c =
+    let a = c .before .before .before .before .before .before .args in
     let l = c .before .before .before .before .loop in
     let e : storedDatom (datomAt (a .b .now) (32 * l .i)) ≡ false = cc (not-true (c .before .is-stored .result) (c .if1 .taken)) in
     sym (form-stop storedDatom (l .i) (datoms-from (a .n) (l .i) (a .b .now) (omega arith)) e) ∙ l .inv .1
@@ -44,7 +45,8 @@ loop-less : tie.Need-loop-less Inv-loop μ-loop
 loop-less c = search needs
 
 loop-again : tie.Need-loop-again Inv-loop μ-loop
-loop-again c = let a = c .before .before .before .before .before .before .args in
+loop-again c =
+    let a = c .before .before .before .before .before .before .args in
     let l = c .before .before .before .before .loop in
     let e : storedDatom (datomAt (a .b .now) (32 * l .i)) ≡ true = cc (not-false (c .before .is-stored .result) (c .if1 .left)) in
     (omega arith, sym (form-on storedDatom (l .i) (datoms-from (a .n) (l .i) (a .b .now) (omega arith)) e) ∙ l .inv .1)

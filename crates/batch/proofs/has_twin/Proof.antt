@@ -1,7 +1,7 @@
 -- `has_twin` meets its contract: what is found among the earlier ones still to look at is what is found among all. Assumes nothing.
 use Prim.Native.Nat.{_*_, _-_, _≤_}
 use native.Mathlib.Omega.{arith}
-use mathlib.Core.Path.{_≡_, refl, sym, _∙_}
+use mathlib.Core.Path.{_≡_, sym, _∙_}
 use Rattle.datom.specs.Datom.{datomAt}
 use Rattle.index.specs.declared.Order.the-variants.{Less, Equal, Greater}
 use Rattle.index.specs.Order.{cmpEavt, named}
@@ -46,7 +46,8 @@ loop-less : tie.Need-loop-less Inv-loop μ-loop
 loop-less c = search needs
 
 loop-again : tie.Need-loop-again Inv-loop μ-loop
-loop-again c = let a = c .before .before .before .before .before .before .before .before .args in
+loop-again c =
+    let a = c .before .before .before .before .before .before .before .before .args in
     let l = c .before .before .before .before .before .loop in
     let e : named (cmpEavt (datomAt (a .b .now) (32 * (l .j - 1))) (c .before .before .before .before .before .before .datom-at .result)) ≡ Less = cc (c .enum-told .given .1) in
     (omega arith, sym (any-on cmpEavt (c .before .before .before .before .before .before .datom-at .result) (earlier-at (l .j) (a .b .now) (omega arith)) (less-named _ e .1)) ∙ l .inv .1)
@@ -55,7 +56,8 @@ enum-told-2 : tie.Need-enum-told-2 Inv-loop μ-loop
 enum-told-2 c = search needs
 
 returns : tie.Need-returns Inv-loop μ-loop
-returns c = let a = c .before .before .before .before .before .before .before .before .args in
+returns c =
+    let a = c .before .before .before .before .before .before .before .before .args in
     let l = c .before .before .before .before .before .loop in
     let e : named (cmpEavt (datomAt (a .b .now) (32 * (l .j - 1))) (c .before .before .before .before .before .before .datom-at .result)) ≡ Equal = cc (c .enum-told2 .given .1) in
     sym (any-stop cmpEavt (c .before .before .before .before .before .before .datom-at .result) (earlier-at (l .j) (a .b .now) (omega arith)) (equal-named _ e .1)) ∙ l .inv .1
@@ -67,7 +69,8 @@ loop-less-2 : tie.Need-loop-less-2 Inv-loop μ-loop
 loop-less-2 c = search needs
 
 loop-again-2 : tie.Need-loop-again-2 Inv-loop μ-loop
-loop-again-2 c = let a = c .before .before .before .before .before .before .before .before .args in
+loop-again-2 c =
+    let a = c .before .before .before .before .before .before .before .before .args in
     let l = c .before .before .before .before .before .loop in
     let e : named (cmpEavt (datomAt (a .b .now) (32 * (l .j - 1))) (c .before .before .before .before .before .before .datom-at .result)) ≡ Greater = cc (c .enum-told3 .given .1) in
     (omega arith, sym (any-on cmpEavt (c .before .before .before .before .before .before .datom-at .result) (earlier-at (l .j) (a .b .now) (omega arith)) (greater-named _ e .1)) ∙ l .inv .1)

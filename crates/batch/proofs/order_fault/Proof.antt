@@ -1,7 +1,7 @@
 -- `order_fault` meets its contract: what is found in the rest, behind the last datom passed, is what is found in the whole. Assumes nothing.
 use Prim.Native.Nat.{_*_, _-_, _≤_}
 use native.Mathlib.Omega.{arith}
-use mathlib.Core.Path.{_≡_, refl, sym, _∙_}
+use mathlib.Core.Path.{_≡_, sym, _∙_}
 use lib.ListN.{drop}
 use Rattle.datom.specs.Datom.{datomAt, datomsOf}
 use Rattle.datom.specs.Laws.{datoms-from}
@@ -47,7 +47,8 @@ loop-less : tie.Need-loop-less Inv-loop μ-loop
 loop-less c = search needs
 
 loop-again : tie.Need-loop-again Inv-loop μ-loop
-loop-again c = let a = c .before .before .before .before .before .before .before .before .before .args in
+loop-again c =
+    let a = c .before .before .before .before .before .before .before .before .before .args in
     let l = c .before .before .before .before .before .loop in
     let e : named (cmpEavt (l .p) (datomAt (a .b .now) (32 * l .i))) ≡ Less = cc (c .enum-told .given .1) in
     (omega arith, rw (c .before .before .before .datom-at2 .ensures) (sym (low-on cmpEavt (l .i) (l .p) (datoms-from (a .n) (l .i) (a .b .now) (omega arith)) (less-named _ e .0))) ∙ l .inv .1)
@@ -56,7 +57,8 @@ enum-told-2 : tie.Need-enum-told-2 Inv-loop μ-loop
 enum-told-2 c = search needs
 
 returns-2 : tie.Need-returns-2 Inv-loop μ-loop
-returns-2 c = let a = c .before .before .before .before .before .before .before .before .before .args in
+returns-2 c =
+    let a = c .before .before .before .before .before .before .before .before .before .args in
     let l = c .before .before .before .before .before .loop in
     let e : named (cmpEavt (l .p) (datomAt (a .b .now) (32 * l .i))) ≡ Equal = cc (c .enum-told2 .given .1) in
     sym (low-stop cmpEavt (l .i) (l .p) (datoms-from (a .n) (l .i) (a .b .now) (omega arith)) (equal-named _ e .0)) ∙ l .inv .1
@@ -65,7 +67,8 @@ enum-told-3 : tie.Need-enum-told-3 Inv-loop μ-loop
 enum-told-3 c = search needs
 
 returns-3 : tie.Need-returns-3 Inv-loop μ-loop
-returns-3 c = let a = c .before .before .before .before .before .before .before .before .before .args in
+returns-3 c =
+    let a = c .before .before .before .before .before .before .before .before .before .args in
     let l = c .before .before .before .before .before .loop in
     let e : named (cmpEavt (l .p) (datomAt (a .b .now) (32 * l .i))) ≡ Greater = cc (c .enum-told3 .given .1) in
     sym (low-stop cmpEavt (l .i) (l .p) (datoms-from (a .n) (l .i) (a .b .now) (omega arith)) (greater-named _ e .0)) ∙ l .inv .1

@@ -1,8 +1,8 @@
 -- `twin_fault` meets its contract: what is found in the rest, behind those passed, is what is found in the whole. Assumes nothing.
-use Prim.Native.Nat.{_*_, _-_, _≤_}
+use Prim.Native.Nat.{_-_, _≤_}
 use native.Mathlib.Omega.{arith}
 use mathlib.Core.List.{[]}
-use mathlib.Core.Path.{_≡_, refl, sym, _∙_}
+use mathlib.Core.Path.{_≡_, sym, _∙_}
 use lib.ListN.{drop}
 use Rattle.datom.specs.Datom.{datomsOf}
 use Rattle.datom.specs.Laws.{datoms-from}
@@ -26,7 +26,8 @@ has-twin-requires : tie.Need-has-twin-requires Inv-loop μ-loop
 has-twin-requires c κs = search needs
 
 returns : tie.Need-returns Inv-loop μ-loop
-returns c = let a = c .before .before .before .before .before .args in
+returns c =
+    let a = c .before .before .before .before .before .args in
     let l = c .before .before .before .loop in
     sym (twin-stop cmpEavt (l .i) (a .b .now) (datoms-from (a .n) (l .i) (a .b .now) (omega arith)) (sym (c .before .has-twin .ensures) ∙ c .if1 .taken)) ∙ l .inv .1
 
@@ -37,7 +38,8 @@ loop-less : tie.Need-loop-less Inv-loop μ-loop
 loop-less c = search needs
 
 loop-again : tie.Need-loop-again Inv-loop μ-loop
-loop-again c = let a = c .before .before .before .before .before .args in
+loop-again c =
+    let a = c .before .before .before .before .before .args in
     let l = c .before .before .before .loop in
     (omega arith, sym (twin-on cmpEavt (l .i) (a .b .now) (datoms-from (a .n) (l .i) (a .b .now) (omega arith)) (sym (c .before .has-twin .ensures) ∙ c .if1 .left)) ∙ l .inv .1)
 

@@ -1,0 +1,121 @@
+// What is checked of a batch before anything is written. The batch is a slice of bytes, 32 for each datom.
+pub mod sort;
+
+use answer::Refusal;
+use index::Order;
+ghost use mathlib.Core.Path.{_≡_};
+ghost use mathlib.Core.List.{[]};
+ghost use Prim.Native.Nat.{_+_, _*_, _≤_};
+ghost use lib.ListN.{length};
+ghost use Rattle.datom.specs.Datom.{datomAt, datomsOf, storedDatom};
+ghost use Rattle.index.specs.Order.{cmpEavt};
+ghost use Rattle.rules.specs.Insert.{formFault, orderFault, anySame, twinFault};
+ghost use Rattle.batch.specs.Finding.{findingOf, counted};
+ghost use Rattle.batch.specs.Twins.{earlier};
+
+// Of a check: nothing, or the refusal to give.
+pub enum Finding {
+    Clear,
+    Found(Refusal),
+}
+
+// How many datoms a batch has, or why it is none.
+pub enum Count {
+    Datoms(usize),
+    Refused(Refusal),
+}
+
+// The most datoms that a batch may have.
+pub const MOST: usize = 128;
+
+// Bytes that are no whole datoms, and more datoms than a batch may have, are both too many.
+pub fn count_of(b: &[u8]) -> Count
+    ensures { λ r. ⌜ r ≡ counted (now (b .entry)) ⌝ }
+{
+    if b.len() % 32 != 0 {
+        return Count::Refused(Refusal::TooMany);
+    }
+    let n = b.len() / 32;
+    if MOST < n {
+        return Count::Refused(Refusal::TooMany);
+    }
+    Count::Datoms(n)
+}
+
+// The first datom that may not be stored.
+pub fn form_fault(b: &[u8], n: usize) -> Finding
+    requires { ⌜ 32 * n ≤ length (now b) ⌝ }
+    ensures { λ r. ⌜ findingOf r ≡ formFault storedDatom 0 (datomsOf n (now (b .entry))) ⌝ }
+{
+    let mut i = 0;
+    while i < n {
+        if !datom::datom_at(b, 32 * i).is_stored() {
+            return Finding::Found(Refusal::BadDatom(i));
+        }
+        i += 1;
+    }
+    Finding::Clear
+}
+
+// The first datom that is not above the one before it.
+pub fn order_fault(b: &[u8], n: usize) -> Finding
+    requires { ⌜ 32 * n ≤ length (now b) ⌝ }
+    ensures { λ r. ⌜ findingOf r ≡ orderFault cmpEavt (datomsOf n (now (b .entry))) ⌝ }
+{
+    if n == 0 {
+        return Finding::Clear;
+    }
+    let mut p = datom::datom_at(b, 0);
+    let mut i = 1;
+    while i < n {
+        let d = datom::datom_at(b, 32 * i);
+        match index::order_of(p, d) {
+            Order::Less => {
+                p = d;
+                i += 1;
+            }
+            Order::Equal => {
+                return Finding::Found(Refusal::OutOfOrder(i));
+            }
+            Order::Greater => {
+                return Finding::Found(Refusal::OutOfOrder(i));
+            }
+        }
+    }
+    Finding::Clear
+}
+
+// Whether the datom at index i is equal to an earlier one. The last of them is looked at first, as the rule does.
+fn has_twin(b: &[u8], i: usize) -> bool
+    requires { ⌜ 32 * i + 32 ≤ length (now b) ⌝ }
+    ensures { λ r. ⌜ r ≡ anySame cmpEavt (datomAt (now (b .entry)) (32 * i)) (earlier i (now (b .entry))) ⌝ }
+{
+    let d = datom::datom_at(b, 32 * i);
+    let mut j = i;
+    while 0 < j {
+        j -= 1;
+        match index::order_of(datom::datom_at(b, 32 * j), d) {
+            Order::Less => {}
+            Order::Equal => {
+                return true;
+            }
+            Order::Greater => {}
+        }
+    }
+    false
+}
+
+// The first datom that is equal to an earlier one. A batch is small enough to compare each with all before it.
+pub fn twin_fault(b: &[u8], n: usize) -> Finding
+    requires { ⌜ 32 * n ≤ length (now b) ⌝ }
+    ensures { λ r. ⌜ findingOf r ≡ twinFault cmpEavt 0 [] (datomsOf n (now (b .entry))) ⌝ }
+{
+    let mut i = 0;
+    while i < n {
+        if has_twin(b, i) {
+            return Finding::Found(Refusal::OutOfOrder(i));
+        }
+        i += 1;
+    }
+    Finding::Clear
+}

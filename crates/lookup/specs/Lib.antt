@@ -1,0 +1,3 @@
+-- What a search for repeated datoms answers, and laws for its loops.
+pub mod Look
+pub mod Steps

@@ -1,0 +1,235 @@
+-- One page of a datom's path, and one datom of a batch.
+use Prim.Native.Nat.{ℕ, zero, suc, _+_, _-_, _*_, _<_, _≤_, Ordering}
+use native.Mathlib.Numerals.{add-one}
+use native.Mathlib.Omega.{arith}
+use mathlib.Core.Bool.{Bool, true, false}
+use mathlib.Core.List.{List, _∷_}
+use mathlib.Core.Path.{_≡_, refl, sym, ap, _∙_}
+use borrow.Author.Tests.{eqb-true, eq-eqb, ne-eqb, le-ltb}
+use lib.Dec.{eqb}
+use lib.ListN.{length, drop, length-drop}
+use lib.Seq.{length-take-le}
+use Rattle.store.specs.declared.PageId.{PageId}
+use Rattle.store.specs.declared.Extent.{Extent}
+use Rattle.store.specs.Page.{none}
+use Rattle.store.specs.Size.{capacity}
+use Rattle.store.specs.Laws.{apart, cells-length}
+use Rattle.store.specs.Cells.{cells-end}
+use Rattle.datom.specs.declared.Datom.{Datom}
+use Rattle.datom.specs.Datom.{datomAt, datomOf, datomsOf}
+use Rattle.datom.specs.Laws.{datoms-from}
+use Rattle.index.specs.Order.{isSame, cmpEavt, eavt}
+use Rattle.answer.specs.declared.Fault.{Fault}
+use Rattle.answer.specs.declared.Refusal.the-variants.{Repeated, Damaged}
+use Rattle.answer.specs.declared.NextMidpoint.the-variants.{Child, Nothing}
+use Rattle.rules.specs.Page.{Node, nodeOf, levelOf, countOf, rising}
+use Rattle.rules.specs.Node.{rank, headSame, nextMidpoint}
+use Rattle.rules.specs.Tree.{Fetched, faulty, fine, Env, atLevel, fetchAt}
+use Rattle.rules.specs.Lookup as rules
+use Rattle.rules.specs.Lookup.{clear, found, lookup, afterLook, lookupAll}
+use Rattle.rules.specs.Store.{badStore, pageAt, fetchPage, envOf}
+use Rattle.rules.specs.Reads.{read-count, fetch-tells}
+use Rattle.memory_store.specs.declared.found.Found.the-variants.{Faulty, Fine}
+use Rattle.memory_store.specs.Reading.{told}
+use Rattle.memory_store.specs.Layout.{childrenOf}
+use Rattle.memory_store.specs.FetchLaws.{in-order, page-inside}
+use Rattle.lookup.specs.declared.Look.the-variants.{Met, Absent, Lost}
+use Rattle.lookup.specs.declared.Opened.the-variants as opened
+use Rattle.lookup.specs.Look.{lookOf, openedOf, nodeAt, pathOf, searchAll}
+
+-- a page that was read as a node of level l and k datoms
+pub record Opens (x : Extent) (s : List ℕ) (p : PageId) (l k : ℕ) : Type 0 where
+  pub below : p .0 < x .count
+  pub low : l ≤ 7
+  pub few : k ≤ capacity (x .size)
+  pub wide : 40 * capacity (x .size) + 10 ≤ length (pageAt x s p)
+  pub rise : rising cmpEavt (datomsOf k (pageAt x s p)) ≡ true
+
+pub opens : (x : Extent) (s : List ℕ) (p : PageId) (l k : ℕ) → badStore x s ≡ false → fetchPage eavt x s p ≡ fine (nodeAt x s p l k) → Opens x s p l k
+unfolding nodeOf eavt pageAt
+opens x s p l k good e =
+    let w = fetch-tells eavt x s p (nodeAt x s p l k) e in
+    let o = in-order x s good in
+    let here = page-inside x s (p .0) o (w .0) in
+    let count : k ≡ countOf (capacity (x .size)) (pageAt x s p) =
+    sym (cells-length datomOf 32 k (pageAt x s p)) ∙ read-count eavt (capacity (x .size)) p (pageAt x s p) (nodeAt x s p l k) (w .1) in
+    let level : levelOf (capacity (x .size)) (pageAt x s p) ≡ l = ap (λ (n : Node). n .level) (w .1 .node) in
+    let long : length (pageAt x s p) ≡ x .size = length-take-le (x .size) (drop (p .0 * x .size) s) (omega (arith, length-drop (p .0 * x .size) s)) in
+    record {
+      below = w .0;
+      low = omega (arith, w .1 .low);
+      few = omega (arith, w .1 .few);
+      wide = omega (arith, o .known .fits);
+      rise = w .1 .rise;
+    }
+
+-- the equal datom at an index, and past the end
+module _ (cmp : Datom → Datom → Ordering) (d : Datom) (n i : ℕ) (s : List ℕ) where
+  pub same-past : n ≤ i → headSame cmp d (drop i (datomsOf n s)) ≡ false
+  unfolding headSame
+  same-past h = rw (cells-end datomOf 32 n i s h)
+
+  pub same-at : i < n → headSame cmp d (drop i (datomsOf n s)) ≡ isSame (cmp (datomAt s (32 * i)) d)
+  unfolding headSame
+  same-at h = rw (datoms-from n i s h)
+
+-- what the reader tells of a page, at a level
+module _ (x : Extent) (s : List ℕ) (p : PageId) where
+  pub told-fine : (l k : ℕ) → told x s p (Fine l k) ≡ fetchPage eavt x s p → fetchPage eavt x s p ≡ fine (nodeAt x s p l k)
+  unfolding told
+  told-fine l k e = sym e
+
+  pub open-faulty : (f : Fault) (l : ℕ) → told x s p (Faulty f) ≡ fetchPage eavt x s p → opened.Damaged ≡ openedOf (fetchAt (envOf eavt x s) l p)
+  unfolding told openedOf fetchAt atLevel envOf
+  open-faulty f l e = rw (← e)
+
+  module _ (l k : ℕ) (e : told x s p (Fine l k) ≡ fetchPage eavt x s p) (m : ℕ) where
+    pub open-other : (l ≡ m → ⊥) → opened.Damaged ≡ openedOf (fetchAt (envOf eavt x s) m p)
+    unfolding told openedOf fetchAt atLevel envOf nodeOf
+    open-other h = rw (← e, ne-eqb l m h)
+
+    pub open-node : l ≡ m → opened.Node k ≡ openedOf (fetchAt (envOf eavt x s) m p)
+    unfolding told openedOf fetchAt atLevel envOf nodeOf
+    open-node h = rw (← e, eq-eqb l m h, cells-length datomOf 32 k (pageAt x s p))
+
+-- and back: a page that was opened was read at that level
+pub opened-node :
+    (x : Extent) (s : List ℕ) (p : PageId) (l k : ℕ) → opened.Node k ≡ openedOf (fetchAt (envOf eavt x s) l p) →
+    fetchPage eavt x s p ≡ fine (nodeAt x s p l k)
+unfolding openedOf fetchAt atLevel envOf nodeOf
+opened-node x s p l k e = side (fetchPage eavt x s p) refl
+  where
+    level : (n : Node) → fetchPage eavt x s p ≡ fine n → (b : Bool) → eqb (n .level) l ≡ b → fine n ≡ fine (nodeAt x s p l k)
+    level n u false v = let w : opened.Node k ≡ opened.Damaged = rw (u, v) at e in absurd (apart (cc))
+    level n u true v =
+        let R = fetch-tells eavt x s p n u .1 in
+        let w : opened.Node k ≡ opened.Node (length (n .datoms)) = rw (u, v) at e in
+        let many : k ≡ length (n .datoms) = cc in
+        let a : levelOf (capacity (x .size)) (pageAt x s p) ≡ l = ap (λ (m : Node). m .level) (R .node) ∙ eqb-true (n .level) l v in
+        let b : countOf (capacity (x .size)) (pageAt x s p) ≡ k = sym (read-count eavt (capacity (x .size)) p (pageAt x s p) n R) ∙ sym many in
+        ap fine (rw (a, b) at (sym (R .node)))
+
+    side : (r : Fetched) → fetchPage eavt x s p ≡ r → fetchPage eavt x s p ≡ fine (nodeAt x s p l k)
+    side (faulty f) u = let w : opened.Node k ≡ opened.Damaged = rw u at e in absurd (apart (cc))
+    side (fine n) u = u ∙ level n u (eqb (n .level) l) refl
+
+at-level :
+    (x : Extent) (s : List ℕ) (p : PageId) (l k : ℕ) → fetchPage eavt x s p ≡ fine (nodeAt x s p l k) → fetchAt (envOf eavt x s) l p ≡ fetchPage eavt x s p
+unfolding fetchAt atLevel envOf nodeOf
+at-level x s p l k e = rw (e, eq-eqb l l refl)
+
+-- a path that cannot go on
+lost-at : (e : Env) (d : Datom) (l : ℕ) (p : PageId) (r : Fetched) → opened.Damaged ≡ openedOf r → lookOf (lookup e d l p r) ≡ Lost p
+unfolding lookup lookOf openedOf
+lost-at e d zero p (faulty f) h = refl
+lost-at e d (suc l) p (faulty f) h = refl
+lost-at e d l p (fine n) h = absurd (apart (cc))
+
+-- "none" is no page
+none-lost : (x : Extent) (s : List ℕ) (l : ℕ) → x .count ≤ none .0 → opened.Damaged ≡ openedOf (fetchAt (envOf eavt x s) l none)
+unfolding openedOf fetchAt atLevel envOf fetchPage
+none-lost x s l h = rw (le-ltb (none .0) (x .count) h)
+
+-- the ways of a path through a page that was read
+module _ (x : Extent) (s : List ℕ) (d : Datom) (p : PageId) (l k : ℕ) (read : fetchPage eavt x s p ≡ fine (nodeAt x s p l k)) where
+  abbrev seek : ℕ
+  seek = rank cmpEavt d (datomsOf k (pageAt x s p))
+
+  abbrev path : rules.Look
+  path = pathOf x s d l p
+
+  met-at : headSame cmpEavt d (drop seek (datomsOf k (pageAt x s p))) ≡ true → (m : ℕ) → lookup (envOf eavt x s) d m p (fine (nodeAt x s p l k)) ≡ rules.met p seek
+  unfolding lookup envOf eavt nodeOf
+  met-at h zero = rw h
+  met-at h (suc m) = rw (lookup, h)
+
+  pub way-met : headSame cmpEavt d (drop seek (datomsOf k (pageAt x s p))) ≡ true → Met ≡ lookOf path
+  unfolding lookOf
+  way-met h = rw (read, met-at h l)
+
+  module _ (other : headSame cmpEavt d (drop seek (datomsOf k (pageAt x s p))) ≡ false) where
+    absent-at : Absent ≡ lookOf (lookup (envOf eavt x s) d 0 p (fine (nodeAt x s p l k)))
+    unfolding lookOf lookup envOf eavt nodeOf
+    absent-at = rw other
+
+    pub way-absent : l ≡ 0 → Absent ≡ lookOf path
+    way-absent z = rw read (absent-at ∙ ap (λ (m : ℕ). lookOf (lookup (envOf eavt x s) d m p (fine (nodeAt x s p l k)))) (sym z))
+
+    -- on to a child, one level lower
+    module _ (up : l ≡ 0 → ⊥) where
+      down-at :
+          (c : PageId) → rules.childOf (nextMidpoint (drop seek (childrenOf (capacity (x .size)) k (pageAt x s p)))) ≡ c → (m : ℕ) →
+          lookup (envOf eavt x s) d (suc m) p (fine (nodeAt x s p l k)) ≡ lookup (envOf eavt x s) d m c (fetchAt (envOf eavt x s) m c)
+      unfolding lookup envOf eavt nodeOf
+      down-at c next m = rw (lookup, other, next)
+
+      down :
+          (c : PageId) → rules.childOf (nextMidpoint (drop seek (childrenOf (capacity (x .size)) k (pageAt x s p)))) ≡ c →
+          path ≡ lookup (envOf eavt x s) d (l - 1) c (fetchAt (envOf eavt x s) (l - 1) c)
+      down c next =
+          let e : l ≡ suc (l - 1) = omega arith in
+          rw read (ap (λ (m : ℕ). lookup (envOf eavt x s) d m p (fine (nodeAt x s p l k))) e ∙ down-at c next (l - 1))
+
+      pub way-stuck :
+          x .count ≤ none .0 → nextMidpoint (drop seek (childrenOf (capacity (x .size)) k (pageAt x s p))) ≡ Nothing → Lost none ≡ lookOf path
+      way-stuck h next = rw (down none (ap rules.childOf next)) (sym (lost-at _ d (l - 1) none _ (none-lost x s (l - 1) h)))
+
+      module _ (c : PageId) (next : nextMidpoint (drop seek (childrenOf (capacity (x .size)) k (pageAt x s p))) ≡ Child c) where
+        pub way-lost : opened.Damaged ≡ openedOf (fetchAt (envOf eavt x s) (l - 1) c) → Lost c ≡ lookOf path
+        way-lost h = rw (down c (ap rules.childOf next)) (sym (lost-at _ d (l - 1) c _ h))
+
+        pub way-down : (n : ℕ) → opened.Node n ≡ openedOf (fetchAt (envOf eavt x s) (l - 1) c) → pathOf x s d (l - 1) c ≡ path
+        way-down n h =
+            sym (down c (ap rules.childOf next) ∙ ap (lookup (envOf eavt x s) d (l - 1) c) (at-level x s c (l - 1) n (opened-node x s c (l - 1) n h)))
+
+-- what follows a path
+module _ (i : ℕ) (q : rules.Finding) where
+  after-met : (o : rules.Look) → Met ≡ lookOf o → afterLook i o q ≡ found (Repeated i)
+  unfolding afterLook lookOf
+  after-met (rules.met p j) h = refl
+  after-met (rules.absent p) h = absurd (apart (cc))
+  after-met (rules.lost p f) h = absurd (apart (cc))
+
+  after-absent : (o : rules.Look) → Absent ≡ lookOf o → afterLook i o q ≡ q
+  unfolding afterLook lookOf
+  after-absent (rules.met p j) h = absurd (apart (cc))
+  after-absent (rules.absent p) h = refl
+  after-absent (rules.lost p f) h = absurd (apart (cc))
+
+  after-lost : (c : PageId) (o : rules.Look) → Lost c ≡ lookOf o → afterLook i o q ≡ found (Damaged c)
+  unfolding afterLook lookOf
+  after-lost c (rules.met p j) h = absurd (apart (cc))
+  after-lost c (rules.absent p) h = absurd (apart (cc))
+  after-lost c (rules.lost p f) h = let k : c ≡ p = cc in rw k
+
+-- one datom of a batch
+module _ (e : Env) (l : ℕ) (root : PageId) (r : Fetched) (i : ℕ) where
+  module _ {ds : List Datom} {d : Datom} {rest : List Datom} (at : ds ≡ d ∷ rest) where
+    pub all-met : Met ≡ lookOf (lookup e d l root r) → lookupAll e l root r i ds ≡ found (Repeated i)
+    unfolding lookupAll
+    all-met h = rw (at, lookupAll) (after-met i _ (lookup e d l root r) h)
+
+    pub all-on : Absent ≡ lookOf (lookup e d l root r) → lookupAll e l root r i ds ≡ lookupAll e l root r (i + 1) rest
+    unfolding lookupAll
+    all-on h = rw (at, lookupAll, add-one) (after-absent i _ (lookup e d l root r) h)
+
+    pub all-lost : (c : PageId) → Lost c ≡ lookOf (lookup e d l root r) → lookupAll e l root r i ds ≡ found (Damaged c)
+    unfolding lookupAll
+    all-lost c h = rw (at, lookupAll) (after-lost i _ c (lookup e d l root r) h)
+
+  pub all-end : (n : ℕ) (b : List ℕ) → n ≤ i → lookupAll e l root r i (drop i (datomsOf n b)) ≡ clear
+  unfolding lookupAll
+  all-end n b h = rw (cells-end datomOf 32 n i b h)
+
+-- the start of a search
+module _ (x : Extent) (s : List ℕ) (root : PageId) (ds : List Datom) where
+  pub search-faulty :
+      (f : Fault) → told x s root (Faulty f) ≡ fetchPage eavt x s root → found (Damaged root) ≡ searchAll (envOf eavt x s) root ds (fetchPage eavt x s root)
+  unfolding told searchAll
+  search-faulty f e = rw (← e)
+
+  pub search-fine :
+      (l k : ℕ) → fetchPage eavt x s root ≡ fine (nodeAt x s root l k) →
+      lookupAll (envOf eavt x s) l root (fetchPage eavt x s root) 0 ds ≡ searchAll (envOf eavt x s) root ds (fetchPage eavt x s root)
+  unfolding searchAll nodeOf
+  search-fine l k e = rw e

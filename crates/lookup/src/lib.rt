@@ -1,0 +1,154 @@
+// The search for a batch that repeats a datom of the tree. Document 01: "Before writing, insert looks every batch datom up along its
+// path, in batch order."
+use answer::NextMidpoint;
+use answer::Refusal;
+use batch::Finding;
+use datom::Datom;
+use index::Order;
+use memory_store::access;
+use memory_store::found::Found;
+use store::Extent;
+use store::PageId;
+ghost use mathlib.Core.Bool.{false};
+ghost use mathlib.Core.Path.{_≡_};
+ghost use Prim.Native.Nat.{_*_, _≤_, _<_};
+ghost use lib.ListN.{length, drop};
+ghost use Rattle.store.specs.Size.{capacity};
+ghost use Rattle.datom.specs.Datom.{datomsOf};
+ghost use Rattle.index.specs.Order.{cmpEavt, eavt};
+ghost use Rattle.rules.specs.Node.{headSame};
+ghost use Rattle.rules.specs.Tree.{fine, fetchAt};
+ghost use Rattle.rules.specs.Store.{badStore, pageAt, fetchPage, envOf};
+ghost use Rattle.batch.specs.Finding.{findingOf};
+ghost use Rattle.lookup.specs.Look.{lookOf, openedOf, nodeAt, pathOf, searchAll};
+
+// Where a datom's path ends: at an equal datom, at level 0 without one, or at a page that cannot be read.
+pub enum Look {
+    Met,
+    Absent,
+    Lost(PageId),
+}
+
+// How many datoms a page of the level that was asked for has.
+enum Opened {
+    Node(usize),
+    Damaged,
+}
+
+// The page's own part of the store.
+fn part_of(store: &[u8], extent: Extent, page: PageId) -> &[u8]
+    requires { ⌜ (badStore extent (now store) ≡ false) × (page .0 < extent .count) ⌝ }
+    ensures { λ r. ⌜ now r ≡ pageAt extent (now (store .entry)) page ⌝ }
+{
+    let size = extent.size as usize;
+    let at = page.0 as usize * size;
+    &store[at..at + size]
+}
+
+// Whether there is a datom at index i, of k, and it is equal to d.
+fn is_met(page: &[u8], k: usize, i: usize, d: Datom) -> bool
+    requires { ⌜ 32 * k ≤ length (now page) ⌝ }
+    ensures { λ r. ⌜ r ≡ headSame cmpEavt d (drop i (datomsOf k (now (page .entry)))) ⌝ }
+{
+    if k <= i {
+        return false;
+    }
+    match index::order_of(datom::datom_at(page, 32 * i), d) {
+        Order::Less => false,
+        Order::Equal => true,
+        Order::Greater => false,
+    }
+}
+
+// Page `page`, which is to be of this level.
+fn open_at(store: &[u8], extent: Extent, c: usize, level: usize, page: PageId) -> Opened
+    requires { ⌜ (badStore extent (now store) ≡ false) × (c ≡ capacity (extent .size)) ⌝ }
+    ensures { λ r. ⌜ r ≡ openedOf (fetchAt (envOf eavt extent (now (store .entry))) level page) ⌝ }
+{
+    let Found::Fine { level: l, count: k } = memory_store::found::node_at(store, extent, c, page)
+    else {
+        return Opened::Damaged;
+    };
+    if l != level {
+        return Opened::Damaged;
+    }
+    Opened::Node(k)
+}
+
+// The path of d from the root, which is of this level and count.
+fn lookup_one(
+    store: &[u8],
+    extent: Extent,
+    c: usize,
+    root: PageId,
+    level: usize,
+    count: usize,
+    d: Datom,
+) -> Look
+    requires { ⌜ (badStore extent (now store) ≡ false) × (c ≡ capacity (extent .size)) × (fetchPage eavt extent (now store) root ≡ fine (nodeAt extent (now store) root level count)) ⌝ }
+    ensures { λ r. ⌜ r ≡ lookOf (pathOf extent (now (store .entry)) d level root) ⌝ }
+{
+    let mut page = root;
+    let mut l = level;
+    let mut k = count;
+    loop {
+        let part = part_of(store, extent, page);
+        let i = access::first_not_below(part, k, d);
+        if is_met(part, k, i, d) {
+            return Look::Met;
+        }
+        if l == 0 {
+            return Look::Absent;
+        }
+        let NextMidpoint::Child(child) = access::next_midpoint(part, c, k, i) else {
+            return Look::Lost(PageId::max());
+        };
+        l -= 1;
+        let Opened::Node(n) = open_at(store, extent, c, l, child) else {
+            return Look::Lost(child);
+        };
+        page = child;
+        k = n;
+    }
+}
+
+// Whether a datom of the batch of n is met on its path from the root, or a page there cannot be read: the first such finding. A root
+// that cannot be read is one for an empty batch too.
+pub fn lookup_all(
+    store: &[u8],
+    extent: Extent,
+    c: usize,
+    root: PageId,
+    b: &[u8],
+    n: usize,
+) -> Finding
+    requires { ⌜ (badStore extent (now store) ≡ false) × (c ≡ capacity (extent .size)) × (32 * n ≤ length (now b)) ⌝ }
+    ensures { λ r. ⌜ findingOf r ≡ searchAll (envOf eavt extent (now (store .entry))) root (datomsOf n (now (b .entry))) (fetchPage eavt extent (now (store .entry)) root) ⌝ }
+{
+    let Found::Fine { level, count } = memory_store::found::node_at(store, extent, c, root) else {
+        return Finding::Found(Refusal::Damaged(root));
+    };
+    let mut i = 0;
+    while i < n {
+        match lookup_one(
+            store,
+            extent,
+            c,
+            root,
+            level,
+            count,
+            datom::datom_at(b, 32 * i),
+        ) {
+            Look::Met => {
+                return Finding::Found(Refusal::Repeated(i));
+            }
+            Look::Absent => {
+                i += 1;
+            }
+            Look::Lost(page) => {
+                return Finding::Found(Refusal::Damaged(page));
+            }
+        }
+    }
+    Finding::Clear
+}

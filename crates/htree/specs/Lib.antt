@@ -5,3 +5,6 @@ pub mod PutLaws
 pub mod Load
 pub mod Split
 pub mod Settle
+pub mod Flush
+pub mod Cycle
+pub mod Root

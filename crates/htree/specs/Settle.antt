@@ -30,8 +30,10 @@ use Rattle.htree.specs.Wrote.{Wrote, wrote-none}
 pub whole-part : (m l n : ℕ) (s : List ℕ) → partOf 0 n (nodeOf m l n s) ≡ nodeOf m l n s
 unfolding partOf nodeOf
 whole-part m l n s =
-    rw (take-all n (cells datomOf 32 n s) (omega (arith, cells-length datomOf 32 n s)),
-    take-all (suc n) (cells pageOf 8 (suc n) (drop (32 * m) s)) (omega (arith, cells-length pageOf 8 (suc n) (drop (32 * m) s))))
+    rw (
+      take-all n (cells datomOf 32 n s) (omega (arith, cells-length datomOf 32 n s)),
+      take-all (suc n) (cells pageOf 8 (suc n) (drop (32 * m) s)) (omega (arith, cells-length pageOf 8 (suc n) (drop (32 * m) s))),
+    )
 
 -- the pages past the count, as the code counts them
 pub ready-next : {x : Extent} {s : List ℕ} {c w : ℕ} → Ready x s c w → x .count + w ≤ length s

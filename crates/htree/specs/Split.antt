@@ -297,10 +297,10 @@ pub record Looping (x : Extent) (s₀ : List ℕ) (c w l : ℕ) (a₀ : List ℕ
   pub left : p < P
 
 -- some list of so many pages, to read off what does not depend on them
-blanks : ℕ → List Node
+pub blanks : ℕ → List Node
 blanks w = replicate w (record { level = 0; datoms = []; children = [] })
 
-blanks-length : (w : ℕ) → length (blanks w) ≡ w
+pub blanks-length : (w : ℕ) → length (blanks w) ≡ w
 unfolding blanks
 blanks-length w = length-replicate w _
 

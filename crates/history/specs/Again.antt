@@ -1,0 +1,80 @@
+-- A batch that is sent again. Rests on Invariant.
+use Prim.Native.Nat.{ℕ, _/_, _%_, _<_, Ordering}
+use native.Mathlib.Omega.{arith}
+use mathlib.Core.Bool.{false}
+use mathlib.Core.List.{List, [], _∷_}
+use mathlib.Core.Logic.{inl, inr}
+use mathlib.Core.Path.{_≡_, refl, sym, _∙_, ap}
+use lib.ListN.{length}
+use Rattle.store.specs.declared.PageId.{PageId}
+use Rattle.store.specs.declared.Extent.{Extent}
+use Rattle.store.specs.Size.{capacity}
+use Rattle.store.specs.Laws.{apart, cells-length}
+use Rattle.datom.specs.declared.Datom.{Datom}
+use Rattle.datom.specs.Datom.{datomOf}
+use Rattle.index.specs.Order.{DatomOrd}
+use Rattle.index.specs.Laws.{Preorder}
+use Rattle.answer.specs.declared.Refusal.the-variants.{Repeated}
+use Rattle.answer.specs.declared.Answer.the-variants.{Done}
+use Rattle.rules.specs.Store.{badScratch}
+use Rattle.rules.specs.Insert.{Outcome, refuse, batchOf}
+use Rattle.rules.specs.Lists.{In, in-left, in-right}
+use Rattle.history.specs.Statement.{inserting, inserts, step, gathered, WellFormed, Shared, FirstShared, Resending}
+use Rattle.history.specs.Order.{clash, same-self}
+use Rattle.history.specs.After.{store-same}
+use Rattle.history.specs.Calls.{Inserted, badly, early, met, stays, done}
+use Rattle.history.specs.Invariant.{inserted-at, inv}
+use Rattle.history.specs.Demand.{later-later}
+
+gathered-in : (bs : List (List ℕ)) (b : List ℕ) → In b bs → (d : Datom) → In d (batchOf b) → In d (gathered bs)
+gathered-in (c ∷ bs) b (inl e) d i = in-left d (batchOf c) (gathered bs) (rw e at i)
+gathered-in (c ∷ bs) b (inr j) d i = in-right d (batchOf c) (gathered bs) (gathered-in bs b j d i)
+
+-- a batch of which every datom is shared shares its first one first
+first-zero :
+    (cmp : Datom → Datom → Ordering) (u b : List Datom) (i : ℕ) → ((d : Datom) → In d b → Shared cmp u d) → FirstShared cmp u b i → i ≡ 0
+first-zero cmp u b i a F = side (F .before) refl
+  where
+    side : (p : List Datom) → F .before ≡ p → i ≡ 0
+    side [] e = sym (F .index) ∙ ap length e
+    side (d ∷ p) e =
+        absurd (F .first d (rw e (inl refl)) (a d (rw (F .batch) (in-left d (F .before) (F .datom ∷ F .rest) (rw e (inl refl))))))
+
+module _ (t : DatomOrd) (L : Preorder (t .cmp)) (x : Extent) (s : List ℕ) (scratch : ℕ) (u : List Datom) (b : List ℕ) where
+  accepted-well-formed : {o : Outcome} {root : PageId} {n : ℕ} → Inserted t x s scratch u b o → o .answer ≡ Done root n → WellFormed t b
+  accepted-well-formed (badly y) e = absurd (apart (cc))
+  accepted-well-formed (early y n) e = absurd (apart (cc))
+  accepted-well-formed (met F) e = absurd (apart (cc))
+  accepted-well-formed (stays y f) e = absurd (apart (cc))
+  accepted-well-formed (done w f R) e = w
+
+  shared-refused :
+      {o : Outcome} → Inserted t x s scratch u b o → WellFormed t b → badScratch x scratch ≡ false → (d : Datom) → In d (batchOf b) →
+      ((y : Datom) → In y (batchOf b) → In y u) → o ≡ refuse (Repeated 0)
+  shared-refused (badly y) w e d i a = absurd (clash e y)
+  shared-refused (early y n) w e d i a = absurd (n w)
+  shared-refused (met {i = j} F) w e d i a =
+      ap (λ (z : ℕ). refuse (Repeated z)) (first-zero (t .cmp) u (batchOf b) j (λ y k. (y, a y k, same-self (t .cmp) L y)) F)
+  shared-refused (stays y f) w e d i a = absurd (f d d i (a d i) (same-self (t .cmp) L d))
+  shared-refused (done v f R) w e d i a = absurd (f d d i (a d i) (same-self (t .cmp) L d))
+
+-- a batch of some bytes and a multiple of 32 has a first datom
+some-datom : (b : List ℕ) → 0 < length b → length b % 32 ≡ 0 → (d : Datom) × In d (batchOf b)
+some-datom b h e = head (batchOf b) (omega (arith, cells-length datomOf 32 (length b / 32) b))
+  where
+    head : (ds : List Datom) → 0 < length ds → (d : Datom) × In d ds
+    head [] k = absurd (omega arith)
+    head (d ∷ ds) k = (d, inl refl)
+
+pub resending : (t : DatomOrd) → Preorder (t .cmp) → (size : ℕ) → (capacity size ≡ 0 → ⊥) → Resending t size
+resending t L size known m h k i b scratch lent some root n e m₁ l k₁ i₁ g scratch₁ lent₁ ready =
+    let I = inv t L size known (h .1) in
+    let w : WellFormed t b =
+    accepted-well-formed t L (m .extent) (m .store) scratch (gathered (k .batches)) b (inserted-at t L size known I k i b scratch lent) e in
+    let I₁ = inv t L size known (later-later (step (h .1) (inserts k i b scratch lent)) l) in
+    let d = some-datom b some (w .multiple) in
+    let sent : In b (k₁ .batches) = rw (g .1) (in-right b (g .0) (b ∷ k .batches) (inl refl)) in
+    let o : inserting t m₁ k₁ scratch₁ b ≡ refuse (Repeated 0) =
+    shared-refused t L (m₁ .extent) (m₁ .store) scratch₁ (gathered (k₁ .batches)) b (inserted-at t L size known I₁ k₁ i₁ b scratch₁ lent₁) w ready
+    (d .0) (d .1) (gathered-in (k₁ .batches) b sent) in
+    (rw o, rw o (store-same (m₁ .extent) (m₁ .store)))

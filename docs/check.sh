@@ -36,19 +36,19 @@ names() {
 
 while read -r name; do
     is_defined "$name" && s=0 || s=1
-    count $s "no definition $name"
+    count "$s" "no definition $name"
 done < <(names '[a-z_]+/specs/[A-Za-z]+\.[^` ]+')
 while read -r name; do
     is_code "$name" && s=0 || s=1
-    count $s "no function or type $name"
+    count "$s" "no function or type $name"
 done < <(names '[a-z_]+(::[A-Za-z_]+)+')
 while read -r name; do
     [ -f "crates/$name.edit" ] && s=0 || s=1
-    count $s "no edit $name"
+    count "$s" "no edit $name"
 done < <(names '[a-z_]+/must-fail/[a-z_]+')
 while read -r name; do
     [ -e "$name" ] && s=0 || s=1
-    count $s "no file $name"
+    count "$s" "no file $name"
 done < <(grep -ohE '\b(docs|tests|crates)/[A-Za-z0-9_./-]*[A-Za-z0-9_]' docs/*.md README.md | sort -u)
 
 # The blocks of one build, each behind a heading of its own. A line of document 01's table or of prose is no block.
@@ -80,7 +80,7 @@ for build in plain:oracle release:oracle-release; do
         { echo 'oracle plain'; echo 'size 256'; sed -n 's/^> //p' "$work/expected"; } |
             "$oracle" run --echo | tail -n +5 | grep -vx ok > "$work/found" || true
         same "$work/expected" "$work/found" && s=0 || s=1
-        count $s "docs/DIFFERENCES.md, block at line $line"
+        count "$s" "docs/DIFFERENCES.md, block at line $line"
     done < <(grep '^# line ' "$work/all")
     rm -r "$work"
 done

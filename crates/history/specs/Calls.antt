@@ -24,10 +24,10 @@ use Rattle.rules.specs.Store.{orElse, badScratch, badRoot, fetchPage, envOf}
 use Rattle.rules.specs.Insert.{Outcome, refuse, outcome, storeFault, rootFault, sort, leafOf, writeFresh, insertAt, insertUnder, insert, initialise, batchOf, insertBytes, initialiseBytes}
 use Rattle.rules.specs.Lists.{In, Rising}
 use Rattle.rules.specs.Reads.{fetch-tells}
-use Rattle.rules.specs.Sizes.{level-fine}
+use Rattle.rules.specs.Sizes.{level-is, level-fine}
 use Rattle.history.specs.Statement.{Lent, WellFormed, FirstShared}
 use Rattle.history.specs.Tree.{Tree, blank, last, Good, Exactly, pending, pending-in, pending-good}
-use Rattle.history.specs.Pages.{page, child, level-is, Holds, noPage, aPage, hLast, hItem, Stored, leaf-full, none-is}
+use Rattle.history.specs.Pages.{page, child, Holds, noPage, aPage, hLast, hItem, Stored, leaf-full, none-is}
 use Rattle.history.specs.Look.{Lookups, noneMet, someMet, lookups-ok}
 use Rattle.history.specs.Held.{held, EnvOk, Storable, none-written, same-more, Excused, Goes, stops, goes, goes-map, at-own}
 use Rattle.history.specs.Grow.{regrown, Rooted, write-root-ok, insert-tree-ok}

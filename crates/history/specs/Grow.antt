@@ -17,9 +17,10 @@ use Rattle.rules.specs.Page.{Node}
 use Rattle.rules.specs.Node.{meets, mergeNode, Span, longestSpan, anyPending, splice}
 use Rattle.rules.specs.Tree.{Env, Stage, go, fetchAt, put, split, isOver, settle, Below, flush, flushAll, insertMerged, insertInto, rootOf, writeRoot, insertTree}
 use Rattle.rules.specs.Lists.{In, Rising}
+use Rattle.rules.specs.Sizes.{level-is}
 use Rattle.history.specs.Order.{clash}
 use Rattle.history.specs.Tree.{Tree, last, InTree, Full, Good, own-in, Exactly, Apart}
-use Rattle.history.specs.Pages.{Place, page, child, level-is, Holds, hLast, hItem, Stored, holds-extends, holds-own, holds-lengths, holds-real, leaf-full, real-last}
+use Rattle.history.specs.Pages.{Place, page, child, Holds, hLast, hItem, Stored, holds-extends, holds-own, holds-lengths, holds-real, leaf-full, real-last}
 use Rattle.history.specs.Merge.{merge-holds, merged-in, merged-good, merge-clear}
 use Rattle.history.specs.Held.{held, EnvOk, held-old, Storable, Written, none-written, More, same-more, more-more, Grown, Goes, goes, goes-then, goes-map, put-ok}
 use Rattle.history.specs.Split.{Made, split-ok}

@@ -1,11 +1,9 @@
 -- How pages hold a tree: the middle layer's one tie to page numbers. Rests on Tree.
 use Prim.Native.Nat.{ℕ, suc}
-use mathlib.Core.Bool.{Bool, true, false}
+use mathlib.Core.Bool.{true, false}
 use mathlib.Core.List.{List, [], _∷_, _++_}
 use mathlib.Core.Logic.{inl, inr}
 use mathlib.Core.Path.{_≡_, refl, sym, _∙_, ap}
-use borrow.Author.Tests.{eqb-true}
-use lib.Dec.{eqb}
 use lib.ListN.{length, getD, replicate}
 use Rattle.store.specs.declared.PageId.{PageId}
 use Rattle.store.specs.Page.{none, isNone}
@@ -45,15 +43,6 @@ level-extends {f} {g} x l c n e = side (f c) refl e
     side : (o : Fetched) → f c ≡ o → atLevel l o ≡ fine n → atLevel l (g c) ≡ fine n
     side (faulty q) h k = absurd (apart (cc))
     side (fine m) h k = rw (x c m h) k
-
-pub level-is : (l : ℕ) (r : Fetched) (n : Node) → atLevel l r ≡ fine n → n .level ≡ l
-unfolding atLevel
-level-is l (faulty x) n q = absurd (apart (cc))
-level-is l (fine m) n q = side (eqb (m .level) l) refl
-  where
-    side : (b : Bool) → eqb (m .level) l ≡ b → n .level ≡ l
-    side true v = let k : fine m ≡ fine n = rw v at q in let y : m ≡ n = cc in rw (← y) (eqb-true (m .level) l v)
-    side false v = let k : faulty _ ≡ fine n = rw v at q in absurd (apart (cc))
 
 pub holds-extends : {f g : PageId → Fetched} {w : Place} {t : Tree} → Extends f g → Holds f w t → Holds g w t
 holds-extends x (noPage n) = noPage n

@@ -21,11 +21,11 @@ use Rattle.rules.specs.Listing.{framesFrom, cursorOf, joinPaths, sameIndices, s
 use Rattle.rules.specs.Check.{checkRoot, checkTree}
 use Rattle.rules.specs.Lists.{In, Rising, less}
 use Rattle.rules.specs.Reads.{fetch-tells}
-use Rattle.rules.specs.Sizes.{level-fine}
+use Rattle.rules.specs.Sizes.{level-is, level-fine}
 use Rattle.history.specs.Statement.{within}
 use Rattle.history.specs.Order.{below-front}
 use Rattle.history.specs.Tree.{Tree, Good, Exactly}
-use Rattle.history.specs.Pages.{page, child, level-is, Holds, noPage, aPage}
+use Rattle.history.specs.Pages.{page, child, Holds, noPage, aPage}
 use Rattle.history.specs.Step.{along}
 use Rattle.history.specs.Lists.{Left, lists-ok}
 use Rattle.history.specs.Held.{at-own}

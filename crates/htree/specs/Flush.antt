@@ -245,7 +245,7 @@ module _ (x : Extent) (s₀ : List ℕ) (w l m n : ℕ) (a₀ : List ℕ) (o : L
           }
 
 -- so does the loop
-flush-all-level : (e : Env) (ins : Below) (t : ℕ) (n : Node) (o : List Node) (k : Node) (o₁ : List Node) → flushAll e ins t n o ≡ go k o₁ → k .level ≡ n .level
+pub flush-all-level : (e : Env) (ins : Below) (t : ℕ) (n : Node) (o : List Node) (k : Node) (o₁ : List Node) → flushAll e ins t n o ≡ go k o₁ → k .level ≡ n .level
 unfolding flushAll then
 flush-all-level e ins zero n o k o₁ q = let g : n ≡ k = cc in rw g
 flush-all-level e ins (suc t) n o k o₁ q = side (isOver e n && anyPending (n .children)) refl (λ j o₂ r. flush-all-level e ins t j o₂ k o₁ r)

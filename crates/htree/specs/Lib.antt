@@ -8,3 +8,4 @@ pub mod Settle
 pub mod Flush
 pub mod Cycle
 pub mod Root
+pub mod Raise

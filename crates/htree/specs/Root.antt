@@ -51,6 +51,19 @@ pub tell-no-root :
     Wrote x s (length o) new s₁ → RootTold x s s₁ o (rooted.Failed r v) t
 tell-no-root r new v e c w = rw (e, c) (root-not new w)
 
+-- pages written before are written too
+pub root-after :
+    (x : Extent) (s₀ : List ℕ) (w : ℕ) (o : List Node) → length o ≡ w → {s s₁ : List ℕ} {new : List Node} {r : Rooted} {t : Stage PageId} → Wrote x s₀ w new s →
+    RootTold x s s₁ (o ++ new) r t → RootTold x s₀ s₁ o r t
+root-after x s₀ w o here {s} {s₁} {new} W (root-at {id = id} more B) =
+    tell-root id (new ++ more) _ (ap (λ (os : List Node). go id os) (append-assoc o new more))
+    (omega (arith, length-append new more, length-append o new))
+    (rw here (wrote-more x s₀ w W (rw (let k : length (o ++ new) ≡ w + length new = omega (arith, length-append o new) in k) at B)))
+root-after x s₀ w o here {s} {s₁} {new} W (root-not {r = r} more B) =
+    tell-no-root r (new ++ more) _ (ap (λ (os : List Node). stop r os) (append-assoc o new more))
+    (omega (arith, length-append new more, length-append o new))
+    (rw here (wrote-more x s₀ w W (rw (let k : length (o ++ new) ≡ w + length new = omega (arith, length-append o new) in k) at B)))
+
 -- one turn of the rules, or none
 root-turn : (e : Env) (k : ℕ) (n : Node) (o : List Node) → isOver e n ≡ true → writeRoot e (suc k) n o ≡ then (split e n o) λ j o₁. writeRoot e k j o₁
 unfolding writeRoot
@@ -62,7 +75,7 @@ root-rest e zero n o h = refl
 root-rest e (suc k) n o h = rw (h, writeRoot)
 
 -- what a split goes on with
-split-gives :
+pub split-gives :
     (e : Env) (n : Node) (o : List Node) (k : Node) (o₁ : List Node) → split e n o ≡ go k o₁ → (k .level ≡ suc (n .level)) × (k .datoms ≡ splitUp (e .cap) n)
 unfolding split then
 split-gives e n o k o₁ q = side (putAll e (splitParts (e .cap) n) o) q
@@ -165,17 +178,7 @@ module _ (x : Extent) (s₀ : List ℕ) (w l m n : ℕ) (a₀ : List ℕ) (o : L
       pub rooting-end :
           (s₁ : List ℕ) (r : Rooted) → RootTold x s s₁ done r (rootOf (envOf eavt x s) (childrenOf m (suc count) a) (nodeOf m high count a) done) →
           RootTold x s₀ s₁ o r (writeRoot e n (nodeOf m l n a₀) o)
-      rooting-end s₁ r T = on r (rootOf (envOf eavt x s) (childrenOf m (suc count) a) (nodeOf m high count a) done) top T
-        where
-          on : (r : Rooted) (t : Stage PageId) → writeRoot e n (nodeOf m l n a₀) o ≡ t → RootTold x s s₁ done r t → RootTold x s₀ s₁ o r (writeRoot e n (nodeOf m l n a₀) o)
-          on r t q (root-at {id = id} new W) =
-              tell-root id (D .new ++ new) _ (q ∙ ap (λ (os : List Node). go id os) (append-assoc o (D .new) new))
-              (omega (arith, rooting-count, D .reach, here, length-append (D .new) new, length-append o (D .new)))
-              (rw here (wrote-more x s₀ w (D .wrote) (rw (rooting-count ∙ D .reach) at W)))
-          on r t q (root-not {r = r₁} new W) =
-              tell-no-root r₁ (D .new ++ new) _ (q ∙ ap (λ (os : List Node). stop r₁ os) (append-assoc o (D .new) new))
-              (omega (arith, rooting-count, D .reach, here, length-append (D .new) new, length-append o (D .new)))
-              (rw here (wrote-more x s₀ w (D .wrote) (rw (rooting-count ∙ D .reach) at W)))
+      rooting-end s₁ r T = rw top (root-after x s₀ w o here (D .wrote) T)
 
 -- one child is the root, several are written as the root
 one-child : (e : Env) (m k : ℕ) (a : List ℕ) (n : Node) (o : List Node) → k ≡ 0 → rootOf e (childrenOf m (suc k) a) n o ≡ go (childAt m a 0) o

@@ -5,7 +5,7 @@ use native.Mathlib.Omega.{arith}
 use mathlib.Core.Bool.{Bool, true, false, _&&_, cond}
 use mathlib.Core.List.{List, [], _∷_, _++_}
 use mathlib.Core.Path.{_≡_, refl, sym, _∙_, ap}
-use borrow.Author.Tests.{ltb-true, ltb-false, le-leb}
+use borrow.Author.Tests.{eqb-true, ltb-true, ltb-false, le-leb}
 use lib.Dec.{leb, ltb, eqb}
 use lib.ListN.{length, take, drop, getD, length-append, length-take, length-drop}
 use Rattle.store.specs.declared.PageId.{PageId}
@@ -34,6 +34,15 @@ level-fine l (fine m) n e = side (eqb (m .level) l) refl
     side : (b : Bool) → eqb (m .level) l ≡ b → fine m ≡ fine n
     side true q = rw q at e
     side false q = let k : cond false (fine m) (faulty _) ≡ fine n = rw q at e in absurd (apart (cc))
+
+pub level-is : (l : ℕ) (r : Fetched) (n : Node) → atLevel l r ≡ fine n → n .level ≡ l
+unfolding atLevel
+level-is l (faulty f) n q = absurd (apart (cc))
+level-is l (fine m) n q = side (eqb (m .level) l) refl
+  where
+    side : (b : Bool) → eqb (m .level) l ≡ b → n .level ≡ l
+    side true v = let k : fine m ≡ fine n = rw v at q in let y : m ≡ n = cc in rw (← y) (eqb-true (m .level) l v)
+    side false v = let k : faulty _ ≡ fine n = rw v at q in absurd (apart (cc))
 
 -- what a stage goes on with has at most b datoms, and one child more
 abbrev pub Few : ℕ → Stage Node → Type 0

@@ -33,7 +33,7 @@ pub record Wrote (x : Extent) (s : List ℕ) (w : ℕ) (new : List Node) (s₁ :
   pub sized : length (pagesBytes x new) ≡ length new * x .size
   pub fits : (x .count + w + length new) * x .size ≤ length s
 
-patch-none : (s : List ℕ) (at : ℕ) → patch s at [] ≡ s
+pub patch-none : (s : List ℕ) (at : ℕ) → patch s at [] ≡ s
 unfolding patch
 patch-none s at = rw (append-nil, add-zero) (take-append-drop at s)
 

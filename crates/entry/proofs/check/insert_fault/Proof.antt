@@ -1,0 +1,56 @@
+-- `insert_fault` meets its contract: 3, then 4, then 5 to 7. Assumes nothing.
+use mathlib.Core.Path.{_≡_, refl, sym, _∙_, ap}
+use Rattle.batch.specs.Finding.{findingOf}
+use Rattle.entry.specs.Checks.{fault-form, fault-order, fault-rest}
+use borrow.Author.Needs.{needs}
+use Rattle.entry.proofs.check.insert_fault.Statement.{statement}
+use Rattle.entry.proofs.check.insert_fault.Tie as tie
+
+form-fault-requires : tie.Need-form-fault-requires
+form-fault-requires c κs = search needs
+
+enum-known-refusal : tie.Need-enum-known-refusal
+enum-known-refusal c = search needs
+
+enum-told : tie.Need-enum-told
+enum-told c = search needs
+
+order-fault-requires : tie.Need-order-fault-requires
+order-fault-requires c κs = search needs
+
+enum-known-refusal-2 : tie.Need-enum-known-refusal-2
+enum-known-refusal-2 c = search needs
+
+enum-told-2 : tie.Need-enum-told-2
+enum-told-2 c = search needs
+
+repeat-fault-requires : tie.Need-repeat-fault-requires
+repeat-fault-requires c κs = search needs
+
+returns : tie.Need-returns
+returns c = fault-form _ _ _ _ _ (sym (ap findingOf (c .before .refusal .given .1)) ∙ c .before .before .before .form-fault .ensures)
+
+returns-2 : tie.Need-returns-2
+returns-2 c =
+    fault-order _ _ _ _ (sym (ap findingOf (c .before .before .before .before .enum-told .given .1)) ∙ c .before .before .before .before .before .before .form-fault .ensures) _
+    (sym (ap findingOf (c .before .refusal2 .given .1)) ∙ c .before .before .before .order-fault .ensures)
+
+returns-3 : tie.Need-returns-3
+returns-3 c =
+    fault-rest _ _ _ _ (sym (ap findingOf (c .before .before .before .before .enum-told .given .1)) ∙ c .before .before .before .before .before .before .form-fault .ensures)
+    (sym (ap findingOf (c .before .enum-told2 .given .1)) ∙ c .before .before .before .order-fault .ensures) _ (c .repeat-fault .ensures)
+
+pub insert-fault-spec : {M : Type 1} → statement M
+insert-fault-spec =
+    tie.close
+    (tie.spec
+    form-fault-requires
+    enum-known-refusal
+    enum-told
+    order-fault-requires
+    enum-known-refusal-2
+    enum-told-2
+    repeat-fault-requires
+    returns
+    returns-2
+    returns-3)

@@ -1,0 +1,34 @@
+-- `fresh` meets its contract: the batch is laid to the front. Assumes nothing.
+use mathlib.Core.Path.{_≡_, refl, sym, _∙_, ap}
+use native.Mathlib.Omega.{arith}
+use Prim.Native.Nat.{_+_, _*_}
+use Rattle.datom.specs.Datom.{datomsOf}
+use Rattle.entry.specs.Checks.{Roomy, Passed}
+use Rattle.entry.specs.Scratch.{room-is, need-is, roomy-area, roomy-small}
+use Rattle.entry.specs.Leaf.{batch-put}
+use borrow.Author.Needs.{needs}
+use Rattle.entry.proofs.write.fresh.Statement.{statement}
+use Rattle.entry.proofs.write.fresh.Tie as tie
+
+put-requires : tie.Need-put-requires
+put-requires c κs =
+    let P = c .before .before .before .before .pre in
+    omega (arith, P .batch, roomy-area (P .roomy) _ refl, roomy-small (P .roomy) _ refl .0)
+
+leaf-requires : tie.Need-leaf-requires
+leaf-requires c κs = search needs
+
+same-length : tie.Need-same-length
+same-length c = search needs
+
+same-length-2 : tie.Need-same-length-2
+same-length-2 c = search needs
+
+returns : tie.Need-returns
+returns c =
+    let a = c .before .before .before .before .before .before .before .before .before .before .before .before .before .before .args in
+    let e = ap (datomsOf (a .n)) (c .before .before .before .before .before .before .before .before .before .put .ensures) ∙ batch-put (a .n) 0 (a .s .now) (a .b .now) (omega arith) (c .before .before .before .before .before .before .before .before .before .before .before .before .before .before .pre .batch) in
+    λ o h. rw (← e) (c .before .before .before .before .leaf .ensures o h)
+
+pub fresh-spec : {M : Type 1} → statement M
+fresh-spec = tie.close (tie.spec put-requires leaf-requires same-length same-length-2 returns)

@@ -1,0 +1,100 @@
+// The entries: a batch of bytes goes in whole or not at all.
+pub mod check;
+pub mod write;
+
+use answer::Answer;
+use batch::Count;
+use batch::Finding;
+use htree::root::Rooted;
+use store::Extent;
+use store::PageId;
+ghost use mathlib.Core.Path.{_≡_};
+ghost use lib.ListN.{length};
+ghost use Rattle.index.specs.Order.{eavt};
+ghost use Rattle.rules.specs.Insert.{insertBytes, initialiseBytes};
+ghost use Rattle.entry.specs.Reply.{Replies, answerOf};
+ghost use Rattle.entry.specs.Checks.{Passed, insertRest, initialiseRest};
+
+// The answer, of what was written.
+fn answer_of(r: Rooted) -> Answer
+    ensures { λ a. ⌜ a ≡ answerOf r ⌝ }
+{
+    match r {
+        Rooted::Root { root, written } => Answer::Done {
+            root,
+            pages: written,
+        },
+        Rooted::Failed {
+            refusal,
+            written: _,
+        } => Answer::Refused(refusal),
+    }
+}
+
+// Refusals 3 to 9, of a batch of n datoms.
+fn insert_counted(
+    store: &mut [u8],
+    extent: Extent,
+    c: usize,
+    root: PageId,
+    b: &[u8],
+    n: usize,
+    s: &mut [u8],
+) -> Answer
+    requires { ⌜ Passed extent (now store) c (now b) n (length (now s)) ⌝ }
+    ensures { λ r. ⌜ Replies extent (now (store .entry)) (now (store .exit)) r (insertRest extent (now (store .entry)) root n (now (b .entry))) ⌝ }
+{
+    match check::insert_fault(store, extent, c, root, b, n) {
+        Finding::Found(refusal) => Answer::Refused(refusal),
+        Finding::Clear => {
+            if root.is_none() {
+                return answer_of(write::fresh(store, extent, c, b, n, s));
+            }
+            answer_of(write::under(store, extent, c, root, b, n, s))
+        }
+    }
+}
+
+// Inserts a batch at a root. Nothing is written unless the whole batch may go in.
+pub fn insert(store: &mut [u8], extent: Extent, root: PageId, b: &[u8], s: &mut [u8]) -> Answer
+    ensures { λ r. ⌜ Replies extent (now (store .entry)) (now (store .exit)) r (insertBytes eavt extent (now (store .entry)) (length (now (s .entry))) root (now (b .entry))) ⌝ }
+{
+    match check::count_of(store, extent, b, s.len()) {
+        Count::Refused(refusal) => Answer::Refused(refusal),
+        Count::Datoms(n) => {
+            let c = store::capacity_of(extent.size);
+            insert_counted(store, extent, c, root, b, n, s)
+        }
+    }
+}
+
+// Refusals 3 to 9 of an initialise, of a batch of n datoms.
+fn initialise_counted(
+    store: &mut [u8],
+    extent: Extent,
+    c: usize,
+    b: &[u8],
+    n: usize,
+    s: &mut [u8],
+) -> Answer
+    requires { ⌜ Passed extent (now store) c (now b) n (length (now s)) ⌝ }
+    ensures { λ r. ⌜ Replies extent (now (store .entry)) (now (store .exit)) r (initialiseRest extent (now (store .entry)) n (now (b .entry))) ⌝ }
+{
+    match check::initialise_fault(b, n) {
+        Finding::Found(refusal) => Answer::Refused(refusal),
+        Finding::Clear => answer_of(write::sorted(store, extent, c, b, n, s)),
+    }
+}
+
+// Makes a new tree of a batch in any order. It reads no page.
+pub fn initialise(store: &mut [u8], extent: Extent, b: &[u8], s: &mut [u8]) -> Answer
+    ensures { λ r. ⌜ Replies extent (now (store .entry)) (now (store .exit)) r (initialiseBytes eavt extent (now (store .entry)) (length (now (s .entry))) (now (b .entry))) ⌝ }
+{
+    match check::count_of(store, extent, b, s.len()) {
+        Count::Refused(refusal) => Answer::Refused(refusal),
+        Count::Datoms(n) => {
+            let c = store::capacity_of(extent.size);
+            initialise_counted(store, extent, c, b, n, s)
+        }
+    }
+}

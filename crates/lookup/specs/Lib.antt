@@ -1,3 +1,4 @@
 -- What a search for repeated datoms answers, and laws for its loops.
 pub mod Look
 pub mod Steps
+pub mod Path

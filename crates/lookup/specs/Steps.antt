@@ -3,7 +3,7 @@ use Prim.Native.Nat.{ℕ, zero, suc, _+_, _-_, _*_, _<_, _≤_, Ordering}
 use native.Mathlib.Numerals.{add-one}
 use native.Mathlib.Omega.{arith}
 use mathlib.Core.Bool.{Bool, true, false}
-use mathlib.Core.List.{List, _∷_}
+use mathlib.Core.List.{List, [], _∷_}
 use mathlib.Core.Path.{_≡_, refl, sym, ap, _∙_}
 use borrow.Author.Tests.{eqb-true, eq-eqb, ne-eqb, le-ltb}
 use lib.Dec.{eqb}
@@ -11,7 +11,7 @@ use lib.ListN.{length, drop, length-drop}
 use lib.Seq.{length-take-le}
 use Rattle.store.specs.declared.PageId.{PageId}
 use Rattle.store.specs.declared.Extent.{Extent}
-use Rattle.store.specs.Page.{none}
+use Rattle.store.specs.Page.{none, isNone}
 use Rattle.store.specs.Size.{capacity}
 use Rattle.store.specs.Laws.{apart, cells-length}
 use Rattle.store.specs.Cells.{cells-end}
@@ -21,6 +21,7 @@ use Rattle.datom.specs.Laws.{datoms-from}
 use Rattle.index.specs.Order.{isSame, cmpEavt, eavt}
 use Rattle.answer.specs.declared.Fault.{Fault}
 use Rattle.answer.specs.declared.Refusal.the-variants.{Repeated, Damaged}
+use Rattle.answer.specs.declared.NextMidpoint.{NextMidpoint}
 use Rattle.answer.specs.declared.NextMidpoint.the-variants.{Child, Nothing}
 use Rattle.rules.specs.Page.{Node, nodeOf, levelOf, countOf, rising}
 use Rattle.rules.specs.Node.{rank, headSame, nextMidpoint}
@@ -73,6 +74,16 @@ module _ (cmp : Datom → Datom → Ordering) (d : Datom) (n i : ℕ) (s : List 
   unfolding headSame
   same-at h = rw (datoms-from n i s h)
 
+-- a page that was read at a level
+module _ (x : Extent) (s : List ℕ) (p : PageId) (l k : ℕ) (e : fetchPage eavt x s p ≡ fine (nodeAt x s p l k)) where
+  at-level : fetchAt (envOf eavt x s) l p ≡ fetchPage eavt x s p
+  unfolding fetchAt atLevel envOf nodeOf
+  at-level = rw (e, eq-eqb l l refl)
+
+  pub node-opened : opened.Node k ≡ openedOf (fetchAt (envOf eavt x s) l p)
+  unfolding openedOf nodeOf
+  node-opened = rw (at-level, e, cells-length datomOf 32 k (pageAt x s p))
+
 -- what the reader tells of a page, at a level
 module _ (x : Extent) (s : List ℕ) (p : PageId) where
   pub told-fine : (l k : ℕ) → told x s p (Fine l k) ≡ fetchPage eavt x s p → fetchPage eavt x s p ≡ fine (nodeAt x s p l k)
@@ -89,8 +100,7 @@ module _ (x : Extent) (s : List ℕ) (p : PageId) where
     open-other h = rw (← e, ne-eqb l m h)
 
     pub open-node : l ≡ m → opened.Node k ≡ openedOf (fetchAt (envOf eavt x s) m p)
-    unfolding told openedOf fetchAt atLevel envOf nodeOf
-    open-node h = rw (← e, eq-eqb l m h, cells-length datomOf 32 k (pageAt x s p))
+    open-node h = rw (← h) (node-opened x s p l k (told-fine l k e))
 
 -- and back: a page that was opened was read at that level
 pub opened-node :
@@ -113,11 +123,6 @@ opened-node x s p l k e = side (fetchPage eavt x s p) refl
     side (faulty f) u = let w : opened.Node k ≡ opened.Damaged = rw u at e in absurd (apart (cc))
     side (fine n) u = u ∙ level n u (eqb (n .level) l) refl
 
-at-level :
-    (x : Extent) (s : List ℕ) (p : PageId) (l k : ℕ) → fetchPage eavt x s p ≡ fine (nodeAt x s p l k) → fetchAt (envOf eavt x s) l p ≡ fetchPage eavt x s p
-unfolding fetchAt atLevel envOf nodeOf
-at-level x s p l k e = rw (e, eq-eqb l l refl)
-
 -- a path that cannot go on
 lost-at : (e : Env) (d : Datom) (l : ℕ) (p : PageId) (r : Fetched) → opened.Damaged ≡ openedOf r → lookOf (lookup e d l p r) ≡ Lost p
 unfolding lookup lookOf openedOf
@@ -130,57 +135,69 @@ none-lost : (x : Extent) (s : List ℕ) (l : ℕ) → x .count ≤ none .0 → o
 unfolding openedOf fetchAt atLevel envOf fetchPage
 none-lost x s l h = rw (le-ltb (none .0) (x .count) h)
 
+-- in page p, of k datoms: the index of the first datom not below d, whether that is equal, and the first real child from there on
+abbrev pub seekIn : Extent → List ℕ → Datom → PageId → ℕ → ℕ
+seekIn x s d p k = rank cmpEavt d (datomsOf k (pageAt x s p))
+
+abbrev pub metIn : Extent → List ℕ → Datom → PageId → ℕ → Bool
+metIn x s d p k = headSame cmpEavt d (drop (seekIn x s d p k) (datomsOf k (pageAt x s p)))
+
+abbrev pub nextIn : Extent → List ℕ → Datom → PageId → ℕ → NextMidpoint
+nextIn x s d p k = nextMidpoint (drop (seekIn x s d p k) (childrenOf (capacity (x .size)) k (pageAt x s p)))
+
 -- the ways of a path through a page that was read
 module _ (x : Extent) (s : List ℕ) (d : Datom) (p : PageId) (l k : ℕ) (read : fetchPage eavt x s p ≡ fine (nodeAt x s p l k)) where
-  abbrev seek : ℕ
-  seek = rank cmpEavt d (datomsOf k (pageAt x s p))
-
-  abbrev path : rules.Look
-  path = pathOf x s d l p
-
-  met-at : headSame cmpEavt d (drop seek (datomsOf k (pageAt x s p))) ≡ true → (m : ℕ) → lookup (envOf eavt x s) d m p (fine (nodeAt x s p l k)) ≡ rules.met p seek
+  met-at : metIn x s d p k ≡ true → (m : ℕ) → lookup (envOf eavt x s) d m p (fine (nodeAt x s p l k)) ≡ rules.met p (seekIn x s d p k)
   unfolding lookup envOf eavt nodeOf
   met-at h zero = rw h
   met-at h (suc m) = rw (lookup, h)
 
-  pub way-met : headSame cmpEavt d (drop seek (datomsOf k (pageAt x s p))) ≡ true → Met ≡ lookOf path
+  pub way-met : metIn x s d p k ≡ true → Met ≡ lookOf (pathOf x s d l p)
   unfolding lookOf
   way-met h = rw (read, met-at h l)
 
-  module _ (other : headSame cmpEavt d (drop seek (datomsOf k (pageAt x s p))) ≡ false) where
+  module _ (other : metIn x s d p k ≡ false) where
     absent-at : Absent ≡ lookOf (lookup (envOf eavt x s) d 0 p (fine (nodeAt x s p l k)))
     unfolding lookOf lookup envOf eavt nodeOf
     absent-at = rw other
 
-    pub way-absent : l ≡ 0 → Absent ≡ lookOf path
+    pub way-absent : l ≡ 0 → Absent ≡ lookOf (pathOf x s d l p)
     way-absent z = rw read (absent-at ∙ ap (λ (m : ℕ). lookOf (lookup (envOf eavt x s) d m p (fine (nodeAt x s p l k)))) (sym z))
 
     -- on to a child, one level lower
     module _ (up : l ≡ 0 → ⊥) where
       down-at :
-          (c : PageId) → rules.childOf (nextMidpoint (drop seek (childrenOf (capacity (x .size)) k (pageAt x s p)))) ≡ c → (m : ℕ) →
+          (c : PageId) → rules.childOf (nextIn x s d p k) ≡ c → (m : ℕ) →
           lookup (envOf eavt x s) d (suc m) p (fine (nodeAt x s p l k)) ≡ lookup (envOf eavt x s) d m c (fetchAt (envOf eavt x s) m c)
       unfolding lookup envOf eavt nodeOf
       down-at c next m = rw (lookup, other, next)
 
       down :
-          (c : PageId) → rules.childOf (nextMidpoint (drop seek (childrenOf (capacity (x .size)) k (pageAt x s p)))) ≡ c →
-          path ≡ lookup (envOf eavt x s) d (l - 1) c (fetchAt (envOf eavt x s) (l - 1) c)
+          (c : PageId) → rules.childOf (nextIn x s d p k) ≡ c →
+          pathOf x s d l p ≡ lookup (envOf eavt x s) d (l - 1) c (fetchAt (envOf eavt x s) (l - 1) c)
       down c next =
           let e : l ≡ suc (l - 1) = omega arith in
           rw read (ap (λ (m : ℕ). lookup (envOf eavt x s) d m p (fine (nodeAt x s p l k))) e ∙ down-at c next (l - 1))
 
-      pub way-stuck :
-          x .count ≤ none .0 → nextMidpoint (drop seek (childrenOf (capacity (x .size)) k (pageAt x s p))) ≡ Nothing → Lost none ≡ lookOf path
+      pub way-stuck : x .count ≤ none .0 → nextIn x s d p k ≡ Nothing → Lost none ≡ lookOf (pathOf x s d l p)
       way-stuck h next = rw (down none (ap rules.childOf next)) (sym (lost-at _ d (l - 1) none _ (none-lost x s (l - 1) h)))
 
-      module _ (c : PageId) (next : nextMidpoint (drop seek (childrenOf (capacity (x .size)) k (pageAt x s p))) ≡ Child c) where
-        pub way-lost : opened.Damaged ≡ openedOf (fetchAt (envOf eavt x s) (l - 1) c) → Lost c ≡ lookOf path
+      module _ (c : PageId) (next : nextIn x s d p k ≡ Child c) where
+        pub way-lost : opened.Damaged ≡ openedOf (fetchAt (envOf eavt x s) (l - 1) c) → Lost c ≡ lookOf (pathOf x s d l p)
         way-lost h = rw (down c (ap rules.childOf next)) (sym (lost-at _ d (l - 1) c _ h))
 
-        pub way-down : (n : ℕ) → opened.Node n ≡ openedOf (fetchAt (envOf eavt x s) (l - 1) c) → pathOf x s d (l - 1) c ≡ path
-        way-down n h =
-            sym (down c (ap rules.childOf next) ∙ ap (lookup (envOf eavt x s) d (l - 1) c) (at-level x s c (l - 1) n (opened-node x s c (l - 1) n h)))
+        pub way-down : (n : ℕ) → fetchPage eavt x s c ≡ fine (nodeAt x s c (l - 1) n) → pathOf x s d (l - 1) c ≡ pathOf x s d l p
+        way-down n h = sym (down c (ap rules.childOf next) ∙ ap (lookup (envOf eavt x s) d (l - 1) c) (at-level x s c (l - 1) n h))
+
+-- a next midpoint is real
+pub next-real : (cs : List PageId) (c : PageId) → nextMidpoint cs ≡ Child c → isNone c ≡ false
+unfolding nextMidpoint
+next-real [] c e = absurd (apart (cc))
+next-real (y ∷ ys) c e = side (isNone y) refl (next-real ys c)
+  where
+    side : (b : Bool) → isNone y ≡ b → (nextMidpoint ys ≡ Child c → isNone c ≡ false) → isNone c ≡ false
+    side true u ih = ih (rw (nextMidpoint, u) at e)
+    side false u ih = let k : Child y ≡ Child c = rw (nextMidpoint, u) at e in let same : y ≡ c = cc in rw (← same) u
 
 -- what follows a path
 module _ (i : ℕ) (q : rules.Finding) where

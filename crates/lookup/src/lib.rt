@@ -13,6 +13,7 @@ ghost use mathlib.Core.Bool.{false};
 ghost use mathlib.Core.Path.{_≡_};
 ghost use Prim.Native.Nat.{_*_, _≤_, _<_};
 ghost use lib.ListN.{length, drop};
+ghost use Rattle.store.specs.Page.{isNone};
 ghost use Rattle.store.specs.Size.{capacity};
 ghost use Rattle.datom.specs.Datom.{datomsOf};
 ghost use Rattle.index.specs.Order.{cmpEavt, eavt};
@@ -21,13 +22,36 @@ ghost use Rattle.rules.specs.Tree.{fine, fetchAt};
 ghost use Rattle.rules.specs.Store.{badStore, pageAt, fetchPage, envOf};
 ghost use Rattle.batch.specs.Finding.{findingOf};
 ghost use Rattle.lookup.specs.Look.{lookOf, openedOf, nodeAt, pathOf, searchAll};
+ghost use Rattle.lookup.specs.Path.{unread, Kept};
 
 // Where a datom's path ends: at an equal datom, at level 0 without one, or at a page that cannot be read.
-pub enum Look {
+enum Look {
     Met,
     Absent,
     Lost(PageId),
 }
+
+// What was read on the last path, by level, so that no page is read again for the datom that comes next: the page, none where nothing
+// was read, and how many datoms it has.
+struct Path {
+    pages: [PageId; 8],
+    counts: [usize; 8],
+}
+
+impl Path {
+    fn new() -> Path
+        ensures { λ r. ⌜ r ≡ unread ⌝ }
+    {
+        let none = PageId::max();
+        Path {
+            pages: [none; 8],
+            counts: [0; 8],
+        }
+    }
+}
+
+// Where a path ends, and what was read on it.
+struct Looked(Look, Path);
 
 // How many datoms a page of the level that was asked for has.
 enum Opened {
@@ -61,7 +85,7 @@ fn is_met(page: &[u8], k: usize, i: usize, d: Datom) -> bool
 }
 
 // Page `page`, which is to be of this level.
-fn open_at(store: &[u8], extent: Extent, c: usize, level: usize, page: PageId) -> Opened
+fn read_at(store: &[u8], extent: Extent, c: usize, level: usize, page: PageId) -> Opened
     requires { ⌜ (badStore extent (now store) ≡ false) × (c ≡ capacity (extent .size)) ⌝ }
     ensures { λ r. ⌜ r ≡ openedOf (fetchAt (envOf eavt extent (now (store .entry))) level page) ⌝ }
 {
@@ -75,6 +99,18 @@ fn open_at(store: &[u8], extent: Extent, c: usize, level: usize, page: PageId) -
     Opened::Node(k)
 }
 
+// The same, of a page that may have been read on the last path. Its answer is then known, since the store is the same.
+fn open_at(store: &[u8], extent: Extent, c: usize, path: Path, level: usize, page: PageId) -> Opened
+    requires { ⌜ (badStore extent (now store) ≡ false) × (c ≡ capacity (extent .size)) × Kept extent (now store) path × (level < 8) × (isNone page ≡ false) ⌝ }
+    ensures { λ r. ⌜ r ≡ openedOf (fetchAt (envOf eavt extent (now (store .entry))) level page) ⌝ }
+{
+    let last = path.pages[level];
+    if last.0 == page.0 {
+        return Opened::Node(path.counts[level]);
+    }
+    read_at(store, extent, c, level, page)
+}
+
 // The path of d from the root, which is of this level and count.
 fn lookup_one(
     store: &[u8],
@@ -83,11 +119,13 @@ fn lookup_one(
     root: PageId,
     level: usize,
     count: usize,
+    path: Path,
     d: Datom,
-) -> Look
-    requires { ⌜ (badStore extent (now store) ≡ false) × (c ≡ capacity (extent .size)) × (fetchPage eavt extent (now store) root ≡ fine (nodeAt extent (now store) root level count)) ⌝ }
-    ensures { λ r. ⌜ r ≡ lookOf (pathOf extent (now (store .entry)) d level root) ⌝ }
+) -> Looked
+    requires { ⌜ (badStore extent (now store) ≡ false) × (c ≡ capacity (extent .size)) × Kept extent (now store) path × (fetchPage eavt extent (now store) root ≡ fine (nodeAt extent (now store) root level count)) ⌝ }
+    ensures { λ r. ⌜ (r .0 ≡ lookOf (pathOf extent (now (store .entry)) d level root)) × Kept extent (now (store .entry)) (r .1) ⌝ }
 {
+    let mut path = path;
     let mut page = root;
     let mut l = level;
     let mut k = count;
@@ -95,18 +133,20 @@ fn lookup_one(
         let part = part_of(store, extent, page);
         let i = access::first_not_below(part, k, d);
         if is_met(part, k, i, d) {
-            return Look::Met;
+            return Looked(Look::Met, path);
         }
         if l == 0 {
-            return Look::Absent;
+            return Looked(Look::Absent, path);
         }
         let NextMidpoint::Child(child) = access::next_midpoint(part, c, k, i) else {
-            return Look::Lost(PageId::max());
+            return Looked(Look::Lost(PageId::max()), path);
         };
         l -= 1;
-        let Opened::Node(n) = open_at(store, extent, c, l, child) else {
-            return Look::Lost(child);
+        let Opened::Node(n) = open_at(store, extent, c, path, l, child) else {
+            return Looked(Look::Lost(child), path);
         };
+        path.pages[l] = child;
+        path.counts[l] = n;
         page = child;
         k = n;
     }
@@ -128,21 +168,18 @@ pub fn lookup_all(
     let Found::Fine { level, count } = memory_store::found::node_at(store, extent, c, root) else {
         return Finding::Found(Refusal::Damaged(root));
     };
+    let mut path = Path::new();
     let mut i = 0;
     while i < n {
-        match lookup_one(
-            store,
-            extent,
-            c,
-            root,
-            level,
-            count,
-            datom::datom_at(b, 32 * i),
-        ) {
+        let d = datom::datom_at(b, 32 * i);
+        let looked = lookup_one(store, extent, c, root, level, count, path, d);
+        let look = looked.0;
+        match look {
             Look::Met => {
                 return Finding::Found(Refusal::Repeated(i));
             }
             Look::Absent => {
+                path = looked.1;
                 i += 1;
             }
             Look::Lost(page) => {

@@ -11,15 +11,16 @@ use Rattle.rules.specs.Store.{fetchPage, envOf}
 use Rattle.memory_store.specs.Reading.{told}
 use Rattle.lookup.specs.Look.{searchAll}
 use Rattle.lookup.specs.Steps.{told-fine, search-faulty, search-fine, all-met, all-on, all-lost, all-end}
+use Rattle.lookup.specs.Path.{Kept, kept-unread}
 use borrow.Author.Needs.{needs}
 use Rattle.lookup.proofs.lookup_all.Statement.{statement}
 use Rattle.lookup.proofs.lookup_all.Tie as tie
 
 abbrev Inv-loop : tie.InvT-loop
-Inv-loop store extent c root b n level count i₀ i = (i ≤ n) × (lookupAll (envOf eavt extent store) level root (fetchPage eavt extent store root) i (drop i (datomsOf n b)) ≡ searchAll (envOf eavt extent store) root (datomsOf n b) (fetchPage eavt extent store root))
+Inv-loop store extent c root b n level count path₀ i₀ path i = (i ≤ n) × (lookupAll (envOf eavt extent store) level root (fetchPage eavt extent store root) i (drop i (datomsOf n b)) ≡ searchAll (envOf eavt extent store) root (datomsOf n b) (fetchPage eavt extent store root)) × Kept extent store path
 
 abbrev μ-loop : tie.MeasureT-loop
-μ-loop store extent c root b n level count i₀ i = n - i
+μ-loop store extent c root b n level count path₀ i₀ path i = n - i
 
 node-at-requires : tie.Need-node-at-requires Inv-loop μ-loop
 node-at-requires c κs = search needs
@@ -36,11 +37,14 @@ returns c =
     let e = ap (told (a .extent) (a .store .now) (a .root)) (c .enum-told .given .1) in
     search-faulty (a .extent) (a .store .now) (a .root) _ _ (sym e ∙ c .before .before .node-at .ensures)
 
+new-requires : tie.Need-new-requires Inv-loop μ-loop
+new-requires c κs = search needs
+
 loop-holds : tie.Need-loop-holds Inv-loop μ-loop
 loop-holds c =
-    let a = c .before .before .before .before .before .before .args in
-    let e = ap (told (a .extent) (a .store .now) (a .root)) (c .before .level .given .1) in
-    (search needs, search-fine (a .extent) (a .store .now) (a .root) _ _ _ (told-fine (a .extent) (a .store .now) (a .root) _ _ (sym e ∙ c .before .before .before .node-at .ensures)))
+    let a = c .before .before .before .before .before .before .before .args in
+    let e = ap (told (a .extent) (a .store .now) (a .root)) (c .before .before .level .given .1) in
+    (search needs, search-fine (a .extent) (a .store .now) (a .root) _ _ _ (told-fine (a .extent) (a .store .now) (a .root) _ _ (sym e ∙ c .before .before .before .before .node-at .ensures)), rw (c .new .ensures) (kept-unread (a .extent) (a .store .now)))
 
 mul-datom-at : tie.Need-mul-datom-at Inv-loop μ-loop
 mul-datom-at c = search needs
@@ -50,47 +54,47 @@ datom-at-requires c κs = search needs
 
 lookup-one-requires : tie.Need-lookup-one-requires Inv-loop μ-loop
 lookup-one-requires c κs =
-    let a = c .before .before .before .before .before .before .before .before .before .args in
-    let e = ap (told (a .extent) (a .store .now) (a .root)) (c .before .before .before .before .level .given .1) in
-    (c .before .before .before .before .before .before .before .before .before .pre .0, c .before .before .before .before .before .before .before .before .before .pre .1, told-fine (a .extent) (a .store .now) (a .root) _ _ (sym e ∙ c .before .before .before .before .before .before .node-at .ensures))
+    let a = c .before .before .before .before .before .before .before .before .before .before .args in
+    let e = ap (told (a .extent) (a .store .now) (a .root)) (c .before .before .before .before .before .level .given .1) in
+    (c .before .before .before .before .before .before .before .before .before .before .pre .0, c .before .before .before .before .before .before .before .before .before .before .pre .1, c .before .before .loop .inv .2, told-fine (a .extent) (a .store .now) (a .root) _ _ (sym e ∙ c .before .before .before .before .before .before .before .node-at .ensures))
 
 enum-told-2 : tie.Need-enum-told-2 Inv-loop μ-loop
 enum-told-2 c = search needs
 
 returns-2 : tie.Need-returns-2 Inv-loop μ-loop
 returns-2 c =
-    let a = c .before .before .before .before .before .before .before .before .before .before .before .before .args in
+    let a = c .before .before .before .before .before .before .before .before .before .before .before .before .before .args in
     let w = c .before .before .before .before .before .loop in
     let at = datoms-from (a .n) (w .i) (a .b .now) (omega arith) in
-    let q = sym (c .enum-told2 .given .1) ∙ (rw (c .before .before .before .datom-at .ensures) at (c .before .before .lookup-one .ensures)) in
+    let q = sym (c .enum-told2 .given .1) ∙ (rw (c .before .before .before .datom-at .ensures) at (c .before .before .lookup-one .ensures .0)) in
     sym (all-met _ _ _ _ (w .i) at q) ∙ w .inv .1
 
 enum-told-3 : tie.Need-enum-told-3 Inv-loop μ-loop
 enum-told-3 c = search needs
 
 add-i : tie.Need-add-i Inv-loop μ-loop
-add-i c = search needs
+add-i c = omega (arith, c .before .before .before .before .before .loop-test .taken, c .before .before .before .before .before .before .before .before .before .before .before .before .before .before .fits .n)
 
 loop-less : tie.Need-loop-less Inv-loop μ-loop
 loop-less c = search needs
 
 loop-again : tie.Need-loop-again Inv-loop μ-loop
 loop-again c =
-    let a = c .before .before .before .before .before .before .before .before .before .before .before .before .args in
-    let w = c .before .before .before .before .before .loop in
+    let a = c .before .before .before .before .before .before .before .before .before .before .before .before .before .before .args in
+    let w = c .before .before .before .before .before .before .loop in
     let at = datoms-from (a .n) (w .i) (a .b .now) (omega arith) in
-    let q = sym (c .enum-told3 .given .1) ∙ (rw (c .before .before .before .datom-at .ensures) at (c .before .before .lookup-one .ensures)) in
-    (omega arith, sym (all-on _ _ _ _ (w .i) at q) ∙ w .inv .1)
+    let q = sym (c .before .enum-told3 .given .1) ∙ (rw (c .before .before .before .before .datom-at .ensures) at (c .before .before .before .lookup-one .ensures .0)) in
+    (omega arith, sym (all-on _ _ _ _ (w .i) at q) ∙ w .inv .1, c .before .before .before .lookup-one .ensures .1)
 
-enum-known-page : tie.Need-enum-known-page Inv-loop μ-loop
-enum-known-page c = search needs
+enum-known-look : tie.Need-enum-known-look Inv-loop μ-loop
+enum-known-look c = search needs
 
 returns-3 : tie.Need-returns-3 Inv-loop μ-loop
 returns-3 c =
-    let a = c .before .before .before .before .before .before .before .before .before .before .before .before .before .args in
+    let a = c .before .before .before .before .before .before .before .before .before .before .before .before .before .before .args in
     let w = c .before .before .before .before .before .before .loop in
     let at = datoms-from (a .n) (w .i) (a .b .now) (omega arith) in
-    let q = sym (c .before .page .given .1) ∙ (rw (c .before .before .before .before .datom-at .ensures) at (c .before .before .before .lookup-one .ensures)) in
+    let q = sym (c .before .look .given .1) ∙ (rw (c .before .before .before .before .datom-at .ensures) at (c .before .before .before .lookup-one .ensures .0)) in
     sym (all-lost _ _ _ _ (w .i) at _ q) ∙ w .inv .1
 
 returns-4 : tie.Need-returns-4 Inv-loop μ-loop
@@ -106,6 +110,7 @@ lookup-all-spec =
     enum-known-level
     enum-told
     returns
+    new-requires
     loop-holds
     mul-datom-at
     datom-at-requires
@@ -116,6 +121,6 @@ lookup-all-spec =
     add-i
     loop-less
     loop-again
-    enum-known-page
+    enum-known-look
     returns-3
     returns-4)

@@ -1,74 +1,61 @@
 -- `lookup_one` meets its contract: the path from the page at hand ends where the whole path ends. Assumes nothing.
-use Prim.Native.Nat.{_-_}
 use native.Mathlib.Omega.{arith}
-use mathlib.Core.Bool.{true, false}
-use mathlib.Core.Path.{_≡_, refl, sym, _∙_, ap}
-use lib.ListN.{drop}
-use Rattle.store.specs.Size.{capacity}
-use Rattle.datom.specs.Datom.{datomsOf}
-use Rattle.index.specs.Order.{cmpEavt, eavt}
-use Rattle.answer.specs.declared.NextMidpoint.the-variants.{Child, Nothing}
-use Rattle.rules.specs.Node.{rank, headSame, nextMidpoint}
-use Rattle.rules.specs.Tree.{fine}
-use Rattle.rules.specs.Store.{pageAt, fetchPage}
-use Rattle.memory_store.specs.Layout.{childrenOf}
-use Rattle.lookup.specs.Look.{lookOf, nodeAt, pathOf}
-use Rattle.lookup.specs.Steps.{opens, opened-node, way-met, way-absent, way-stuck, way-lost, way-down}
+use mathlib.Core.Path.{refl, sym, _∙_}
+use Rattle.lookup.specs.Steps.{opens, next-real}
+use Rattle.lookup.specs.Path.{Going, met-is, next-is, going-met, going-absent, going-stuck, going-lost, going-down}
 use borrow.Author.Needs.{needs}
 use Rattle.lookup.proofs.lookup_one.Statement.{statement}
 use Rattle.lookup.proofs.lookup_one.Tie as tie
 
 abbrev Inv-loop : tie.InvT-loop
-Inv-loop store extent c level count d page₀ l₀ k₀ page l k = (fetchPage eavt extent store page ≡ fine (nodeAt extent store page l k)) × (pathOf extent store d l page ≡ pathOf extent store d l₀ page₀)
+Inv-loop store extent c level count d path₀ page₀ l₀ k₀ path page l k = Going extent store d l₀ page₀ path page l k
 
 abbrev μ-loop : tie.MeasureT-loop
-μ-loop store extent c level count d page₀ l₀ k₀ page l k = l
+μ-loop store extent c level count d path₀ page₀ l₀ k₀ path page l k = l
 
 loop-holds : tie.Need-loop-holds Inv-loop μ-loop
-loop-holds c = (c .before .pre .2, refl)
+loop-holds c = record { kept = c .before .pre .2; read = c .before .pre .3; rest = refl }
 
 part-of-requires : tie.Need-part-of-requires Inv-loop μ-loop
 part-of-requires c κs =
     let a = c .before .before .args in
     let w = c .loop in
-    let o = opens (a .extent) (a .store .now) (w .page) (w .l) (w .k) (c .before .before .pre .0) (w .inv .0) in
+    let o = opens (a .extent) (a .store .now) (w .page) (w .l) (w .k) (c .before .before .pre .0) (w .inv .read) in
     (c .before .before .pre .0, o .below)
 
 first-not-below-requires : tie.Need-first-not-below-requires Inv-loop μ-loop
 first-not-below-requires c κs =
     let a = c .before .before .before .args in
     let w = c .before .loop in
-    let o = opens (a .extent) (a .store .now) (w .page) (w .l) (w .k) (c .before .before .before .pre .0) (w .inv .0) in
+    let o = opens (a .extent) (a .store .now) (w .page) (w .l) (w .k) (c .before .before .before .pre .0) (w .inv .read) in
     rw (c .part-of .ensures) (omega (arith, o .few, o .wide), o .rise)
 
 is-met-requires : tie.Need-is-met-requires Inv-loop μ-loop
 is-met-requires c κs =
     let a = c .before .before .before .before .args in
     let w = c .before .before .loop in
-    let o = opens (a .extent) (a .store .now) (w .page) (w .l) (w .k) (c .before .before .before .before .pre .0) (w .inv .0) in
+    let o = opens (a .extent) (a .store .now) (w .page) (w .l) (w .k) (c .before .before .before .before .pre .0) (w .inv .read) in
     rw (c .before .part-of .ensures) (omega (arith, o .few, o .wide))
 
 returns : tie.Need-returns Inv-loop μ-loop
 returns c =
     let a = c .before .before .before .before .before .before .args in
     let w = c .before .before .before .before .loop in
-    let m : headSame cmpEavt (a .d) (drop (rank cmpEavt (a .d) (datomsOf (w .k) (pageAt (a .extent) (a .store .now) (w .page)))) (datomsOf (w .k) (pageAt (a .extent) (a .store .now) (w .page)))) ≡ true =
-    cc (c .before .before .before .part-of .ensures, c .before .before .first-not-below .ensures, c .before .is-met .ensures, c .if1 .taken) in
-    way-met (a .extent) (a .store .now) (a .d) (w .page) (w .l) (w .k) (w .inv .0) m ∙ ap lookOf (w .inv .1)
+    let m = met-is (w .inv) (c .before .before .before .part-of .ensures) (c .before .before .first-not-below .ensures) (c .before .is-met .ensures) (c .if1 .taken) in
+    (going-met (w .inv) m, w .inv .kept)
 
 returns-2 : tie.Need-returns-2 Inv-loop μ-loop
 returns-2 c =
     let a = c .before .before .before .before .before .before .before .args in
     let w = c .before .before .before .before .before .loop in
-    let m : headSame cmpEavt (a .d) (drop (rank cmpEavt (a .d) (datomsOf (w .k) (pageAt (a .extent) (a .store .now) (w .page)))) (datomsOf (w .k) (pageAt (a .extent) (a .store .now) (w .page)))) ≡ false =
-    cc (c .before .before .before .before .part-of .ensures, c .before .before .before .first-not-below .ensures, c .before .before .is-met .ensures, c .before .if1 .left) in
-    way-absent (a .extent) (a .store .now) (a .d) (w .page) (w .l) (w .k) (w .inv .0) m (c .if2 .taken) ∙ ap lookOf (w .inv .1)
+    let m = met-is (w .inv) (c .before .before .before .before .part-of .ensures) (c .before .before .before .first-not-below .ensures) (c .before .before .is-met .ensures) (c .before .if1 .left) in
+    (going-absent (w .inv) m (c .if2 .taken), w .inv .kept)
 
 next-midpoint-requires : tie.Need-next-midpoint-requires Inv-loop μ-loop
 next-midpoint-requires c κs =
     let a = c .before .before .before .before .before .before .before .args in
     let w = c .before .before .before .before .before .loop in
-    let o = opens (a .extent) (a .store .now) (w .page) (w .l) (w .k) (c .before .before .before .before .before .before .before .pre .0) (w .inv .0) in
+    let o = opens (a .extent) (a .store .now) (w .page) (w .l) (w .k) (c .before .before .before .before .before .before .before .pre .0) (w .inv .read) in
     rw (c .before .before .before .before .part-of .ensures, c .before .before .before .before .before .before .before .pre .1) (o .few, omega (arith, o .wide))
 
 enum-known-child : tie.Need-enum-known-child Inv-loop μ-loop
@@ -84,17 +71,20 @@ returns-3 : tie.Need-returns-3 Inv-loop μ-loop
 returns-3 c =
     let a = c .before .before .before .before .before .before .before .before .before .before .before .args in
     let w = c .before .before .before .before .before .before .before .before .before .loop in
-    let m : headSame cmpEavt (a .d) (drop (rank cmpEavt (a .d) (datomsOf (w .k) (pageAt (a .extent) (a .store .now) (w .page)))) (datomsOf (w .k) (pageAt (a .extent) (a .store .now) (w .page)))) ≡ false =
-    cc (c .before .before .before .before .before .before .before .before .part-of .ensures, c .before .before .before .before .before .before .before .first-not-below .ensures, c .before .before .before .before .before .before .is-met .ensures, c .before .before .before .before .before .if1 .left) in
-    let n : nextMidpoint (drop (rank cmpEavt (a .d) (datomsOf (w .k) (pageAt (a .extent) (a .store .now) (w .page)))) (childrenOf (capacity (a .extent .size)) (w .k) (pageAt (a .extent) (a .store .now) (w .page)))) ≡ Nothing =
-    cc (c .before .before .before .before .before .before .before .before .part-of .ensures, c .before .before .before .before .before .before .before .first-not-below .ensures, c .before .before .before .next-midpoint .ensures, c .before .before .before .before .before .before .before .before .before .before .before .pre .1, c .before .enum-told .given .1) in
-    rw (c .max .ensures) (way-stuck (a .extent) (a .store .now) (a .d) (w .page) (w .l) (w .k) (w .inv .0) m (c .before .before .before .before .if2 .left) (omega arith) n) ∙ ap lookOf (w .inv .1)
+    let m = met-is (w .inv) (c .before .before .before .before .before .before .before .before .part-of .ensures) (c .before .before .before .before .before .before .before .first-not-below .ensures) (c .before .before .before .before .before .before .is-met .ensures) (c .before .before .before .before .before .if1 .left) in
+    let n = next-is (w .inv) (c .before .before .before .before .before .before .before .before .part-of .ensures) (c .before .before .before .before .before .before .before .first-not-below .ensures) (c .before .before .before .before .before .before .before .before .before .before .before .pre .1) (c .before .before .before .next-midpoint .ensures) (c .before .enum-told .given .1) in
+    (rw (c .max .ensures) (going-stuck (w .inv) m (c .before .before .before .before .if2 .left) (omega arith) n), w .inv .kept)
 
 sub-l : tie.Need-sub-l Inv-loop μ-loop
 sub-l c = search needs
 
 open-at-requires : tie.Need-open-at-requires Inv-loop μ-loop
-open-at-requires c κs = (c .before .before .before .before .before .before .before .before .before .before .before .pre .0, c .before .before .before .before .before .before .before .before .before .before .before .pre .1)
+open-at-requires c κs =
+    let a = c .before .before .before .before .before .before .before .before .before .before .before .args in
+    let w = c .before .before .before .before .before .before .before .before .before .loop in
+    let o = opens (a .extent) (a .store .now) (w .page) (w .l) (w .k) (c .before .before .before .before .before .before .before .before .before .before .before .pre .0) (w .inv .read) in
+    let n = next-is (w .inv) (c .before .before .before .before .before .before .before .before .part-of .ensures) (c .before .before .before .before .before .before .before .first-not-below .ensures) (c .before .before .before .before .before .before .before .before .before .before .before .pre .1) (c .before .before .before .next-midpoint .ensures) (c .before .child .given .1) in
+    (c .before .before .before .before .before .before .before .before .before .before .before .pre .0, c .before .before .before .before .before .before .before .before .before .before .before .pre .1, w .inv .kept, omega (arith, o .low), next-real _ _ n)
 
 enum-known-n : tie.Need-enum-known-n Inv-loop μ-loop
 enum-known-n c = search needs
@@ -106,11 +96,37 @@ returns-4 : tie.Need-returns-4 Inv-loop μ-loop
 returns-4 c =
     let a = c .before .before .before .before .before .before .before .before .before .before .before .before .before .before .args in
     let w = c .before .before .before .before .before .before .before .before .before .before .before .before .loop in
-    let m : headSame cmpEavt (a .d) (drop (rank cmpEavt (a .d) (datomsOf (w .k) (pageAt (a .extent) (a .store .now) (w .page)))) (datomsOf (w .k) (pageAt (a .extent) (a .store .now) (w .page)))) ≡ false =
-    cc (c .before .before .before .before .before .before .before .before .before .before .before .part-of .ensures, c .before .before .before .before .before .before .before .before .before .before .first-not-below .ensures, c .before .before .before .before .before .before .before .before .before .is-met .ensures, c .before .before .before .before .before .before .before .before .if1 .left) in
-    let n : nextMidpoint (drop (rank cmpEavt (a .d) (datomsOf (w .k) (pageAt (a .extent) (a .store .now) (w .page)))) (childrenOf (capacity (a .extent .size)) (w .k) (pageAt (a .extent) (a .store .now) (w .page)))) ≡ Child (c .before .before .before .before .child .given .0 .0) =
-    cc (c .before .before .before .before .before .before .before .before .before .before .before .part-of .ensures, c .before .before .before .before .before .before .before .before .before .before .first-not-below .ensures, c .before .before .before .before .before .before .next-midpoint .ensures, c .before .before .before .before .before .before .before .before .before .before .before .before .before .before .pre .1, c .before .before .before .before .child .given .1) in
-    way-lost (a .extent) (a .store .now) (a .d) (w .page) (w .l) (w .k) (w .inv .0) m (c .before .before .before .before .before .before .before .if2 .left) _ n (sym (c .enum-told2 .given .1) ∙ c .before .before .open-at .ensures) ∙ ap lookOf (w .inv .1)
+    let m = met-is (w .inv) (c .before .before .before .before .before .before .before .before .before .before .before .part-of .ensures) (c .before .before .before .before .before .before .before .before .before .before .first-not-below .ensures) (c .before .before .before .before .before .before .before .before .before .is-met .ensures) (c .before .before .before .before .before .before .before .before .if1 .left) in
+    let n = next-is (w .inv) (c .before .before .before .before .before .before .before .before .before .before .before .part-of .ensures) (c .before .before .before .before .before .before .before .before .before .before .first-not-below .ensures) (c .before .before .before .before .before .before .before .before .before .before .before .before .before .before .pre .1) (c .before .before .before .before .before .before .next-midpoint .ensures) (c .before .before .before .before .child .given .1) in
+    (going-lost (w .inv) m (c .before .before .before .before .before .before .before .if2 .left) n (sym (c .enum-told2 .given .1) ∙ c .before .before .open-at .ensures), w .inv .kept)
+
+mul-child : tie.Need-mul-child Inv-loop μ-loop
+mul-child c =
+    let a = c .before .before .before .before .before .before .before .before .before .before .before .before .before .before .before .args in
+    let w = c .before .before .before .before .before .before .before .before .before .before .before .before .before .loop in
+    let o = opens (a .extent) (a .store .now) (w .page) (w .l) (w .k) (c .before .before .before .before .before .before .before .before .before .before .before .before .before .before .before .pre .0) (w .inv .read) in
+    omega (arith, o .low)
+
+element-set-from-child : tie.Need-element-set-from-child Inv-loop μ-loop
+element-set-from-child c =
+    let a = c .before .before .before .before .before .before .before .before .before .before .before .before .before .before .before .args in
+    let w = c .before .before .before .before .before .before .before .before .before .before .before .before .before .loop in
+    let o = opens (a .extent) (a .store .now) (w .page) (w .l) (w .k) (c .before .before .before .before .before .before .before .before .before .before .before .before .before .before .before .pre .0) (w .inv .read) in
+    omega (arith, o .low)
+
+mul-path : tie.Need-mul-path Inv-loop μ-loop
+mul-path c =
+    let a = c .before .before .before .before .before .before .before .before .before .before .before .before .before .before .before .args in
+    let w = c .before .before .before .before .before .before .before .before .before .before .before .before .before .loop in
+    let o = opens (a .extent) (a .store .now) (w .page) (w .l) (w .k) (c .before .before .before .before .before .before .before .before .before .before .before .before .before .before .before .pre .0) (w .inv .read) in
+    omega (arith, o .low)
+
+element-write-path : tie.Need-element-write-path Inv-loop μ-loop
+element-write-path c =
+    let a = c .before .before .before .before .before .before .before .before .before .before .before .before .before .before .before .args in
+    let w = c .before .before .before .before .before .before .before .before .before .before .before .before .before .loop in
+    let o = opens (a .extent) (a .store .now) (w .page) (w .l) (w .k) (c .before .before .before .before .before .before .before .before .before .before .before .before .before .before .before .pre .0) (w .inv .read) in
+    omega (arith, o .low)
 
 loop-less : tie.Need-loop-less Inv-loop μ-loop
 loop-less c = search needs
@@ -119,12 +135,10 @@ loop-again : tie.Need-loop-again Inv-loop μ-loop
 loop-again c =
     let a = c .before .before .before .before .before .before .before .before .before .before .before .before .before .before .before .args in
     let w = c .before .before .before .before .before .before .before .before .before .before .before .before .before .loop in
-    let m : headSame cmpEavt (a .d) (drop (rank cmpEavt (a .d) (datomsOf (w .k) (pageAt (a .extent) (a .store .now) (w .page)))) (datomsOf (w .k) (pageAt (a .extent) (a .store .now) (w .page)))) ≡ false =
-    cc (c .before .before .before .before .before .before .before .before .before .before .before .before .part-of .ensures, c .before .before .before .before .before .before .before .before .before .before .before .first-not-below .ensures, c .before .before .before .before .before .before .before .before .before .before .is-met .ensures, c .before .before .before .before .before .before .before .before .before .if1 .left) in
-    let n : nextMidpoint (drop (rank cmpEavt (a .d) (datomsOf (w .k) (pageAt (a .extent) (a .store .now) (w .page)))) (childrenOf (capacity (a .extent .size)) (w .k) (pageAt (a .extent) (a .store .now) (w .page)))) ≡ Child (c .before .before .before .before .before .child .given .0 .0) =
-    cc (c .before .before .before .before .before .before .before .before .before .before .before .before .part-of .ensures, c .before .before .before .before .before .before .before .before .before .before .before .first-not-below .ensures, c .before .before .before .before .before .before .before .next-midpoint .ensures, c .before .before .before .before .before .before .before .before .before .before .before .before .before .before .before .pre .1, c .before .before .before .before .before .child .given .1) in
-    let q = sym (c .before .n .given .1) ∙ c .before .before .before .open-at .ensures in
-    (opened-node (a .extent) (a .store .now) _ (w .l - 1) _ q, way-down (a .extent) (a .store .now) (a .d) (w .page) (w .l) (w .k) (w .inv .0) m (c .before .before .before .before .before .before .before .before .if2 .left) _ n _ q ∙ w .inv .1)
+    let o = opens (a .extent) (a .store .now) (w .page) (w .l) (w .k) (c .before .before .before .before .before .before .before .before .before .before .before .before .before .before .before .pre .0) (w .inv .read) in
+    let m = met-is (w .inv) (c .before .before .before .before .before .before .before .before .before .before .before .before .part-of .ensures) (c .before .before .before .before .before .before .before .before .before .before .before .first-not-below .ensures) (c .before .before .before .before .before .before .before .before .before .before .is-met .ensures) (c .before .before .before .before .before .before .before .before .before .if1 .left) in
+    let n = next-is (w .inv) (c .before .before .before .before .before .before .before .before .before .before .before .before .part-of .ensures) (c .before .before .before .before .before .before .before .before .before .before .before .first-not-below .ensures) (c .before .before .before .before .before .before .before .before .before .before .before .before .before .before .before .pre .1) (c .before .before .before .before .before .before .before .next-midpoint .ensures) (c .before .before .before .before .before .child .given .1) in
+    going-down (w .inv) m (c .before .before .before .before .before .before .before .before .if2 .left) n (sym (c .before .n .given .1) ∙ c .before .before .before .open-at .ensures) (omega (arith, o .low))
 
 pub lookup-one-spec : {M : Type 1} → statement M
 lookup-one-spec =
@@ -148,5 +162,9 @@ lookup-one-spec =
     enum-known-n
     enum-told-2
     returns-4
+    mul-child
+    element-set-from-child
+    mul-path
+    element-write-path
     loop-less
     loop-again)

@@ -1,38 +1,40 @@
--- `open_at` meets its contract: what the reader tells, at the level asked for. Assumes nothing.
-use mathlib.Core.Path.{sym, _∙_, ap}
-use Rattle.memory_store.specs.Reading.{told}
-use Rattle.lookup.specs.Steps.{open-faulty, open-other, open-node}
+-- `open_at` meets its contract: what stands in the path was read. Assumes nothing.
+use Rattle.lookup.specs.Path.{kept-hit}
 use borrow.Author.Needs.{needs}
 use Rattle.lookup.proofs.open_at.Statement.{statement}
 use Rattle.lookup.proofs.open_at.Tie as tie
 
-node-at-requires : tie.Need-node-at-requires
-node-at-requires c κs = search needs
+mul-last : tie.Need-mul-last
+mul-last c = search needs
 
-enum-known-l : tie.Need-enum-known-l
-enum-known-l c = search needs
+element-copy-out-last : tie.Need-element-copy-out-last
+element-copy-out-last c = search needs
 
-enum-told : tie.Need-enum-told
-enum-told c = search needs
+mul-t14 : tie.Need-mul-t14
+mul-t14 c = search needs
+
+element-copy-out-t17 : tie.Need-element-copy-out-t17
+element-copy-out-t17 c = search needs
 
 returns : tie.Need-returns
 returns c =
-    let a = c .before .before .before .before .args in
-    let e = ap (told (a .extent) (a .store .now) (a .page)) (c .enum-told .given .1) in
-    open-faulty (a .extent) (a .store .now) (a .page) _ (a .level) (sym e ∙ c .before .before .node-at .ensures)
+    let a = c .before .before .before .before .before .before .args in
+    kept-hit (c .before .before .before .before .before .before .pre .2) (a .level) (c .before .before .before .before .before .before .pre .3) (a .page) (c .before .before .before .before .before .before .pre .4) (c .before .if1 .taken)
+
+read-at-requires : tie.Need-read-at-requires
+read-at-requires c κs = search needs
 
 returns-2 : tie.Need-returns-2
-returns-2 c =
-    let a = c .before .before .before .before .before .before .args in
-    let e = ap (told (a .extent) (a .store .now) (a .page)) (c .before .before .l .given .1) in
-    open-other (a .extent) (a .store .now) (a .page) _ _ (sym e ∙ c .before .before .before .before .node-at .ensures) (a .level) (c .if1 .taken)
-
-returns-3 : tie.Need-returns-3
-returns-3 c =
-    let a = c .before .before .before .before .before .before .args in
-    let e = ap (told (a .extent) (a .store .now) (a .page)) (c .before .before .l .given .1) in
-    open-node (a .extent) (a .store .now) (a .page) _ _ (sym e ∙ c .before .before .before .before .node-at .ensures) (a .level) (c .if1 .left)
+returns-2 c = search needs
 
 pub open-at-spec : {M : Type 1} → statement M
 open-at-spec =
-    tie.close (tie.spec node-at-requires enum-known-l enum-told returns returns-2 returns-3)
+    tie.close
+    (tie.spec
+    mul-last
+    element-copy-out-last
+    mul-t14
+    element-copy-out-t17
+    returns
+    read-at-requires
+    returns-2)

@@ -43,3 +43,7 @@ content v = cond (isInt v) (int (v .0)) (cond (isStr v) (str (bytesOf (strLen v)
 -- an integer in the word itself
 abbrev pub inlineInt : ℕ → Inline
 inlineInt n = cond (ltb n (2 ^ 62)) (Made (record { 0 = n })) TooLarge
+
+-- a flag, as the integer 1 or 0
+abbrev pub boolInt : Bool → Value
+boolInt b = cond b (record { 0 = 1 }) (record { 0 = 0 })

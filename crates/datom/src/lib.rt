@@ -2,7 +2,7 @@
 ghost use mathlib.Core.Path.{_≡_};
 ghost use Prim.Native.Nat.{_+_, _^_, _-_, _≤_};
 ghost use lib.ListN.{length};
-ghost use Rattle.datom.specs.Value.{isInt, isStr, isMax, storedValue, boundValue, inlineInt};
+ghost use Rattle.datom.specs.Value.{isInt, isStr, isMax, storedValue, boundValue, inlineInt, boolInt};
 ghost use Rattle.datom.specs.Datom.{datomAt, storedDatom, boundDatom};
 ghost use Rattle.datom.specs.Word.{lastWord, transactionOf, operationOf};
 
@@ -185,7 +185,9 @@ impl Value {
         Inline::TooLarge
     }
 
-    pub fn from_bool(value: bool) -> Value {
+    pub fn from_bool(value: bool) -> Value
+        ensures { λ r. ⌜ r ≡ boolInt value ⌝ }
+    {
         if value { Value(1) } else { Value(0) }
     }
 }

@@ -23,7 +23,7 @@ pub fn room_for(c: usize) -> usize
 }
 
 // How many bytes of scratch a call needs.
-fn need_for(c: usize) -> usize
+pub fn need_for(c: usize) -> usize
     requires { ⌜ c ≤ 102 ⌝ }
     ensures { λ r. ⌜ r ≡ scratchNeed c ⌝ }
 {

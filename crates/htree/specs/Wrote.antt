@@ -38,7 +38,7 @@ unfolding patch
 patch-none s at = rw (append-nil, add-zero) (take-append-drop at s)
 
 -- a store behind a store
-patch-patch : (s : List ℕ) (at : ℕ) (p q : List ℕ) → at + length p + length q ≤ length s → patch (patch s at p) (at + length p) q ≡ patch s at (p ++ q)
+pub patch-patch : (s : List ℕ) (at : ℕ) (p q : List ℕ) → at + length p + length q ≤ length s → patch (patch s at p) (at + length p) q ≡ patch s at (p ++ q)
 unfolding patch
 patch-patch s at p q h =
     let n : length (take at s ++ p) ≡ at + length p = simp (length-append, length-take-le at s (omega arith)) in

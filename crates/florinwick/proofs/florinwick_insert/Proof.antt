@@ -1,0 +1,44 @@
+-- `florinwick_insert` meets its contract on every input. Assumes nothing.
+use mathlib.Core.Path.{_≡_, refl, sym, _∙_, ap}
+use Rattle.rules.specs.Entry.{insertReply}
+use Rattle.florinwick.specs.Words.{no-area, told-reply}
+use borrow.Author.Needs.{needs}
+use Rattle.florinwick.proofs.florinwick_insert.Statement.{statement}
+use Rattle.florinwick.proofs.florinwick_insert.Tie as tie
+
+returns : tie.Need-returns
+unfolding insertReply
+returns c = no-area _ _ _ _ _ (c .if1 .taken)
+
+insert-requires : tie.Need-insert-requires
+insert-requires c κs = search needs
+
+tell-requires : tie.Need-tell-requires
+tell-requires c κs = search needs
+
+same-length : tie.Need-same-length
+same-length c = search needs
+
+same-length-2 : tie.Need-same-length-2
+same-length-2 c = search needs
+
+same-length-3 : tie.Need-same-length-3
+same-length-3 c = search needs
+
+returns-2 : tie.Need-returns-2
+unfolding insertReply
+returns-2 c =
+    let t = c .before .before .tell .ensures in
+    told-reply _ _ _ _ _ _ _ _ _ (c .before .before .before .before .before .before .before .before .before .before .before .if1 .left) (c .before .before .before .before .before .before .before .before .insert .ensures) (t .0) (t .1)
+
+pub florinwick-insert-spec : {M : Type 1} → statement M
+florinwick-insert-spec =
+    tie.close
+    (tie.spec
+    returns
+    insert-requires
+    tell-requires
+    same-length
+    same-length-2
+    same-length-3
+    returns-2)

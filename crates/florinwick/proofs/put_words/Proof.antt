@@ -1,0 +1,36 @@
+-- `put_words` meets its contract. Assumes nothing.
+use mathlib.Core.Path.{_≡_, refl, sym, _∙_, ap}
+use Rattle.florinwick.specs.Words.{four-words}
+use borrow.Author.Needs.{needs}
+use Rattle.florinwick.proofs.put_words.Statement.{statement}
+use Rattle.florinwick.proofs.put_words.Tie as tie
+
+put-word-requires : tie.Need-put-word-requires
+put-word-requires c κs = search needs
+
+put-word-requires-2 : tie.Need-put-word-requires-2
+put-word-requires-2 c κs = search needs
+
+put-word-requires-3 : tie.Need-put-word-requires-3
+put-word-requires-3 c κs = search needs
+
+put-word-requires-4 : tie.Need-put-word-requires-4
+put-word-requires-4 c κs = search needs
+
+same-length : tie.Need-same-length
+same-length c = search needs
+
+returns : tie.Need-returns
+returns c =
+    rw (c .before .before .put-word4 .ensures, c .before .before .before .before .before .before .put-word3 .ensures, c .before .before .before .before .before .before .before .before .before .before .put-word2 .ensures, c .before .before .before .before .before .before .before .before .before .before .before .before .before .before .put-word .ensures) (four-words _ (c .before .before .before .before .before .before .before .before .before .before .before .before .before .before .before .before .before .pre) _ _ _ _)
+
+pub put-words-spec : {M : Type 1} → statement M
+put-words-spec =
+    tie.close
+    (tie.spec
+    put-word-requires
+    put-word-requires-2
+    put-word-requires-3
+    put-word-requires-4
+    same-length
+    returns)

@@ -1,0 +1,55 @@
+-- `tell` meets its contract: the words of document 01's table. Assumes nothing.
+use mathlib.Core.Path.{_≡_, refl, sym, _∙_, ap}
+use Rattle.answer.specs.declared.Answer.{Answer}
+use Rattle.answer.specs.Table.{answerWords}
+use Rattle.florinwick.specs.Words.{Tells}
+use borrow.Author.Needs.{needs}
+use Rattle.florinwick.proofs.tell.Statement.{statement}
+use Rattle.florinwick.proofs.tell.Tie as tie
+
+enum-known-a : tie.Need-enum-known-a
+enum-known-a c = search needs
+
+put-words-requires : tie.Need-put-words-requires
+put-words-requires c κs = search needs
+
+enum-known-a-2 : tie.Need-enum-known-a-2
+enum-known-a-2 c = search needs
+
+number-requires : tie.Need-number-requires
+number-requires c κs = search needs
+
+detail-requires : tie.Need-detail-requires
+detail-requires c κs = search needs
+
+put-words-requires-2 : tie.Need-put-words-requires-2
+put-words-requires-2 c κs = search needs
+
+same-length : tie.Need-same-length
+same-length c = search needs
+
+returns : tie.Need-returns
+returns c =
+    rw (c .before .before .before .before .before .a .given .1) (refl, c .before .before .put-words .ensures)
+
+same-length-2 : tie.Need-same-length-2
+same-length-2 c = search needs
+
+returns-2 : tie.Need-returns-2
+returns-2 c =
+    rw (c .before .before .before .before .before .before .before .a2 .given .1) (c .before .before .before .before .before .number .ensures, rw (c .before .before .before .before .before .number .ensures, c .before .before .before .detail .ensures) at (c .before .before .put-words2 .ensures))
+
+pub tell-spec : {M : Type 1} → statement M
+tell-spec =
+    tie.close
+    (tie.spec
+    enum-known-a
+    put-words-requires
+    enum-known-a-2
+    number-requires
+    detail-requires
+    put-words-requires-2
+    same-length
+    returns
+    same-length-2
+    returns-2)

@@ -1,0 +1,2 @@
+-- What the C interface returns and leaves, as the rules reply.
+pub mod Words

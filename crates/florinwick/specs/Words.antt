@@ -1,0 +1,118 @@
+-- The answer's four words in their area, and the reply of a call.
+use Prim.Native.Nat.{ℕ, _+_, _*_, _≤_}
+use native.Mathlib.Omega.{arith}
+use mathlib.Core.Bool.{Bool, true, false, cond}
+use mathlib.Core.List.{List, [], _∷_, _++_, append-nil, append-assoc}
+use mathlib.Core.Path.{_≡_, refl, sym, _∙_, ap}
+use borrow.Author.Tests.{eq-eqb, ne-eqb}
+use lib.Dec.{eqb}
+use lib.ListN.{length, drop, length-append, drop-of-length-le}
+use Rattle.store.specs.declared.PageId.{PageId}
+use Rattle.store.specs.declared.Extent.{Extent}
+use Rattle.store.specs.Words.{bytesOf, spread, patch}
+use Rattle.store.specs.Size.{capacity, scratchNeed}
+use Rattle.store.specs.Laws.{bytes-length}
+use Rattle.answer.specs.declared.Answer.{Answer}
+use Rattle.answer.specs.Table.{Words, answerWords}
+use Rattle.rules.specs.Store.{storeAfter}
+use Rattle.rules.specs.Insert.{Outcome}
+use Rattle.rules.specs.Entry.{wordBytes, Reply, reply}
+use Rattle.htree.specs.Wrote.{patch-patch}
+use Rattle.entry.specs.Reply.{Replies}
+
+abbrev pub words : ℕ → ℕ → ℕ → ℕ → Words
+words number root pages detail = record { number = number; root = root; pages = pages; detail = detail }
+
+abbrev pub extentOf : ℕ → ℕ → Extent
+extentOf size count = record { size = size; count = count }
+
+-- 0 for a page size that is not known
+unfoldable pub needOf : ℕ → ℕ
+needOf size = cond (eqb (capacity size) 0) 0 (scratchNeed (capacity size))
+
+pub need-none : (size : ℕ) → capacity size ≡ 0 → 0 ≡ needOf size
+unfolding needOf
+need-none size h = rw (eq-eqb (capacity size) 0 h)
+
+pub need-some : (size : ℕ) → (capacity size ≡ 0 → ⊥) → scratchNeed (capacity size) ≡ needOf size
+unfolding needOf
+need-some size h = rw (ne-eqb (capacity size) 0 h)
+
+-- an area with the words
+pub record Tells (w : Words) (area : List ℕ) : Type 0 where
+  pub bytes : area ≡ wordBytes w
+
+-- what a call returned and left
+pub record Replied (r : ℕ) (s a : List ℕ) (y : Reply) : Type 0 where
+  pub returns : r ≡ y .returns
+  pub store : s ≡ y .store
+  pub area : a ≡ y .area
+
+-- two results that meet it are equal
+pub replied-same :
+    (r₁ r₂ : ℕ) (s₁ s₂ a₁ a₂ : List ℕ) (y : Reply) → Replied r₁ s₁ a₁ y → Replied r₂ s₂ a₂ y → (r₁ ≡ r₂) × (s₁ ≡ s₂) × (a₁ ≡ a₂)
+replied-same r₁ r₂ s₁ s₂ a₁ a₂ y A B = (A .returns ∙ sym (B .returns), A .store ∙ sym (B .store), A .area ∙ sym (B .area))
+
+-- four words behind one another fill the area
+next-word :
+    (a p : List ℕ) (n w : ℕ) → length p ≡ n → n + 8 ≤ length a → patch (patch a 0 p) n (bytesOf 8 w) ≡ patch a 0 (p ++ bytesOf 8 w)
+next-word a p n w e h =
+    ap (λ (k : ℕ). patch (patch a 0 p) k (bytesOf 8 w)) (let z : n ≡ 0 + length p = omega arith in z)
+    ∙ patch-patch a 0 p (bytesOf 8 w) (omega (arith, bytes-length 8 w))
+
+filled : (a p : List ℕ) → length a ≡ length p → patch a 0 p ≡ p
+unfolding patch
+filled a p e = ap (λ (l : List ℕ). p ++ l) (drop-of-length-le a {i = 0 + length p} (omega arith)) ∙ append-nil p
+
+module _ (a : List ℕ) (full : length a ≡ 32) (p q r t : ℕ) where
+  abbrev two : List ℕ
+  two = bytesOf 8 p ++ bytesOf 8 q
+
+  abbrev three : List ℕ
+  three = two ++ bytesOf 8 r
+
+  two-long : length two ≡ 16
+  two-long = omega (arith, length-append (bytesOf 8 p) (bytesOf 8 q), bytes-length 8 p, bytes-length 8 q)
+
+  three-long : length three ≡ 24
+  three-long = omega (arith, length-append two (bytesOf 8 r), two-long, bytes-length 8 r)
+
+  stacked :
+      patch (patch (patch (patch a 0 (bytesOf 8 p)) 8 (bytesOf 8 q)) 16 (bytesOf 8 r)) 24 (bytesOf 8 t) ≡ three ++ bytesOf 8 t
+  stacked =
+      ap (λ (s : List ℕ). patch (patch s 16 (bytesOf 8 r)) 24 (bytesOf 8 t)) (next-word a (bytesOf 8 p) 8 q (bytes-length 8 p) (omega arith))
+      ∙ ap (λ (s : List ℕ). patch s 24 (bytesOf 8 t)) (next-word a two 16 r two-long (omega arith)) ∙ next-word a three 24 t three-long (omega arith)
+      ∙ filled a (three ++ bytesOf 8 t) (omega (arith, length-append three (bytesOf 8 t), three-long, bytes-length 8 t))
+
+  pub four-words :
+      Tells (words p q r t) (patch (patch (patch (patch a 0 (bytesOf 8 p)) 8 (bytesOf 8 q)) 16 (bytesOf 8 r)) 24 (bytesOf 8 t))
+  unfolding wordBytes spread
+  four-words = record { bytes = stacked ∙ rw (append-nil, append-assoc, append-assoc) }
+
+-- "An area not 32 bytes long is 1 before all else and stays unchanged."
+pub no-area : (x : Extent) (s a : List ℕ) (root : PageId) (o : Outcome) → (length a ≡ 32 → ⊥) → Replied 1 s a (reply x s a root o)
+unfolding reply
+no-area x s a root o h = rw (ne-eqb (length a) 32 h) (record { returns = refl; store = refl; area = refl })
+
+pub told-reply :
+    (x : Extent) (s s₁ a a₁ : List ℕ) (root : PageId) (o : Outcome) (r : Answer) (v : ℕ) → length a ≡ 32 → Replies x s s₁ r o → v ≡ answerWords root r .number →
+    Tells (answerWords root r) a₁ → Replied v s₁ a₁ (reply x s a root o)
+unfolding reply
+told-reply x s s₁ a a₁ root o r v h R e T =
+    rw (eq-eqb (length a) 32 h)
+    (record {
+      returns = e ∙ ap (λ (z : Answer). answerWords root z .number) (R .answer);
+      store = R .store;
+      area = T .bytes ∙ ap (λ (z : Answer). wordBytes (answerWords root z)) (R .answer);
+    })
+
+-- of a fetch
+pub record Fetched (r : ℕ) (a a₁ : List ℕ) (w : Words) : Type 0 where
+  pub returns : r ≡ cond (eqb (length a) 32) (w .number) 1
+  pub area : a₁ ≡ cond (eqb (length a) 32) (wordBytes w) a
+
+pub no-fetch : (a : List ℕ) (w : Words) → (length a ≡ 32 → ⊥) → Fetched 1 a a w
+no-fetch a w h = record { returns = rw (ne-eqb (length a) 32 h); area = rw (ne-eqb (length a) 32 h) }
+
+pub told-fetch : (r : ℕ) (a a₁ : List ℕ) (w : Words) → length a ≡ 32 → r ≡ w .number → Tells w a₁ → Fetched r a a₁ w
+told-fetch r a a₁ w h e T = record { returns = rw (eq-eqb (length a) 32 h) e; area = rw (eq-eqb (length a) 32 h) (T .bytes) }

@@ -10,7 +10,7 @@ use crate::tally::Tally;
 pub type Fault = String;
 
 /// Among how many batches one is sought on which both builds of the Rust agree.
-const CANDIDATES: usize = 8;
+const CANDIDATES: usize = 30;
 
 const MOST: usize = 128;
 
@@ -30,6 +30,8 @@ pub struct Shape {
     pub room: usize,
     /// Whether batches are preferred on which both builds of the Rust agree.
     pub agreeing: bool,
+    /// One in so many batches starts another tree in the same store.
+    pub restarting: usize,
     /// One in so many batches goes to an older root.
     pub branching: usize,
     /// One in so many batches has the store cut at every page.
@@ -97,7 +99,7 @@ impl<'a> History<'a> {
             if self.patched.bytes().len() > self.shape.room {
                 break;
             }
-            let is_new = i == 0 || self.trees.is_empty() || self.random.one_in(60);
+            let is_new = i == 0 || self.trees.is_empty() || self.random.one_in(self.shape.restarting);
             if is_new { self.start()? } else { self.grow()? }
             self.refusals()?;
         }

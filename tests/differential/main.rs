@@ -78,11 +78,11 @@ fn run(shape: Shape, seed: u64, tally: &mut Tally) {
 }
 
 fn shape(page_size: usize, turn: usize, random: &mut Random) -> Shape {
-    let batches = if turn < 50 { 2 + turn / 4 } else { random.pick(&[20, 60, 150, 400]) };
+    let batches = if turn < 50 { 2 + turn / 4 } else { random.pick(&[20, 60, 150, 400, 800]) };
     let largest = random.pick(&[1, 4, 8, 32, 64, 128, 128]);
     let room = match page_size {
-        4096 => random.pick(&[1 << 20, 4 << 20, 4 << 20]),
-        _ => random.pick(&[1 << 19, 1 << 20, 2 << 20]),
+        4096 => random.pick(&[1 << 20, 4 << 20, 8 << 20]),
+        _ => random.pick(&[1 << 19, 1 << 20, 4 << 20]),
     };
     Shape {
         page_size,
@@ -94,7 +94,8 @@ fn shape(page_size: usize, turn: usize, random: &mut Random) -> Shape {
         largest,
         room,
         agreeing: random.one_in(3),
-        branching: random.pick(&[3, 8, 30]),
+        restarting: random.pick(&[30, 200, 5000]),
+        branching: random.pick(&[3, 8, 30, 300]),
         cutting: random.pick(&[1, 3, 6]),
     }
 }

@@ -1,5 +1,6 @@
 //! The library's C entries against both builds of the Rust, over random histories.
 
+mod examples;
 mod history;
 mod library;
 mod store;
@@ -27,6 +28,7 @@ fn main() {
     let (batches, seed) = (number(1, "BATCHES"), number(2, "SEED"));
     let mut random = Random::new(seed);
     let started = Instant::now();
+    tell(examples::run(&mut Random::new(seed)), "document 01's examples");
     let mut tallies = [Tally::default(), Tally::default(), Tally::default()];
     // The sizes take turns, and the first histories are short: the first difference is a small one.
     let mut turn = 0;
@@ -44,13 +46,7 @@ fn main() {
         println!("{}", tally);
     }
     if batches >= TALL_FROM {
-        match tall::run(&mut random) {
-            Ok(told) => println!("{}", told),
-            Err(fault) => {
-                println!("DIFFERENCE in the tallest tree, ascending batches of four: {}", fault);
-                process::exit(1);
-            }
-        }
+        tell(tall::run(&mut Random::new(seed)), "the tallest tree, ascending batches of four");
     }
     let sum = |of: fn(&Tally) -> u64| tallies.iter().map(of).sum::<u64>();
     println!(
@@ -58,6 +54,17 @@ fn main() {
         sum(|t| t.batches), sum(|t| t.datoms), sum(|t| t.pages), sum(|t| t.answers[1..].iter().sum()), seed,
         started.elapsed().as_secs_f64(),
     );
+}
+
+/// Says what was compared, or ends with the difference.
+fn tell(outcome: Result<String, String>, name: &str) {
+    match outcome {
+        Ok(told) => println!("{}", told),
+        Err(fault) => {
+            println!("DIFFERENCE: {}: {}", name, fault);
+            process::exit(1);
+        }
+    }
 }
 
 fn run(shape: Shape, seed: u64, tally: &mut Tally) {

@@ -1,0 +1,73 @@
+-- `start` meets its contract: the checks in their order, then the pages. Assumes nothing.
+use Rattle.listing.specs.StartLaws.{start-bad, start-lower, start-upper, start-root, start-on}
+use borrow.Author.Tests.{not-true, not-false}
+use mathlib.Core.Path.{sym, _∙_}
+use borrow.Author.Needs.{needs}
+use Rattle.listing.proofs.begin.start.Statement.{statement}
+use Rattle.listing.proofs.begin.start.Tie as tie
+
+is-bad-requires : tie.Need-is-bad-requires
+is-bad-requires c κs = search needs
+
+refused-requires : tie.Need-refused-requires
+refused-requires c κs = search needs
+
+returns : tie.Need-returns
+returns c = let a = c .before .before .before .before .args in
+    c .refused .ensures ∙ start-bad (a .extent) (a .store .now) (a .root) (a .lower) (a .upper) (sym (c .before .before .is-bad .ensures) ∙ c .before .if1 .taken)
+
+is-bound-requires : tie.Need-is-bound-requires
+is-bound-requires c κs = search needs
+
+refused-requires-2 : tie.Need-refused-requires-2
+refused-requires-2 c κs = search needs
+
+returns-2 : tie.Need-returns-2
+returns-2 c = let a = c .before .before .before .before .before .before .args in
+    c .refused2 .ensures ∙ start-lower (a .extent) (a .store .now) (a .root) (a .lower) (a .upper) (sym (c .before .before .before .before .is-bad .ensures) ∙ c .before .before .before .if1 .left) (sym (c .before .before .is-bound .ensures) ∙ not-true _ (c .before .if2 .taken))
+
+is-bound-requires-2 : tie.Need-is-bound-requires-2
+is-bound-requires-2 c κs = search needs
+
+refused-requires-3 : tie.Need-refused-requires-3
+refused-requires-3 c κs = search needs
+
+returns-3 : tie.Need-returns-3
+returns-3 c = let a = c .before .before .before .before .before .before .before .before .args in
+    c .refused3 .ensures ∙ start-upper (a .extent) (a .store .now) (a .root) (a .lower) (a .upper) (sym (c .before .before .before .before .before .before .is-bad .ensures) ∙ c .before .before .before .before .before .if1 .left) (sym (c .before .before .before .before .is-bound .ensures) ∙ not-false _ (c .before .before .before .if2 .left)) (sym (c .before .before .is-bound2 .ensures) ∙ not-true _ (c .before .if3 .taken))
+
+is-bad-root-requires : tie.Need-is-bad-root-requires
+is-bad-root-requires c κs = search needs
+
+refused-requires-4 : tie.Need-refused-requires-4
+refused-requires-4 c κs = search needs
+
+returns-4 : tie.Need-returns-4
+returns-4 c = let a = c .before .before .before .before .before .before .before .before .before .before .args in
+    c .refused4 .ensures ∙ start-root (a .extent) (a .store .now) (a .root) (a .lower) (a .upper) (sym (c .before .before .before .before .before .before .before .before .is-bad .ensures) ∙ c .before .before .before .before .before .before .before .if1 .left) (sym (c .before .before .before .before .before .before .is-bound .ensures) ∙ not-false _ (c .before .before .before .before .before .if2 .left)) (sym (c .before .before .before .before .is-bound2 .ensures) ∙ not-false _ (c .before .before .before .if3 .left)) (sym (c .before .before .is-bad-root .ensures) ∙ c .before .if4 .taken)
+
+start-under-requires : tie.Need-start-under-requires
+start-under-requires c κs = sym (c .before .before .before .before .before .before .before .is-bad .ensures) ∙ c .before .before .before .before .before .before .if1 .left
+
+returns-5 : tie.Need-returns-5
+returns-5 c = let a = c .before .before .before .before .before .before .before .before .before .before .args in
+    c .start-under .ensures ∙ start-on (a .extent) (a .store .now) (a .root) (a .lower) (a .upper) (sym (c .before .before .before .before .before .before .before .before .is-bad .ensures) ∙ c .before .before .before .before .before .before .before .if1 .left) (sym (c .before .before .before .before .before .before .is-bound .ensures) ∙ not-false _ (c .before .before .before .before .before .if2 .left)) (sym (c .before .before .before .before .is-bound2 .ensures) ∙ not-false _ (c .before .before .before .if3 .left)) (sym (c .before .before .is-bad-root .ensures) ∙ c .before .if4 .left)
+
+pub start-spec : {M : Type 1} → statement M
+start-spec =
+    tie.close
+    (tie.spec
+    is-bad-requires
+    refused-requires
+    returns
+    is-bound-requires
+    refused-requires-2
+    returns-2
+    is-bound-requires-2
+    refused-requires-3
+    returns-3
+    is-bad-root-requires
+    refused-requires-4
+    returns-4
+    start-under-requires
+    returns-5)

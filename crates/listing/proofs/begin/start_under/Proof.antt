@@ -1,0 +1,67 @@
+-- `start_under` meets its contract: nothing between the bounds, a root that cannot be read, or both ways from it. Assumes nothing.
+use Rattle.listing.specs.StartLaws.{under-nothing, under-damaged, under-read}
+use Rattle.listing.specs.Readable.{opens, told-fine, told-faulty}
+use Rattle.memory_store.specs.Reading.{told}
+use borrow.Author.Tests.{not-true, not-false}
+use mathlib.Core.Path.{sym, _∙_, ap}
+use borrow.Author.Needs.{needs}
+use Rattle.listing.proofs.begin.start_under.Statement.{statement}
+use Rattle.listing.proofs.begin.start_under.Tie as tie
+
+is-any-between-requires : tie.Need-is-any-between-requires
+is-any-between-requires c κs = search needs
+
+nothing-requires : tie.Need-nothing-requires
+nothing-requires c κs = search needs
+
+returns : tie.Need-returns
+returns c = let a = c .before .before .before .before .args in
+    rw (c .nothing .ensures) (under-nothing (a .extent) (a .store .now) (a .root) (a .lower) (a .upper) (sym (c .before .before .is-any-between .ensures) ∙ not-true _ (c .before .if1 .taken)))
+
+capacity-of-requires : tie.Need-capacity-of-requires
+capacity-of-requires c κs = search needs
+
+node-at-requires : tie.Need-node-at-requires
+node-at-requires c κs = (c .before .before .before .before .pre, c .capacity-of .ensures)
+
+enum-known-level : tie.Need-enum-known-level
+enum-known-level c = search needs
+
+enum-told : tie.Need-enum-told
+enum-told c = search needs
+
+refused-requires : tie.Need-refused-requires
+refused-requires c κs = search needs
+
+returns-2 : tie.Need-returns-2
+returns-2 c = let a = c .before .before .before .before .before .before .before .before .args in
+    let e = told-faulty (a .extent) (a .store .now) (a .root) _ (sym (ap (told (a .extent) (a .store .now) (a .root)) (c .before .enum-told .given .1)) ∙ c .before .before .before .node-at .ensures) in
+    c .refused .ensures ∙ under-damaged (a .extent) (a .store .now) (a .root) (a .lower) (a .upper) (sym (c .before .before .before .before .before .before .is-any-between .ensures) ∙ not-false _ (c .before .before .before .before .before .if1 .left)) _ e
+
+start-at-requires : tie.Need-start-at-requires
+start-at-requires c κs = let a = c .before .before .before .before .before .before .before .before .args in
+    let g = c .before .level .given in
+    let e = told-fine (a .extent) (a .store .now) (a .root) (g .0 .0) (g .0 .1 .0) (sym (ap (told (a .extent) (a .store .now) (a .root)) (g .1)) ∙ c .before .before .before .node-at .ensures) in
+    (c .before .before .before .before .before .before .before .before .pre, (c .before .before .before .before .capacity-of .ensures, opens (a .extent) (a .store .now) (a .root) (g .0 .0) (g .0 .1 .0) (c .before .before .before .before .before .before .before .before .pre) e .low))
+
+returns-3 : tie.Need-returns-3
+returns-3 c = let a = c .before .before .before .before .before .before .before .before .before .args in
+    let g = c .before .before .level .given in
+    let e = told-fine (a .extent) (a .store .now) (a .root) (g .0 .0) (g .0 .1 .0) (sym (ap (told (a .extent) (a .store .now) (a .root)) (g .1)) ∙ c .before .before .before .before .node-at .ensures) in
+    c .start-at .ensures ∙ under-read (a .extent) (a .store .now) (a .root) (a .lower) (a .upper) (sym (c .before .before .before .before .before .before .before .is-any-between .ensures) ∙ not-false _ (c .before .before .before .before .before .before .if1 .left)) (g .0 .0) (g .0 .1 .0) e
+
+pub start-under-spec : {M : Type 1} → statement M
+start-under-spec =
+    tie.close
+    (tie.spec
+    is-any-between-requires
+    nothing-requires
+    returns
+    capacity-of-requires
+    node-at-requires
+    enum-known-level
+    enum-told
+    refused-requires
+    returns-2
+    start-at-requires
+    returns-3)

@@ -1,0 +1,179 @@
+// The start of a listing: each bound's way down to level 0, the lower first.
+use crate::descent;
+use crate::descent::End;
+use crate::descent::Seek;
+use crate::way;
+use crate::way::Way;
+use answer::Cursor;
+use answer::Refusal;
+use answer::Start;
+use answer::Started;
+use datom::Datom;
+use index::Order;
+use memory_store::found::Found;
+use store::Extent;
+use store::PageId;
+ghost use mathlib.Core.Bool.{false, _&&_, not};
+ghost use mathlib.Core.List.{[]};
+ghost use mathlib.Core.Path.{_≡_};
+ghost use Prim.Native.Nat.{_≤_, suc};
+ghost use Rattle.store.specs.Page.{isNone};
+ghost use Rattle.store.specs.Size.{capacity};
+ghost use Rattle.index.specs.Order.{cmpEavt, eavt, isLess};
+ghost use Rattle.rules.specs.Store.{badStore, badRoot};
+ghost use Rattle.rules.specs.Listing.{cursorOf, refuseStart, joinPaths, startUnder, startList};
+ghost use Rattle.listing.specs.Way.{framesOf};
+ghost use Rattle.listing.specs.Descent.{testOf, downOf};
+ghost use Rattle.listing.specs.declared.descent.Seek.the-variants.{NotBelow};
+
+// The cursor of two ends of this height.
+pub fn cursor_of(height: usize, begin: Way, end: Way) -> Cursor
+    requires { ⌜ height ≤ 8 ⌝ }
+    ensures { λ r. ⌜ r ≡ cursorOf (framesOf height begin) (framesOf height end) ⌝ }
+{
+    let b = way::only_used(begin, height);
+    let e = way::only_used(end, height);
+    let begin_indices = b.indices;
+    let begin_pages = b.pages;
+    let end_indices = e.indices;
+    let end_pages = e.pages;
+    Cursor {
+        height: height as u64,
+        begin_indices,
+        begin_pages,
+        end_indices,
+        end_pages,
+    }
+}
+
+// The cursor that has ended because there is nothing to list.
+pub fn nothing() -> Cursor
+    ensures { λ r. ⌜ r ≡ cursorOf [] [] ⌝ }
+{
+    Cursor {
+        height: 0,
+        begin_indices: [0; 8],
+        begin_pages: [PageId(0); 8],
+        end_indices: [0; 8],
+        end_pages: [PageId(0); 8],
+    }
+}
+
+fn refused(refusal: Refusal) -> Started
+    ensures { λ r. ⌜ r ≡ refuseStart refusal ⌝ }
+{
+    Started {
+        answer: Start::Refused(refusal),
+        cursor: nothing(),
+    }
+}
+
+// Both ways from a root of this level.
+fn start_at(
+    store: &[u8],
+    extent: Extent,
+    c: usize,
+    root: PageId,
+    level: usize,
+    lower: Datom,
+    upper: Datom,
+) -> Started
+    requires { ⌜ (badStore extent (now store) ≡ false) × ((c ≡ capacity (extent .size)) × (level ≤ 7)) ⌝ }
+    ensures { λ r. ⌜ r ≡ joinPaths (downOf extent (now (store .entry)) (testOf (NotBelow lower)) level root) (downOf extent (now (store .entry)) (testOf (NotBelow upper)) level root) ⌝ }
+{
+    let b = descent::descend(
+        store,
+        extent,
+        c,
+        Seek::NotBelow(lower),
+        level,
+        root,
+        way::empty(),
+    );
+    let begin_end = b.end;
+    let begin = b.way;
+    if let End::Lost(page) = begin_end {
+        return refused(Refusal::Damaged(page));
+    }
+    let e = descent::descend(
+        store,
+        extent,
+        c,
+        Seek::NotBelow(upper),
+        level,
+        root,
+        way::empty(),
+    );
+    let end_end = e.end;
+    let end = e.way;
+    if let End::Lost(page) = end_end {
+        return refused(Refusal::Damaged(page));
+    }
+    Started {
+        answer: Start::Begun,
+        cursor: cursor_of(level + 1, begin, end),
+    }
+}
+
+// Whether there can be something to list: a root, and a lower bound below the upper.
+fn is_any_between(root: PageId, lower: Datom, upper: Datom) -> bool
+    ensures { λ r. ⌜ r ≡ (isLess (cmpEavt lower upper) && not (isNone root)) ⌝ }
+{
+    match index::order_of(lower, upper) {
+        Order::Less => !root.is_none(),
+        Order::Equal => false,
+        Order::Greater => false,
+    }
+}
+
+// The root is read, and its level is where both ways begin.
+fn start_under(store: &[u8], extent: Extent, root: PageId, lower: Datom, upper: Datom) -> Started
+    requires { ⌜ badStore extent (now store) ≡ false ⌝ }
+    ensures { λ r. ⌜ r ≡ startUnder eavt extent (now (store .entry)) root lower upper ⌝ }
+{
+    if !is_any_between(root, lower, upper) {
+        return Started {
+            answer: Start::Begun,
+            cursor: nothing(),
+        };
+    }
+    let c = store::capacity_of(extent.size);
+    let Found::Fine { level, count: _ } = memory_store::found::node_at(store, extent, c, root)
+    else {
+        return refused(Refusal::Damaged(root));
+    };
+    start_at(store, extent, c, root, level, lower, upper)
+}
+
+// Whether the root is neither none nor below the count.
+fn is_bad_root(extent: Extent, root: PageId) -> bool
+    ensures { λ r. ⌜ r ≡ badRoot extent root ⌝ }
+{
+    if root.is_none() {
+        return false;
+    }
+    if extent.count <= root.0 {
+        return true;
+    }
+    false
+}
+
+// A cursor to the datoms from the lower bound on and below the upper. Document 01: "Starting a listing checks 1, 10, 5, then the
+// bounds' order, then pages."
+pub fn start(store: &[u8], extent: Extent, root: PageId, lower: Datom, upper: Datom) -> Started
+    ensures { λ r. ⌜ r ≡ startList eavt extent (now (store .entry)) root lower upper ⌝ }
+{
+    if memory_store::is_bad(store, extent) {
+        return refused(Refusal::BadStore);
+    }
+    if !lower.is_bound() {
+        return refused(Refusal::BadBound);
+    }
+    if !upper.is_bound() {
+        return refused(Refusal::BadBound);
+    }
+    if is_bad_root(extent, root) {
+        return refused(Refusal::NoPage);
+    }
+    start_under(store, extent, root, lower, upper)
+}

@@ -1,0 +1,132 @@
+// The way down to level 0 past the datoms below a bound, or past none.
+use crate::way;
+use crate::way::Way;
+use answer::NextMidpoint;
+use datom::Datom;
+use memory_store::access;
+use memory_store::found::Found;
+use store::Extent;
+use store::PageId;
+ghost use mathlib.Core.Bool.{true, false};
+ghost use mathlib.Core.Path.{_≡_};
+ghost use Prim.Native.Nat.{_+_, _*_, _≤_};
+ghost use lib.ListN.{length};
+ghost use Rattle.store.specs.Size.{capacity};
+ghost use Rattle.datom.specs.Datom.{datomsOf};
+ghost use Rattle.index.specs.Order.{cmpEavt, eavt};
+ghost use Rattle.rules.specs.Page.{rising};
+ghost use Rattle.rules.specs.Node.{rankBy};
+ghost use Rattle.rules.specs.Tree.{atLevel};
+ghost use Rattle.rules.specs.Store.{badStore, fetchPage};
+ghost use Rattle.memory_store.specs.Layout.{childrenOf};
+ghost use Rattle.listing.specs.Descent.{testOf, childFrom, placedOf, descentOf, downOf};
+
+// Where a page is entered: at its first datom, or at the first that is not below a bound.
+pub enum Seek {
+    First,
+    NotBelow(Datom),
+}
+
+// The index that is found in a page, and the child that the way goes on to.
+pub enum Placed {
+    Lost,
+    At { index: usize, child: PageId },
+}
+
+// Where a way ends: at level 0, or at a page that cannot be read.
+pub enum End {
+    Bottom,
+    Lost(PageId),
+}
+
+// A way and where it ends; one that is lost is empty.
+pub struct Descent {
+    pub end: End,
+    pub way: Way,
+}
+
+// The index in a page of k datoms.
+fn index_in(part: &[u8], k: usize, seek: Seek) -> usize
+    requires { ⌜ (32 * k ≤ length (now part)) × (rising cmpEavt (datomsOf k (now part)) ≡ true) ⌝ }
+    ensures { λ r. ⌜ r ≡ rankBy (testOf seek) (datomsOf k (now (part .entry))) ⌝ }
+{
+    match seek {
+        Seek::First => 0,
+        Seek::NotBelow(d) => access::first_not_below(part, k, d),
+    }
+}
+
+// The first real child at or after an index. Below level 0 there is none, so its children are not looked at.
+pub fn child_from(part: &[u8], level: usize, c: usize, k: usize, index: usize) -> PageId
+    requires { ⌜ (k ≤ c) × (40 * c + 8 ≤ length (now part)) ⌝ }
+    ensures { λ r. ⌜ r ≡ childFrom level index (childrenOf c k (now (part .entry))) ⌝ }
+{
+    if level == 0 {
+        return PageId::max();
+    }
+    let NextMidpoint::Child(child) = access::next_midpoint(part, c, k, index) else {
+        return PageId::max();
+    };
+    child
+}
+
+// Page `page`, which is to be of this level.
+fn place_in(
+    store: &[u8],
+    extent: Extent,
+    c: usize,
+    seek: Seek,
+    level: usize,
+    page: PageId,
+) -> Placed
+    requires { ⌜ (badStore extent (now store) ≡ false) × (c ≡ capacity (extent .size)) ⌝ }
+    ensures { λ r. ⌜ r ≡ placedOf (testOf seek) level (atLevel level (fetchPage eavt extent (now (store .entry)) page)) ⌝ }
+{
+    let Found::Fine { level: l, count: k } = memory_store::found::node_at(store, extent, c, page)
+    else {
+        return Placed::Lost;
+    };
+    if l != level {
+        return Placed::Lost;
+    }
+    let part = memory_store::fetch(store, extent, page);
+    let index = index_in(part, k, seek);
+    let child = child_from(part, level, c, k, index);
+    Placed::At { index, child }
+}
+
+// From page `page`, of this level, down to level 0. The places of the levels above stay as they are in `way`.
+pub fn descend(
+    store: &[u8],
+    extent: Extent,
+    c: usize,
+    seek: Seek,
+    level: usize,
+    page: PageId,
+    way: Way,
+) -> Descent
+    requires { ⌜ (badStore extent (now store) ≡ false) × ((c ≡ capacity (extent .size)) × (level ≤ 7)) ⌝ }
+    ensures { λ r. ⌜ r ≡ descentOf level way (downOf extent (now (store .entry)) (testOf seek) level page) ⌝ }
+{
+    let mut filled = way;
+    let mut l = level;
+    let mut p = page;
+    loop {
+        let Placed::At { index, child } = place_in(store, extent, c, seek, l, p) else {
+            return Descent {
+                end: End::Lost(p),
+                way: way::empty(),
+            };
+        };
+        filled.indices[l] = index as u64;
+        filled.pages[l] = p;
+        if l == 0 {
+            return Descent {
+                end: End::Bottom,
+                way: filled,
+            };
+        }
+        l -= 1;
+        p = child;
+    }
+}

@@ -1,0 +1,64 @@
+#!/usr/bin/env bash
+# Tests the comparison: puts one fault at a time from faults.txt into the expected side, or into the bytes beside a lent
+# slice, and requires that it is shown. Needs run.sh to have run; takes some minutes.
+set -euo pipefail
+
+home=$(cd "$(dirname "${BASH_SOURCE[0]}")" && pwd)
+repo=$(cd "$home/../.." && pwd)
+# shellcheck disable=SC2034
+here=$repo/tests/oracle
+sound=$repo/build/oracle
+out=$repo/build/differential-faults
+flags=(-C opt-level=1 -C debug-assertions=on -C overflow-checks=on -C codegen-units=1)
+# shellcheck source=../oracle/steps.sh
+source "$repo/tests/oracle/steps.sh"
+cd "$repo"
+
+if [ ! -x build/differential/differential ]; then
+    echo "$0: no build/differential/differential; run tests/differential/run.sh first" >&2
+    exit 1
+fi
+
+# Applies a sed script to the file with the fault, and fails if that changes nothing.
+put_fault() {
+    local file
+    case $1 in
+        htree) file=$out/source/patched/htree.rs ;;
+        datom) file=$out/harness/datom.rs ;;
+        history | library | store) file=$out/differential/$1.rs ;;
+        *) echo "$0: faults.txt names an unknown file $1" >&2; exit 1 ;;
+    esac
+    cp "$file" "$out/before"
+    sed -i -e "$2" "$file"
+    if cmp --quiet "$out/before" "$file"; then
+        echo "$0: \`$2\` changes nothing in $1" >&2
+        exit 1
+    fi
+}
+
+shown=0 missed=0
+while IFS='|' read -r file name script; do
+    rm -rf "$out"
+    mkdir -p "$out"
+    cp -r "$sound/source" "$sound"/*.rlib tests/oracle/harness "$home" "$out/"
+    put_fault "$file" "$script"
+    case $file in
+        htree | datom)
+            build_noblit patched
+            build_harness "$out/harness" ;;
+    esac
+    rustc --edition 2021 --crate-name differential -o "$out/program" "${flags[@]}" -L "$out" --extern harness -L target/staticlib -l static=florinwick \
+        "$out/differential/main.rs"
+    if "$out/program" 2000 1 > "$out/found" 2>&1; then
+        missed=$((missed + 1))
+        echo "MISSED  $name"
+    elif grep -q '^DIFFERENCE: ' "$out/found"; then
+        shown=$((shown + 1))
+        echo "shown   $name: $(sed -n 's/^DIFFERENCE: //p' "$out/found" | cut -c1-150)"
+    else
+        missed=$((missed + 1))
+        echo "MISSED  $name: $(tail -1 "$out/found")"
+    fi
+done < <(grep -v '^#' "$home/faults.txt")
+echo "$shown faults shown, $missed missed"
+[ "$missed" -eq 0 ]

@@ -1,0 +1,525 @@
+//! One random history: a store, the trees in it, and every call made on it answered by both sides.
+
+use harness::{capacity, compare, Datom, Held, Kind, Node, Oracle, Order, Pages, Panic, Plan, Random, Supply, Which, MAX_VALUE, NONE};
+
+use crate::library::{bytes_of, call, scratch_need, Answer, Call, Entry, Lent};
+use crate::store::Store;
+use crate::tally::Tally;
+
+/// A difference, in words.
+pub type Fault = String;
+
+/// Among how many batches one is sought on which both builds of the Rust agree.
+const CANDIDATES: usize = 30;
+
+const MOST: usize = 128;
+
+/// How a history is made.
+#[derive(Clone, Copy, Debug)]
+pub struct Shape {
+    pub page_size: usize,
+    pub kind: Kind,
+    pub plan: Plan,
+    pub order: Order,
+    pub supply: usize,
+    /// How many batches there are at most.
+    pub batches: usize,
+    /// How large the largest batch is.
+    pub largest: usize,
+    /// How large the store may get, in bytes.
+    pub room: usize,
+    /// Whether batches are preferred on which both builds of the Rust agree.
+    pub agreeing: bool,
+    /// One in so many batches starts another tree in the same store.
+    pub restarting: usize,
+    /// One in so many batches goes to an older root.
+    pub branching: usize,
+    /// One in so many batches has the store cut at every page.
+    pub cutting: usize,
+}
+
+struct Tree {
+    root: u64,
+    held: Held,
+    /// The tree that the batch went to, and the batch.
+    parent: Option<usize>,
+    batch: Vec<usize>,
+}
+
+pub struct History<'a> {
+    shape: Shape,
+    random: Random,
+    supply: Supply,
+    store: Store,
+    scratch: Lent,
+    need: usize,
+    patched: Pages,
+    /// The plain build's store, as long as it has the same pages.
+    plain: Option<Pages>,
+    trees: Vec<Tree>,
+    tally: &'a mut Tally,
+    /// The calls that wrote, for the report of a difference, and then the last call.
+    written: Vec<(Entry, Vec<Datom>)>,
+    last: Option<Last>,
+}
+
+/// A call to the library.
+struct Last {
+    entry: Entry,
+    batch: Vec<u8>,
+    /// Page size, page count, pages and bytes of room, scratch, area.
+    beside: [u64; 6],
+}
+
+impl<'a> History<'a> {
+    pub fn new(shape: Shape, seed: u64, tally: &'a mut Tally) -> History<'a> {
+        let mut random = Random::new(seed);
+        let supply = Supply::new(shape.kind, shape.supply, &mut random);
+        let need = scratch_need(shape.page_size);
+        History {
+            shape,
+            supply,
+            store: Store::new(shape.page_size, &mut random),
+            scratch: Lent::of_length(need + 64, &mut random),
+            need,
+            patched: Pages::new(shape.page_size),
+            plain: Some(Pages::new(shape.page_size)),
+            trees: Vec::new(),
+            tally,
+            written: Vec::new(),
+            last: None,
+            random,
+        }
+    }
+
+    /// Runs the history; a difference ends it.
+    pub fn run(&mut self) -> Result<(), Fault> {
+        self.tally.histories += 1;
+        for i in 0..self.shape.batches {
+            if self.patched.bytes().len() > self.shape.room {
+                break;
+            }
+            let is_new = i == 0 || self.trees.is_empty() || self.random.one_in(self.shape.restarting);
+            if is_new { self.start()? } else { self.grow()? }
+            self.refusals()?;
+        }
+        self.compare_whole()
+    }
+
+    /// What shows a difference, as commands of the oracle's driver: the calls that wrote, and the last one.
+    pub fn transcript(&self) -> String {
+        let mut text = format!("size {}\n", self.shape.page_size);
+        for (entry, batch) in &self.written {
+            text.push_str(&command(*entry, batch));
+        }
+        if let Some(last) = &self.last {
+            let [size, count, more, rest, scratch, area] = last.beside;
+            text.push_str(&command(last.entry, &datoms_of(&last.batch)));
+            text.push_str(&format!(
+                "# the last with page size {}, count {}, room for {} pages and {} bytes more, {} bytes of batch, {} of scratch, {} of area\n",
+                size, count, more, rest, last.batch.len(), scratch, area,
+            ));
+        }
+        text
+    }
+
+    /// A new tree in the store, by initialise or by an insert at none.
+    fn start(&mut self) -> Result<(), Fault> {
+        let at_none = self.random.one_in(3);
+        let entry = if at_none { Entry::Insert(NONE) } else { Entry::Initialise };
+        for last in (0..self.candidates()).rev() {
+            let held = self.supply.nothing_held();
+            let size = self.size();
+            let batch = self.supply.batch(&held, self.shape.plan, size, &mut self.random);
+            let mut datoms = self.supply.datoms(&batch);
+            if !at_none {
+                self.random.shuffle(&mut datoms);
+            }
+            if self.write(entry, &datoms, None, batch, held, last == 0)? {
+                self.tally.initialised += 1;
+                return Ok(());
+            }
+        }
+        Ok(())
+    }
+
+    /// A batch at the newest root, or at an older one.
+    fn grow(&mut self) -> Result<(), Fault> {
+        let newest = self.trees.len() - 1;
+        let at = if self.random.one_in(self.shape.branching) { self.random.below(newest + 1) } else { newest };
+        let root = self.trees[at].root;
+        for last in (0..self.candidates()).rev() {
+            let size = self.size();
+            let held = self.trees[at].held.clone();
+            let batch = self.supply.batch(&held, self.shape.plan, size, &mut self.random);
+            let datoms = self.supply.datoms(&batch);
+            if self.write(Entry::Insert(root), &datoms, Some(at), batch, held, last == 0)? {
+                self.tally.branched += (at != newest) as u64;
+                return Ok(());
+            }
+        }
+        Ok(())
+    }
+
+    fn candidates(&self) -> usize {
+        if self.shape.agreeing && self.plain.is_some() { CANDIDATES } else { 1 }
+    }
+
+    /// Mostly up to the largest of this history; now and then nothing, or as much as there may be.
+    fn size(&mut self) -> usize {
+        match self.random.below(40) {
+            0 => 0,
+            1 => MOST,
+            _ => 1 + self.random.below(self.shape.largest),
+        }
+    }
+
+    /// Has the Rust write a batch, then the library; false if the builds of the Rust do not agree and must.
+    fn write(
+        &mut self, entry: Entry, datoms: &[Datom], parent: Option<usize>, batch: Vec<usize>, mut held: Held, may_differ: bool,
+    ) -> Result<bool, Fault> {
+        let before = self.patched.count();
+        let patched = Oracle { which: Which::Patched, order: self.shape.order };
+        let root = ask(patched, &mut self.patched, entry, datoms)
+            .map_err(|panic| format!("the patched Rust panics: {}: {}", panic.message, command(entry, datoms)))?;
+        for &i in &batch {
+            held[i] = true;
+        }
+        if !self.ask_plain(entry, datoms, root, before, &held, may_differ)? {
+            self.patched.truncate(before);
+            return Ok(false);
+        }
+        let pages = self.patched.bytes_from(before).to_vec();
+        let count = self.patched.count() - before;
+        self.store.make_room(count as usize, &mut self.random);
+        if self.random.one_in(self.shape.cutting) {
+            self.cut(entry, datoms, &pages)?;
+        }
+        let (more, rest) = if self.random.one_in(2) { (count as usize, 0) } else { (count as usize + 1, self.random.below(64)) };
+        let answer = self.call(entry, &bytes_of(datoms), more, rest)?;
+        self.expect(answer, Answer::done(root, count), &pages)?;
+        self.store.grow(&pages);
+        self.compare_whole()?;
+        self.written.push((entry, datoms.to_vec()));
+        self.tally.batches += 1;
+        self.tally.datoms += datoms.len() as u64;
+        self.tally.pages += count;
+        if root != NONE {
+            let level = node(&self.patched, root).level as usize;
+            self.tally.heights[level] += 1;
+            self.trees.push(Tree { root, held, parent, batch });
+        }
+        Ok(true)
+    }
+
+    /// Whether the plain Rust agrees, or need not. Where it differs it must have lost a datom, which is how it leaves its domain.
+    fn ask_plain(
+        &mut self, entry: Entry, datoms: &[Datom], root: u64, before: u64, held: &Held, may_differ: bool,
+    ) -> Result<bool, Fault> {
+        let Some(plain) = &mut self.plain else {
+            return Ok(true);
+        };
+        let oracle = Oracle { which: Which::Plain, order: self.shape.order };
+        let answer = ask(oracle, plain, entry, datoms);
+        if answer == Ok(root) && plain.bytes_from(before) == self.patched.bytes_from(before) {
+            self.tally.by_plain += 1;
+            return Ok(true);
+        }
+        if !may_differ {
+            plain.truncate(before);
+            return Ok(false);
+        }
+        match answer {
+            Err(_) => self.tally.plain_panicked += 1,
+            Ok(root) => {
+                let mut listed = Vec::new();
+                let ends = oracle.list(plain, root, &[0; 4], &[u64::MAX, u64::MAX, MAX_VALUE, u64::MAX], &mut listed);
+                let held = held.iter().filter(|&&is_held| is_held).count();
+                if ends.is_ok() && listed.len() >= held {
+                    return Err(format!("the plain Rust writes other pages and has lost no datom: {}", command(entry, datoms)));
+                }
+                self.tally.plain_lost += 1;
+            }
+        }
+        self.plain = None;
+        Ok(true)
+    }
+
+    /// With room for fewer pages than the batch writes, those that fit are written and the answer is NoRoom.
+    fn cut(&mut self, entry: Entry, datoms: &[Datom], pages: &[u8]) -> Result<(), Fault> {
+        let size = self.shape.page_size;
+        for fit in 0..pages.len() / size {
+            let rest = self.random.pick(&[0, 1, size / 2, size - 1]);
+            let answer = self.call(entry, &bytes_of(datoms), fit, rest)?;
+            self.expect(answer, entry.refused(9, 0), &pages[..fit * size])?;
+            self.store.restore();
+            self.tally.cuts += 1;
+        }
+        Ok(())
+    }
+
+    /// Some calls that must be refused and leave the store as it is.
+    fn refusals(&mut self) -> Result<(), Fault> {
+        if self.trees.is_empty() {
+            return Ok(());
+        }
+        self.store.make_room(64, &mut self.random);
+        match self.random.below(10) {
+            0 | 1 => self.resend_there(),
+            2 | 3 => self.resend_later(),
+            4 | 5 => self.share(),
+            6 => self.other_branch(),
+            7 => self.bad_store(),
+            8 => self.bad_batch(),
+            _ => self.damaged(),
+        }
+    }
+
+    fn some_tree(&mut self) -> usize {
+        if self.random.one_in(2) { self.random.below(self.trees.len()) } else { self.trees.len() - 1 }
+    }
+
+    /// A batch again at the root it led to.
+    fn resend_there(&mut self) -> Result<(), Fault> {
+        let at = self.some_tree();
+        let batch = self.trees[at].batch.clone();
+        if batch.is_empty() {
+            return Ok(());
+        }
+        self.tally.resent_there += 1;
+        self.refuse(Entry::Insert(self.trees[at].root), &self.supply.datoms(&batch), 6, 0)
+    }
+
+    /// A batch again at a root that came of the one it led to.
+    fn resend_later(&mut self) -> Result<(), Fault> {
+        let at = self.some_tree();
+        let mut line = vec![];
+        let mut above = self.trees[at].parent;
+        while let Some(tree) = above {
+            if !self.trees[tree].batch.is_empty() {
+                line.push(tree);
+            }
+            above = self.trees[tree].parent;
+        }
+        if line.is_empty() {
+            return Ok(());
+        }
+        let from = self.random.pick(&line);
+        self.tally.resent_later += 1;
+        let batch = self.supply.datoms(&self.trees[from].batch);
+        self.refuse(Entry::Insert(self.trees[at].root), &batch, 6, 0)
+    }
+
+    /// A batch not held, but for one datom at any place.
+    fn share(&mut self) -> Result<(), Fault> {
+        let at = self.some_tree();
+        let held: Vec<usize> = (0..self.trees[at].held.len()).filter(|&i| self.trees[at].held[i]).collect();
+        if held.is_empty() {
+            return Ok(());
+        }
+        let size = self.size().min(MOST - 1);
+        let plan = self.random.pick(&[Plan::Scattered, Plan::Clustered]);
+        let mut batch = self.supply.batch(&self.trees[at].held, plan, size, &mut self.random);
+        batch.push(self.random.pick(&held));
+        batch.sort();
+        self.tally.shared += 1;
+        self.refuse_first_held(at, &batch)
+    }
+
+    /// The batch of one branch at the root of another: refused by the first datom that this one has too.
+    fn other_branch(&mut self) -> Result<(), Fault> {
+        let (at, from) = (self.some_tree(), self.random.below(self.trees.len()));
+        let batch = self.trees[from].batch.clone();
+        if !batch.iter().any(|&i| self.trees[at].held[i]) {
+            return Ok(());
+        }
+        self.tally.shared += 1;
+        self.refuse_first_held(at, &batch)
+    }
+
+    fn refuse_first_held(&mut self, at: usize, batch: &[usize]) -> Result<(), Fault> {
+        let tree = &self.trees[at];
+        let first = batch.iter().position(|&i| tree.held[i]).expect("a datom that the tree holds");
+        let (root, datoms) = (tree.root, self.supply.datoms(batch));
+        self.refuse(Entry::Insert(root), &datoms, 6, first as u64)
+    }
+
+    fn refuse(&mut self, entry: Entry, datoms: &[Datom], number: u64, detail: u64) -> Result<(), Fault> {
+        let (more, rest) = (self.random.below(60), self.random.below(64));
+        let answer = self.call(entry, &bytes_of(datoms), more, rest)?;
+        self.expect(answer, entry.refused(number, detail), &[])
+    }
+
+    fn some_entry(&mut self) -> Entry {
+        let at = self.some_tree();
+        if self.random.one_in(2) { Entry::Initialise } else { Entry::Insert(self.random.pick(&[NONE, self.trees[at].root])) }
+    }
+
+    /// An unknown page size, a count past the slice, too little scratch, a wrong area, a root that is no page.
+    fn bad_store(&mut self) -> Result<(), Fault> {
+        let entry = self.some_entry();
+        let datoms = vec![self.supply.any(&mut self.random)];
+        let bytes = bytes_of(&datoms);
+        let (size, count) = (self.shape.page_size as u64, self.store.count);
+        let good = Call { entry, page_size: size, page_count: count, batch: &bytes, scratch: self.need, area: 32 };
+        let given = match self.random.below(6) {
+            0 => Call { page_size: self.random.pick(&[0, 1, size - 1, size + 1, 512, 1 << 32, u64::MAX]), ..good },
+            1 => Call { page_count: count + 1, ..good },
+            2 => Call { page_count: self.random.pick(&[1 << 56, 1 << 63, u64::MAX]), ..good },
+            3 => Call { scratch: self.random.pick(&[0, 1, self.need / 2, self.need - 1]), ..good },
+            4 => Call { area: self.random.pick(&[0, 1, 31, 33, 40]), ..good },
+            _ => {
+                let root = self.random.pick(&[count, count + 1, NONE - 1]);
+                return self.refuse(Entry::Insert(root), &datoms, 5, 0);
+            }
+        };
+        let rest = self.random.below(self.shape.page_size);
+        let answer = self.call_with(&given, 0, rest)?;
+        self.expect(answer, entry.refused(1, 0), &[])
+    }
+
+    /// Too many datoms, a part of one, a malformed one, one out of order.
+    fn bad_batch(&mut self) -> Result<(), Fault> {
+        let entry = self.some_entry();
+        let size = 2 + self.random.below(MOST - 1);
+        let nothing = self.supply.nothing_held();
+        let batch = self.supply.batch(&nothing, Plan::Scattered, size, &mut self.random);
+        let mut datoms = self.supply.datoms(&batch);
+        let i = self.random.below(datoms.len());
+        match self.random.below(4) {
+            0 => {
+                datoms.resize(MOST + 1, datoms[0]);
+                self.refuse(entry, &datoms, 2, 0)
+            }
+            1 => {
+                let mut bytes = bytes_of(&datoms);
+                bytes.truncate(bytes.len() - 1 - self.random.below(31));
+                let answer = self.call(entry, &bytes, 1, 0)?;
+                self.expect(answer, entry.refused(2, 0), &[])
+            }
+            2 => {
+                let malformed = [MAX_VALUE, 1 << 62, 3 << 62, 0x8100_0000_0000_6161, 0x8800_0000_0000_0000, MAX_VALUE - 1];
+                datoms[i][2] = self.random.pick(&malformed);
+                if i + 1 < datoms.len() {
+                    // A later one too: the first is named.
+                    let later = i + 1 + self.random.below(datoms.len() - i - 1);
+                    datoms[later][2] = MAX_VALUE;
+                }
+                self.refuse(entry, &datoms, 3, i as u64)
+            }
+            _ => {
+                let later = 1 + self.random.below(datoms.len() - 1);
+                if entry == Entry::Initialise {
+                    self.random.shuffle(&mut datoms);
+                    datoms[later] = datoms[self.random.below(later)];
+                } else {
+                    datoms[later] = datoms[self.random.below(later)];
+                }
+                self.refuse(entry, &datoms, 4, later as u64)
+            }
+        }
+    }
+
+    /// A page on the path of the first datom that cannot be read or has a wrong level.
+    fn damaged(&mut self) -> Result<(), Fault> {
+        let at = self.some_tree();
+        let root = self.trees[at].root;
+        let size = 1 + self.random.below(8);
+        let batch = self.supply.batch(&self.trees[at].held, Plan::Scattered, size, &mut self.random);
+        if batch.is_empty() {
+            return Ok(());
+        }
+        let datoms = self.supply.datoms(&batch);
+        let path = path(&self.patched, root, &datoms[0]);
+        let page = self.random.pick(&path);
+        let old = self.patched.page(page).expect("a page of the path").to_vec();
+        let capacity = capacity(self.shape.page_size).expect("a known page size");
+        let header = 40 * capacity + 8;
+        let mut new = old.clone();
+        match self.random.below(5) {
+            0 => new[header] = 8,
+            1 => new[header + 1] = capacity as u8 + 1,
+            2 if page != root => new[header] = old[header].wrapping_add(1),
+            3 if page != root && old[header] > 0 => new[header] -= 1,
+            _ if old[header + 1] > 0 => new[16..24].copy_from_slice(&MAX_VALUE.to_le_bytes()),
+            _ => new[header] = 255,
+        }
+        self.store.poke(page, &new);
+        self.refuse(Entry::Insert(root), &datoms, 7, page)?;
+        self.compare_whole()?;
+        self.store.poke(page, &old);
+        Ok(())
+    }
+
+    fn call(&mut self, entry: Entry, batch: &[u8], more: usize, rest: usize) -> Result<Answer, Fault> {
+        let scratch = self.need + self.random.pick(&[0, 0, 1, 64]);
+        let (page_size, page_count) = (self.shape.page_size as u64, self.store.count);
+        self.call_with(&Call { entry, page_size, page_count, batch, scratch, area: 32 }, more, rest)
+    }
+
+    fn call_with(&mut self, given: &Call, more: usize, rest: usize) -> Result<Answer, Fault> {
+        self.last = Some(Last {
+            entry: given.entry,
+            batch: given.batch.to_vec(),
+            beside: [given.page_size, given.page_count, more as u64, rest as u64, given.scratch as u64, given.area as u64],
+        });
+        call(self.store.lend(more, rest), given, &mut self.scratch, &mut self.random)
+    }
+
+    /// The answer is this one, and past the pages in use the store has these pages and nothing else new.
+    fn expect(&mut self, answer: Answer, expected: Answer, pages: &[u8]) -> Result<(), Fault> {
+        if answer != expected {
+            return Err(format!("the answer is {:?}, and must be {:?}", answer, expected));
+        }
+        self.tally.answers[answer.number as usize] += 1;
+        self.store.fault_past(pages).map_or(Ok(()), Err)
+    }
+
+    fn compare_whole(&self) -> Result<(), Fault> {
+        self.store.fault().map_or(Ok(()), Err)
+    }
+}
+
+/// What the Rust answers. Root none is outside its domain: there it is asked to initialise.
+pub fn ask(oracle: Oracle, pages: &mut Pages, entry: Entry, datoms: &[Datom]) -> Result<u64, Panic> {
+    match entry {
+        Entry::Initialise | Entry::Insert(NONE) => oracle.initialise(pages, datoms),
+        Entry::Insert(root) => oracle.insert(pages, root, datoms),
+    }
+}
+
+fn node(pages: &Pages, page: u64) -> Node {
+    Node::decode(pages.page(page).expect("a page of the tree")).expect("a readable page")
+}
+
+/// The pages on a datom's path, to document 01's text.
+fn path(pages: &Pages, root: u64, datom: &Datom) -> Vec<u64> {
+    let (mut path, mut page) = (vec![root], root);
+    loop {
+        let node = node(pages, page);
+        let first = node.datoms.iter().position(|held| compare(held, datom).is_ge()).unwrap_or(node.datoms.len());
+        if node.level == 0 || node.datoms.get(first) == Some(datom) {
+            return path;
+        }
+        page = node.children[first..].iter().copied().find(|&child| child != NONE).expect("a last child");
+        path.push(page);
+    }
+}
+
+/// A call as a command of the oracle's driver.
+pub fn command(entry: Entry, batch: &[Datom]) -> String {
+    let mut text = match entry {
+        Entry::Initialise => "initialise".to_string(),
+        Entry::Insert(NONE) => "insert none".to_string(),
+        Entry::Insert(root) => format!("insert {}", root),
+    };
+    for datom in batch {
+        text.push_str(&format!(" {},{},{:#x},{}", datom[0], datom[1], datom[2], datom[3]));
+    }
+    text + "\n"
+}
+
+fn datoms_of(bytes: &[u8]) -> Vec<Datom> {
+    let word = |chunk: &[u8]| u64::from_le_bytes(chunk.try_into().expect("a word has 8 bytes"));
+    bytes.chunks_exact(32).map(|datom| [word(&datom[..8]), word(&datom[8..16]), word(&datom[16..24]), word(&datom[24..])]).collect()
+}

@@ -1,0 +1,108 @@
+//! The library's C entries against both builds of the Rust, over random histories.
+
+mod examples;
+mod history;
+mod library;
+mod store;
+mod tally;
+mod tall;
+
+use std::time::Instant;
+use std::{env, fs, process};
+
+use harness::{Kind, Order, Plan, Random, PAGE_SIZES};
+use history::{History, Shape};
+use tally::Tally;
+
+/// Where the calls that show a difference go.
+const TRANSCRIPT: &str = "build/differential/difference.txt";
+
+/// From so many batches on the tallest tree is built, too.
+const TALL_FROM: u64 = 50_000;
+
+fn main() {
+    let number = |i: usize, name: &str| -> u64 {
+        let word = env::args().nth(i).unwrap_or_else(|| panic!("usage: differential BATCHES SEED"));
+        word.parse().unwrap_or_else(|_| panic!("{} is a number, not {}", name, word))
+    };
+    let (batches, seed) = (number(1, "BATCHES"), number(2, "SEED"));
+    let mut random = Random::new(seed);
+    let started = Instant::now();
+    tell(examples::run(&mut Random::new(seed)), "document 01's examples");
+    let mut tallies = [Tally::default(), Tally::default(), Tally::default()];
+    // The sizes take turns, and the first histories are short: the first difference is a small one.
+    let mut turn = 0;
+    while tallies.iter().any(|tally| tally.batches * 3 < batches) {
+        for (&page_size, tally) in PAGE_SIZES.iter().zip(&mut tallies) {
+            if tally.batches * 3 < batches {
+                let shape = shape(page_size, turn, &mut random);
+                run(shape, random.word(), tally);
+            }
+        }
+        turn += 1;
+    }
+    for (page_size, tally) in PAGE_SIZES.iter().zip(&tallies) {
+        println!("{} bytes a page", page_size);
+        println!("{}", tally);
+    }
+    if batches >= TALL_FROM {
+        tell(tall::run(&mut Random::new(seed)), "the tallest tree, ascending batches of four");
+    }
+    let sum = |of: fn(&Tally) -> u64| tallies.iter().map(of).sum::<u64>();
+    println!(
+        "no difference: {} batches, {} datoms, {} pages, {} refusals; seed {}, {:.0} s",
+        sum(|t| t.batches), sum(|t| t.datoms), sum(|t| t.pages), sum(|t| t.answers[1..].iter().sum()), seed,
+        started.elapsed().as_secs_f64(),
+    );
+}
+
+/// Says what was compared, or ends with the difference.
+fn tell(outcome: Result<String, String>, name: &str) {
+    match outcome {
+        Ok(told) => println!("{}", told),
+        Err(fault) => {
+            println!("DIFFERENCE: {}: {}", name, fault);
+            process::exit(1);
+        }
+    }
+}
+
+fn run(shape: Shape, seed: u64, tally: &mut Tally) {
+    let mut history = History::new(shape, seed, tally);
+    if let Err(fault) = history.run() {
+        let transcript = history.transcript();
+        println!("DIFFERENCE: {}", fault);
+        println!("in {:?}", shape);
+        let lines: Vec<&str> = transcript.lines().collect();
+        // The whole if it is short, else its end.
+        for line in &lines[lines.len().saturating_sub(12)..] {
+            println!("{}", line);
+        }
+        fs::write(TRANSCRIPT, &transcript).unwrap_or_else(|error| panic!("{}: {}", TRANSCRIPT, error));
+        println!("all {} calls that wrote, as commands of build/oracle/oracle run: {}", lines.len() - 3, TRANSCRIPT);
+        process::exit(1);
+    }
+}
+
+fn shape(page_size: usize, turn: usize, random: &mut Random) -> Shape {
+    let batches = if turn < 50 { 2 + turn / 4 } else { random.pick(&[20, 60, 150, 400, 800]) };
+    let largest = random.pick(&[1, 4, 8, 32, 64, 128, 128]);
+    let room = match page_size {
+        4096 => random.pick(&[1 << 20, 4 << 20, 8 << 20]),
+        _ => random.pick(&[1 << 19, 1 << 20, 4 << 20]),
+    };
+    Shape {
+        page_size,
+        kind: random.pick(&[Kind::Counted, Kind::Integers, Kind::Strings, Kind::LastWords, Kind::Mixed]),
+        plan: random.pick(&[Plan::Ascending, Plan::Descending, Plan::Scattered, Plan::Scattered, Plan::Clustered]),
+        order: random.pick(&[Order::Eavt, Order::Rule]),
+        supply: 200 + batches * (largest / 2 + 6),
+        batches,
+        largest,
+        room,
+        agreeing: random.one_in(3),
+        restarting: random.pick(&[30, 200, 5000]),
+        branching: random.pick(&[3, 8, 30, 300]),
+        cutting: random.pick(&[1, 3, 6]),
+    }
+}

@@ -1,0 +1,79 @@
+//! The tallest tree: ascending batches of four until the next one would need a page of level 8.
+
+use harness::{Datom, Node, Oracle, Order, Pages, Random, Which};
+
+use crate::history::ask;
+use crate::library::{bytes_of, call, scratch_need, Answer, Call, Entry, Lent};
+use crate::store::Store;
+
+const PAGE_SIZE: usize = 256;
+
+/// After so many batches the whole store is compared, not the new pages alone.
+const WHOLE_EVERY: u64 = 2048;
+
+/// By then the tree must have been too tall.
+const MOST_BATCHES: u64 = 50_000;
+
+/// What was compared, or the first difference.
+pub fn run(random: &mut Random) -> Result<String, String> {
+    let oracle = Oracle { which: Which::Patched, order: Order::Eavt };
+    let mut pages = Pages::new(PAGE_SIZE);
+    let mut store = Store::new(PAGE_SIZE, random);
+    let need = scratch_need(PAGE_SIZE);
+    let mut scratch = Lent::of_length(need, random);
+    let mut entry = Entry::Initialise;
+    for batch in 0..MOST_BATCHES {
+        let datoms: Vec<Datom> = (4 * batch..4 * batch + 4).map(|k| [k, 1, k, 3]).collect();
+        let before = pages.count();
+        let root = ask(oracle, &mut pages, entry, &datoms).map_err(|panic| panic.message)?;
+        let written = pages.bytes_from(before).to_vec();
+        let level = |page: &[u8]| Node::decode(page).expect("a page of the Rust").level;
+        let too_tall = written.chunks_exact(PAGE_SIZE).position(|page| level(page) > 7);
+        let count = pages.count() - before;
+        store.make_room(count as usize, random);
+        let given = Call {
+            entry, page_size: PAGE_SIZE as u64, page_count: before, batch: &bytes_of(&datoms), scratch: need, area: 32,
+        };
+        let answer = call(store.lend(count as usize, 0), &given, &mut scratch, random)?;
+        let (expected, kept) = match too_tall {
+            None => (Answer::done(root, count), &written[..]),
+            Some(at) => (entry.refused(8, 0), &written[..at * PAGE_SIZE]),
+        };
+        if answer != expected {
+            return Err(format!("batch {}: the answer is {:?}, and must be {:?}", batch, answer, expected));
+        }
+        if let Some(fault) = store.fault_past(kept) {
+            return Err(format!("batch {}: {}", batch, fault));
+        }
+        if let Some(at) = too_tall {
+            store.restore();
+            // With room for fewer pages than come before the one of level 8 the answer is 9, with room for those alone 8.
+            for fit in 0..at + 1 {
+                let answer = call(store.lend(fit, 0), &given, &mut scratch, random)?;
+                let expected = entry.refused(if fit == at { 8 } else { 9 }, 0);
+                if answer != expected {
+                    return Err(format!("batch {}, room for {}: the answer is {:?}, and must be {:?}", batch, fit, answer, expected));
+                }
+                if let Some(fault) = store.fault_past(&written[..fit * PAGE_SIZE]) {
+                    return Err(format!("batch {}, room for {}: {}", batch, fit, fault));
+                }
+                store.restore();
+            }
+            return match store.fault() {
+                None => Ok(format!(
+                    "the tallest tree: {} batches of four, {} pages of 256 bytes, height 8; the next one TooTall after {} pages",
+                    batch, before, at,
+                )),
+                Some(fault) => Err(fault),
+            };
+        }
+        store.grow(&written);
+        if batch % WHOLE_EVERY == 0 {
+            if let Some(fault) = store.fault() {
+                return Err(format!("up to batch {}: {}", batch, fault));
+            }
+        }
+        entry = Entry::Insert(root);
+    }
+    Err(format!("{} batches, and no page of level 8", MOST_BATCHES))
+}

@@ -3,3 +3,4 @@ pub mod Value
 pub mod Word
 pub mod Datom
 pub mod Laws
+pub mod Bytes

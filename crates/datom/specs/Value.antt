@@ -1,9 +1,10 @@
 -- Values: which words are one, and what each stands for.
-use Prim.Native.Nat.{ℕ, _/_, _%_, _^_}
+use Prim.Native.Nat.{ℕ, _+_, _*_, _/_, _%_, _^_}
 use mathlib.Core.Bool.{Bool, true, false, _&&_, _||_, cond}
 use mathlib.Core.List.{List}
 use lib.Dec.{leb, ltb, eqb}
-use Rattle.store.specs.Words.{bytesOf}
+use lib.ListN.{length}
+use Rattle.store.specs.Words.{little, bytesOf}
 use Rattle.datom.specs.declared.Value.{Value}
 use Rattle.datom.specs.declared.Inline.{Inline}
 use Rattle.datom.specs.declared.Inline.the-variants.{Made, TooLarge}
@@ -47,3 +48,7 @@ inlineInt n = cond (ltb n (2 ^ 62)) (Made (record { 0 = n })) TooLarge
 -- a flag, as the integer 1 or 0
 abbrev pub boolInt : Bool → Value
 boolInt b = cond b (record { 0 = 1 }) (record { 0 = 0 })
+
+-- a byte string in the word itself: the tag, the length, and the bytes, the first one lowest
+abbrev pub inlineStr : List ℕ → Inline
+inlineStr b = cond (leb (length b) 7) (Made (record { 0 = 2 ^ 63 + length b * 2 ^ 56 + little b })) TooLarge

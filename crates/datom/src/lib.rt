@@ -2,7 +2,8 @@
 ghost use mathlib.Core.Path.{_≡_};
 ghost use Prim.Native.Nat.{_+_, _^_, _-_, _≤_};
 ghost use lib.ListN.{length};
-ghost use Rattle.datom.specs.Value.{isInt, isStr, isMax, storedValue, boundValue, inlineInt, boolInt};
+ghost use Rattle.store.specs.Words.{little};
+ghost use Rattle.datom.specs.Value.{isInt, isStr, isMax, storedValue, boundValue, inlineInt, boolInt, inlineStr};
 ghost use Rattle.datom.specs.Datom.{datomAt, storedDatom, boundDatom};
 ghost use Rattle.datom.specs.Word.{lastWord, transactionOf, operationOf};
 
@@ -190,6 +191,33 @@ impl Value {
     {
         if value { Value(1) } else { Value(0) }
     }
+
+    // A byte string of at most seven bytes.
+    pub fn from_bytes_inline(bytes: &[u8]) -> Inline
+        ensures { λ r. ⌜ r ≡ inlineStr (now (bytes .entry)) ⌝ }
+    {
+        let n = bytes.len();
+        if 7 < n {
+            return Inline::TooLarge;
+        }
+        let word = joined(bytes);
+        Inline::Made(Value(Value::TAG_BYTES + n as u64 * 0x100_0000_0000_0000 + word))
+    }
+}
+
+// A few bytes as a number, the first one lowest.
+fn joined(bytes: &[u8]) -> u64
+    requires { ⌜ length (now bytes) ≤ 7 ⌝ }
+    ensures { λ r. ⌜ r ≡ little (now (bytes .entry)) ⌝ }
+{
+    let mut word = 0;
+    let mut i = bytes.len();
+    while 0 < i {
+        i -= 1;
+        let byte = bytes[i] as u64;
+        word = byte + 256 * word;
+    }
+    word
 }
 
 // The first number that n bytes do not hold.

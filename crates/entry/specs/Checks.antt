@@ -1,9 +1,8 @@
 -- The refusals before anything is written, one after another, as the entries find them.
-use Prim.Native.Nat.{ℕ, _*_, _≤_, _<_, _/_}
-use native.Mathlib.Omega.{arith}
-use mathlib.Core.Bool.{Bool, true, false, _||_, cond}
+use Prim.Native.Nat.{ℕ, _*_, _≤_, _<_}
+use mathlib.Core.Bool.{Bool, true, false, cond}
 use mathlib.Core.List.{List, []}
-use mathlib.Core.Logic.{_⊎_, inl, inr}
+use mathlib.Core.Logic.{inl, inr}
 use mathlib.Core.Path.{_≡_, refl, sym, _∙_, ap}
 use borrow.Author.Tests.{ltb-false, lt-ltb, le-ltb}
 use lib.Dec.{ltb}
@@ -12,16 +11,16 @@ use Rattle.store.specs.declared.PageId.{PageId}
 use Rattle.store.specs.declared.Extent.{Extent}
 use Rattle.store.specs.Page.{isNone}
 use Rattle.store.specs.Size.{capacity, scratchNeed}
-use Rattle.store.specs.Laws.{apart, cells-length}
+use Rattle.store.specs.Laws.{apart}
 use Rattle.datom.specs.declared.Datom.{Datom}
-use Rattle.datom.specs.Datom.{datomOf, datomsOf, storedDatom}
+use Rattle.datom.specs.Datom.{datomsOf, storedDatom}
 use Rattle.index.specs.Order.{cmpEavt, eavt}
 use Rattle.answer.specs.declared.Refusal.{Refusal}
 use Rattle.answer.specs.declared.Refusal.the-variants.{BadStore, NoPage}
-use Rattle.rules.specs.Tree.{Fetched, faulty, fine, Env, insertTree}
+use Rattle.rules.specs.Tree.{Fetched, Env}
 use Rattle.rules.specs.Lookup.{Finding, clear, found}
-use Rattle.rules.specs.Store.{refuseIf, orElse, badStore, badScratch, badRoot, fetchPage, envOf}
-use Rattle.rules.specs.Insert.{Outcome, refuse, outcome, storeFault, countFault, formFault, orderFault, twinFault, rootFault, sort, writeFresh, insertAt, insertUnder, insert, initialise, bytesFault, batchOf, insertBytes, initialiseBytes}
+use Rattle.rules.specs.Store.{orElse, badStore, badScratch, badRoot, fetchPage, envOf}
+use Rattle.rules.specs.Insert.{Outcome, refuse, outcome, storeFault, countFault, formFault, orderFault, twinFault, rootFault, sort, writeFresh, insertUnder, insert, initialise, bytesFault, batchOf, insertBytes, initialiseBytes}
 use Rattle.batch.specs.declared.Count.{Count}
 use Rattle.batch.specs.declared.Count.the-variants.{Datoms, Refused}
 use Rattle.batch.specs.Finding.{counted, Given, given-count, refused-count}
@@ -101,10 +100,6 @@ module _ (x : Extent) (s : List ℕ) (L : ℕ) (b : List ℕ) where
       side false u false v = (u, ltb-false L (scratchNeed (capacity (x .size))) v)
 
   -- the two entries over bytes begin alike
-  begun : (Outcome → Outcome → Type 0) → Type 0
-  begun P = (rest : Outcome) →
-      P (orElse refuse (storeFault x s L) (orElse refuse (bytesFault b) (orElse refuse (storeFault x s L) (orElse refuse (countFault (batchOf b)) rest)))) rest
-
   refused-begun :
       (r : Refusal) → countFor x s L b ≡ Refused r → (rest : Outcome) →
       orElse refuse (storeFault x s L) (orElse refuse (bytesFault b) (orElse refuse (storeFault x s L) (orElse refuse (countFault (batchOf b)) rest))) ≡ refuse r

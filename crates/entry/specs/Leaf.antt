@@ -1,5 +1,5 @@
 -- A batch laid into the scratch: as the leaf that initialise begins with, or behind the area.
-use Prim.Native.Nat.{ℕ, suc, _+_, _*_, _≤_, _^_}
+use Prim.Native.Nat.{ℕ, suc, _+_, _*_, _≤_}
 use native.Mathlib.Numerals.{add-one}
 use native.Mathlib.Omega.{arith}
 use mathlib.Core.List.{List, [], _∷_, _++_}
@@ -8,7 +8,7 @@ use lib.ListN.{length, take, drop, replicate, replicate-append-replicate}
 use lib.Seq.{take-at, take-take}
 use Rattle.store.specs.declared.PageId.{PageId}
 use Rattle.store.specs.Words.{cells, patch}
-use Rattle.store.specs.Page.{none, pageOf, pageBytes}
+use Rattle.store.specs.Page.{none, pageBytes}
 use Rattle.store.specs.Laws.{cells-length, page-length}
 use Rattle.store.specs.Cells.{take-patch, drop-patch, patch-length, cells-front}
 use Rattle.datom.specs.declared.Datom.{Datom}

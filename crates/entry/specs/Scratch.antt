@@ -4,9 +4,8 @@ use native.Mathlib.Nat.{add-zero, mul-le-mul-right}
 use native.Mathlib.Omega.{arith}
 use mathlib.Core.List.{List}
 use mathlib.Core.Path.{_≡_, refl}
-use lib.ListN.{length}
 use Rattle.store.specs.declared.Extent.{Extent}
-use Rattle.store.specs.Size.{capacity, roomFor, scratchNeed}
+use Rattle.store.specs.Size.{roomFor, scratchNeed}
 use Rattle.store.specs.Laws.{Known}
 use Rattle.memory_store.specs.FetchLaws.{InOrder, in-order}
 use Rattle.htree.specs.Told.{Ready}

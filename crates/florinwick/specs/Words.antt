@@ -1,12 +1,12 @@
 -- The answer's four words in their area, and the reply of a call.
-use Prim.Native.Nat.{ℕ, _+_, _*_, _≤_}
+use Prim.Native.Nat.{ℕ, _+_, _≤_}
 use native.Mathlib.Omega.{arith}
-use mathlib.Core.Bool.{Bool, true, false, cond}
-use mathlib.Core.List.{List, [], _∷_, _++_, append-nil, append-assoc}
+use mathlib.Core.Bool.{Bool, cond}
+use mathlib.Core.List.{List, _++_, append-nil, append-assoc}
 use mathlib.Core.Path.{_≡_, refl, sym, _∙_, ap}
 use borrow.Author.Tests.{eq-eqb, ne-eqb}
 use lib.Dec.{eqb}
-use lib.ListN.{length, drop, length-append, drop-of-length-le}
+use lib.ListN.{length, length-append, drop-of-length-le}
 use Rattle.store.specs.declared.PageId.{PageId}
 use Rattle.store.specs.declared.Extent.{Extent}
 use Rattle.store.specs.Words.{bytesOf, spread, patch}
@@ -14,7 +14,6 @@ use Rattle.store.specs.Size.{capacity, scratchNeed}
 use Rattle.store.specs.Laws.{bytes-length}
 use Rattle.answer.specs.declared.Answer.{Answer}
 use Rattle.answer.specs.Table.{Words, answerWords}
-use Rattle.rules.specs.Store.{storeAfter}
 use Rattle.rules.specs.Insert.{Outcome}
 use Rattle.rules.specs.Entry.{wordBytes, Reply, reply}
 use Rattle.htree.specs.Wrote.{patch-patch}

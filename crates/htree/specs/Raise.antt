@@ -1,5 +1,5 @@
 -- The whole of an insert at a root: what comes back of the root's page is the top, one level higher.
-use Prim.Native.Nat.{ℕ, zero, suc, _+_, _*_, _≤_}
+use Prim.Native.Nat.{ℕ, zero, suc, _+_, _≤_}
 use native.Mathlib.Omega.{arith}
 use mathlib.Core.Bool.{Bool, true, false}
 use mathlib.Core.List.{List, _∷_, [], _++_}
@@ -13,7 +13,7 @@ use Rattle.index.specs.Order.{eavt}
 use Rattle.answer.specs.declared.Refusal.{Refusal}
 use Rattle.rules.specs.Page.{Node, nodeOf}
 use Rattle.rules.specs.Node.{meets, mergeNode}
-use Rattle.rules.specs.Tree.{Fetched, faulty, fine, Env, Stage, stop, go, then, fetchAt, put, split, isOver, settle, flushAll, insertMerged, insertInto, writeRoot}
+use Rattle.rules.specs.Tree.{Fetched, faulty, fine, Env, Stage, stop, go, then, fetchAt, put, isOver, settle, insertMerged, insertInto, writeRoot}
 use Rattle.rules.specs.Store.{envOf}
 use Rattle.rules.specs.Sizes.{level-is}
 use Rattle.htree.specs.declared.place.Inserted.the-variants as inserted

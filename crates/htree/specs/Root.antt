@@ -1,5 +1,5 @@
 -- The top: midpoints are split while there are too many for a page; then one child is the root, or several are written as the root.
-use Prim.Native.Nat.{ℕ, zero, suc, pred, _+_, _-_, _*_, _≤_, _<_}
+use Prim.Native.Nat.{ℕ, zero, suc, _+_, _-_, _*_, _≤_, _<_}
 use native.Mathlib.Nat.{add-zero}
 use native.Mathlib.Omega.{arith}
 use mathlib.Core.Bool.{Bool, true, false}
@@ -11,9 +11,7 @@ use Rattle.store.specs.declared.Extent.{Extent}
 use Rattle.store.specs.Words.{little, wordAt, cells}
 use Rattle.store.specs.Page.{page, pageOf}
 use Rattle.store.specs.Size.{capacity}
-use Rattle.store.specs.Laws.{Known, apart, cells-length}
-use Rattle.store.specs.Cells.{pages-from}
-use Rattle.datom.specs.Datom.{datomOf}
+use Rattle.store.specs.Laws.{Known, apart}
 use Rattle.index.specs.Order.{eavt}
 use Rattle.answer.specs.declared.Refusal.{Refusal}
 use Rattle.rules.specs.Page.{Node, nodeOf}

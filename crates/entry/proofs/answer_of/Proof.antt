@@ -1,5 +1,5 @@
 -- `answer_of` meets its contract. Assumes nothing.
-use mathlib.Core.Path.{_≡_, refl, sym, _∙_, ap}
+use mathlib.Core.Path.{sym, ap}
 use Rattle.entry.specs.Reply.{answerOf}
 use borrow.Author.Needs.{needs}
 use Rattle.entry.proofs.answer_of.Statement.{statement}

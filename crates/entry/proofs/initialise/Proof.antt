@@ -1,5 +1,5 @@
 -- `initialise` meets its contract on every input: 1 and 2, then the rest. Assumes nothing.
-use mathlib.Core.Path.{_≡_, refl, sym, _∙_, ap}
+use mathlib.Core.Path.{sym, _∙_}
 use lib.ListN.{length}
 use Rattle.entry.specs.Reply.{Replies, replies-refused}
 use Rattle.entry.specs.Checks.{initialise-refused, initialise-counted, passed}

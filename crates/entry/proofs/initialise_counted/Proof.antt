@@ -1,5 +1,5 @@
 -- `initialise_counted` meets its contract: what the checks find is refused, else the sorted batch is written. Assumes nothing.
-use mathlib.Core.Path.{_≡_, refl, sym, _∙_, ap}
+use mathlib.Core.Path.{refl, sym, _∙_, ap}
 use mathlib.Core.List.{[]}
 use Rattle.batch.specs.Finding.{findingOf}
 use Rattle.entry.specs.Reply.{Replies, replies-refused, replies}

@@ -1,6 +1,5 @@
 -- `florinwick_fetch` meets its contract on every input. Assumes nothing.
-use mathlib.Core.Path.{_≡_, refl, sym, _∙_, ap}
-use Rattle.answer.specs.Table.{fetchWords}
+use mathlib.Core.Path.{refl}
 use Rattle.florinwick.specs.Words.{Tells, Fetched, no-fetch, told-fetch}
 use borrow.Author.Needs.{needs}
 use Rattle.florinwick.proofs.florinwick_fetch.Statement.{statement}

@@ -1,5 +1,4 @@
 -- `florinwick_initialise` meets its contract on every input. Assumes nothing.
-use mathlib.Core.Path.{_≡_, refl, sym, _∙_, ap}
 use Rattle.rules.specs.Entry.{initialiseReply}
 use Rattle.florinwick.specs.Words.{no-area, told-reply}
 use borrow.Author.Needs.{needs}

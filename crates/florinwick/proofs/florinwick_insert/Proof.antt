@@ -1,5 +1,4 @@
 -- `florinwick_insert` meets its contract on every input. Assumes nothing.
-use mathlib.Core.Path.{_≡_, refl, sym, _∙_, ap}
 use Rattle.rules.specs.Entry.{insertReply}
 use Rattle.florinwick.specs.Words.{no-area, told-reply}
 use borrow.Author.Needs.{needs}

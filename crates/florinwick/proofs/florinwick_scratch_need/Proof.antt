@@ -1,5 +1,5 @@
 -- `florinwick_scratch_need` meets its contract. Assumes nothing.
-use mathlib.Core.Path.{_≡_, refl, sym, _∙_, ap}
+use mathlib.Core.Path.{sym, _∙_, ap}
 use native.Mathlib.Omega.{arith}
 use Rattle.store.specs.Size.{scratchNeed}
 use Rattle.store.specs.Laws.{Known, known-size}

@@ -1,5 +1,4 @@
 -- `put_words` meets its contract. Assumes nothing.
-use mathlib.Core.Path.{_≡_, refl, sym, _∙_, ap}
 use Rattle.florinwick.specs.Words.{four-words}
 use borrow.Author.Needs.{needs}
 use Rattle.florinwick.proofs.put_words.Statement.{statement}

@@ -1,7 +1,6 @@
 -- `tell` meets its contract: the words of document 01's table. Assumes nothing.
-use mathlib.Core.Path.{_≡_, refl, sym, _∙_, ap}
+use mathlib.Core.Path.{refl}
 use Rattle.answer.specs.declared.Answer.{Answer}
-use Rattle.answer.specs.Table.{answerWords}
 use Rattle.florinwick.specs.Words.{Tells}
 use borrow.Author.Needs.{needs}
 use Rattle.florinwick.proofs.tell.Statement.{statement}

@@ -1,6 +1,6 @@
 -- `count_of` meets its contract: 1, then 2. Assumes nothing.
 use Rattle.store.specs.Size.{scratchNeed}
-use mathlib.Core.Path.{_≡_, refl, sym, _∙_, ap}
+use mathlib.Core.Path.{sym, _∙_, ap}
 use native.Mathlib.Omega.{arith}
 use Rattle.store.specs.Laws.{Known}
 use Rattle.memory_store.specs.FetchLaws.{InOrder, in-order}

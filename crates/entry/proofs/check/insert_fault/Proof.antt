@@ -1,5 +1,5 @@
 -- `insert_fault` meets its contract: 3, then 4, then 5 to 7. Assumes nothing.
-use mathlib.Core.Path.{_≡_, refl, sym, _∙_, ap}
+use mathlib.Core.Path.{sym, _∙_, ap}
 use Rattle.batch.specs.Finding.{findingOf}
 use Rattle.entry.specs.Checks.{fault-form, fault-order, fault-rest}
 use borrow.Author.Needs.{needs}

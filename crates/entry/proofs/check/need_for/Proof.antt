@@ -1,6 +1,5 @@
 -- `need_for` meets its contract. Assumes nothing.
 use native.Mathlib.Omega.{arith}
-use Prim.Native.Nat.{_+_, _*_}
 use Rattle.entry.specs.Scratch.{room-is, need-is}
 use borrow.Author.Needs.{needs}
 use Rattle.entry.proofs.check.need_for.Statement.{statement}

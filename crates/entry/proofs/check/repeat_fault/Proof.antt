@@ -1,5 +1,5 @@
 -- `repeat_fault` meets its contract: 5, then 6 and 7. Assumes nothing.
-use mathlib.Core.Path.{_≡_, refl, sym, _∙_, ap}
+use mathlib.Core.Path.{sym, _∙_}
 use native.Mathlib.Omega.{arith}
 use Rattle.entry.specs.Checks.{repeat-none, repeat-missing, repeat-looks}
 use borrow.Author.Needs.{needs}

@@ -1,6 +1,6 @@
 -- `clear_children` meets its contract: none is stored at one index after another. Assumes nothing.
 use borrow.Author.Needs.{needs}
-use mathlib.Core.Path.{_≡_, refl, sym, _∙_, ap}
+use mathlib.Core.Path.{_≡_}
 use native.Mathlib.Omega.{arith}
 use Prim.Native.Nat.{_+_, _-_, _≤_}
 use Rattle.entry.specs.Leaf.{Cleared, cleared-start, cleared-on}

@@ -1,10 +1,9 @@
 -- `fresh` meets its contract: the batch is laid to the front. Assumes nothing.
-use mathlib.Core.Path.{_≡_, refl, sym, _∙_, ap}
+use mathlib.Core.Path.{refl, _∙_, ap}
 use native.Mathlib.Omega.{arith}
-use Prim.Native.Nat.{_+_, _*_}
 use Rattle.datom.specs.Datom.{datomsOf}
 use Rattle.entry.specs.Checks.{Roomy, Passed}
-use Rattle.entry.specs.Scratch.{room-is, need-is, roomy-area, roomy-small}
+use Rattle.entry.specs.Scratch.{roomy-area, roomy-small}
 use Rattle.entry.specs.Leaf.{batch-put}
 use borrow.Author.Needs.{needs}
 use Rattle.entry.proofs.write.fresh.Statement.{statement}

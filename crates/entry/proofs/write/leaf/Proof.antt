@@ -1,7 +1,5 @@
 -- `leaf` meets its contract: the area holds a leaf, and its top is the root. Assumes nothing.
-use mathlib.Core.Path.{_≡_, refl, sym, _∙_, ap}
 use native.Mathlib.Omega.{arith}
-use Prim.Native.Nat.{_+_, _*_}
 use Rattle.entry.specs.Scratch.{roomy-few, roomy-ready, roomy-small, roomy-area}
 use Rattle.entry.specs.Leaf.{Cleared, fresh-front, cleared-leaf}
 use borrow.Author.Needs.{needs}

@@ -1,13 +1,12 @@
 -- `sorted` meets its contract: the batch is laid to the front and sorted there. Assumes nothing.
-use mathlib.Core.Path.{_≡_, refl, sym, _∙_, ap}
+use mathlib.Core.Path.{refl, _∙_, ap}
 use native.Mathlib.Omega.{arith}
-use Prim.Native.Nat.{_+_, _*_}
 use Rattle.datom.specs.Datom.{datomsOf}
 use Rattle.index.specs.Order.{cmpEavt}
 use Rattle.rules.specs.Insert.{sort}
 use Rattle.batch.specs.Sorting.{Sorted}
 use Rattle.entry.specs.Checks.{Roomy, Passed}
-use Rattle.entry.specs.Scratch.{room-is, need-is, roomy-area, roomy-small}
+use Rattle.entry.specs.Scratch.{roomy-area, roomy-small}
 use Rattle.entry.specs.Leaf.{batch-put}
 use borrow.Author.Needs.{needs}
 use Rattle.entry.proofs.write.sorted.Statement.{statement}

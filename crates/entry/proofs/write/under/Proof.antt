@@ -1,12 +1,11 @@
 -- `under` meets its contract: the root's page is read, the batch lies behind the area, and what comes back is the top. Assumes nothing.
-use mathlib.Core.Path.{_≡_, refl, sym, _∙_, ap}
+use mathlib.Core.Path.{sym, _∙_, ap}
 use native.Mathlib.Omega.{arith}
 use Prim.Native.Nat.{_+_, _*_}
-use lib.ListN.{length}
 use Rattle.store.specs.Laws.{Known}
 use Rattle.datom.specs.Datom.{datomsOf}
 use Rattle.memory_store.specs.Reading.{told}
-use Rattle.memory_store.specs.FetchLaws.{InOrder, in-order}
+use Rattle.memory_store.specs.FetchLaws.{InOrder}
 use Rattle.htree.specs.Told.{Ready}
 use Rattle.htree.specs.Raise.{raise-stops, raise-ready, raise-few, raise-goes}
 use Rattle.entry.specs.Checks.{Roomy, Passed}

@@ -1,7 +1,5 @@
 -- `top` meets its contract: one child is the root, several are written as the root. Assumes nothing.
 use native.Mathlib.Omega.{arith}
-use mathlib.Core.Path.{_≡_, sym}
-use Prim.Native.Nat.{_+_, _*_}
 use Rattle.htree.specs.Told.{Ready}
 use Rattle.htree.specs.Settle.{whole-part, ready-next}
 use Rattle.htree.specs.Root.{top-one, top-put, top-refused}

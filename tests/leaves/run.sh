@@ -3,14 +3,9 @@
 # page of the recorded answers and on damaged copies of each. Ends with "N passed, M failed" and fails unless M is 0.
 set -euo pipefail
 
-here=$(cd "$(dirname "${BASH_SOURCE[0]}")" && pwd)
-repo=$(cd "$here/../.." && pwd)
-cd "$repo"
+cd "$(dirname "${BASH_SOURCE[0]}")/../.."
+# shellcheck source=../oracle/steps.sh
+source tests/oracle/steps.sh
 
-rt staticlib probe > /dev/null
-bash tests/oracle/build.sh
-mkdir -p build/leaves
-rustc --edition 2021 --crate-name leaves -D warnings -C opt-level=2 -C debug-assertions=on -C overflow-checks=on \
-    -C codegen-units=1 -L build/oracle --extern harness -L target/staticlib -l static=probe \
-    --out-dir build/leaves "$here/main.rs"
+build_against probe leaves
 build/leaves/leaves tests/oracle/recorded/answers.bin

@@ -16,28 +16,12 @@ if [ ! -x "$sound/oracle" ]; then
     exit 1
 fi
 
-# Applies a sed script to the file with the fault, and fails if that changes nothing.
-put_fault() {
-    local file
-    case $1 in
-        htree) file=$out/source/patched/htree.rs ;;
-        datom) file=$out/harness/datom.rs ;;
-        *) echo "$0: faults.txt names an unknown file $1" >&2; exit 1 ;;
-    esac
-    cp "$file" "$out/before"
-    sed -i -e "$2" "$file"
-    if cmp --quiet "$out/before" "$file"; then
-        echo "$0: \`$2\` changes nothing in $1" >&2
-        exit 1
-    fi
-}
-
 refused=0 missed=0
 while IFS='|' read -r file name script; do
     rm -rf "$out"
     mkdir -p "$out"
     cp -r "$sound/source" "$sound/libnoblit_plain.rlib" "$here/harness" "$out/"
-    put_fault "$file" "$script"
+    put_fault "$(rust_file "$file")" "$script" "$file"
     build_noblit patched
     build_harness "$out/harness"
     build_driver

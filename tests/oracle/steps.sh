@@ -17,3 +17,38 @@ build_driver() {
     rustc --edition 2021 --crate-type bin --crate-name oracle -D warnings \
         "${flags[@]}" -L "$out" --extern harness --out-dir "$out" "$here/driver/main.rs"
 }
+
+# A test program NAME over the archive of a crate and the harness: its archive, both builds of the Rust, then the program, in
+# build/NAME. To be called in the repository.
+build_against() {
+    local crate=$1 name=$2
+    rt staticlib "$crate" > /dev/null
+    bash tests/oracle/build.sh
+    mkdir -p "build/$name"
+    rustc --edition 2021 --crate-name "$name" -D warnings -C opt-level=2 -C debug-assertions=on -C overflow-checks=on \
+        -C codegen-units=1 -L build/oracle --extern harness -L target/staticlib -l "static=$crate" \
+        --out-dir "build/$name" "tests/$name/main.rs"
+}
+
+# Where the Rust and the harness lie in a copy that gets a fault; nothing for another name.
+rust_file() {
+    case $1 in
+        htree) echo "$out/source/patched/htree.rs" ;;
+        datom) echo "$out/harness/datom.rs" ;;
+    esac
+}
+
+# Applies a sed script to the file with the fault, and fails if there is none or that changes nothing.
+put_fault() {
+    local file=$1 script=$2 name=$3
+    if [ -z "$file" ]; then
+        echo "$0: faults.txt names an unknown file $name" >&2
+        exit 1
+    fi
+    cp "$file" "$out/before"
+    sed -i -e "$script" "$file"
+    if cmp --quiet "$out/before" "$file"; then
+        echo "$0: \`$script\` changes nothing in $name" >&2
+        exit 1
+    fi
+}

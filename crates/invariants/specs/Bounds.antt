@@ -3,9 +3,10 @@ use Prim.Native.Nat.{ℕ, _*_, _<_, _≤_}
 use mathlib.Core.Bool.{Bool, true}
 use mathlib.Core.List.{List, [], _∷_}
 use mathlib.Core.Option.{Option, none as nothing, some}
-use mathlib.Core.Path.{_≡_, sym}
+use mathlib.Core.Path.{_≡_, refl, sym}
 use lib.ListN.{drop}
 use Rattle.store.specs.Cells.{cells-end}
+use Rattle.store.specs.Laws.{apart}
 use Rattle.datom.specs.declared.Datom.{Datom}
 use Rattle.datom.specs.Datom.{datomAt, datomOf, datomsOf}
 use Rattle.datom.specs.Laws.{datoms-from}
@@ -17,6 +18,14 @@ use Rattle.invariants.specs.declared.bound.Bound.the-variants.{Nothing, 
 unfoldable pub boundOf : Bound → Option Datom
 boundOf Nothing = nothing
 boundOf (At d) = some d
+
+-- two bounds that say the same are the same
+pub bound-once : (a b : Bound) → boundOf a ≡ boundOf b → a ≡ b
+unfolding boundOf
+bound-once Nothing Nothing e = refl
+bound-once Nothing (At d) e = absurd (apart (cc))
+bound-once (At d) Nothing e = absurd (apart (cc))
+bound-once (At d) (At x) e = cc
 
 -- what is above the child in front of the datoms left: the first of them, and past the last the page's upper bound
 unfoldable pub boundAt : List Datom → Option Datom → Option Datom

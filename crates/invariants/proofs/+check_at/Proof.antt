@@ -72,7 +72,7 @@ returns t c = let a = c .before .before .before .args in let P = c .before .befo
 
 returns-2 : (t : ℕ) → lts.Need-returns-2 (calls t) (at t) check-at.Post Inv-loop μ-loop
 returns-2 t c = let a = c .before .before .before .before .before .args in let P = c .before .before .before .before .before .pre .1 in
-    page-other (a .extent) (a .store .now) (a .level) (a .page) (boundOf (a .lower)) (boundOf (a .upper)) _ _ (told-fine (a .extent) (a .store .now) (a .page) (c .before .before .found .given .0 .0) (c .before .before .found .given .0 .1 .0) (sym (ap (told (a .extent) (a .store .now) (a .page)) (c .before .before .found .given .1)) ∙ P .2)) (c .if1 .taken)
+    page-other (a .extent) (a .store .now) (a .level) (a .page) (boundOf (a .lower)) (boundOf (a .upper)) _ _ (told-fine (a .extent) (a .store .now) (a .page) (c .before .before .found .given .0 .0) (c .before .before .found .given .0 .1 .0) (sym (ap (told (a .extent) (a .store .now) (a .page)) (c .before .before .found .given .1)) ∙ P .2)) (omega (arith, c .if1 .taken))
 
 fetch-requires : (t : ℕ) → lts.Need-fetch-requires (calls t) (at t) check-at.Post Inv-loop μ-loop
 fetch-requires t c κs = search needs

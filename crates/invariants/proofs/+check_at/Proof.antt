@@ -67,19 +67,24 @@ enum-told : (t : ℕ) → lts.Need-enum-told (calls t) (at t) check-at.Post Inv-
 enum-told t c = search needs
 
 returns : (t : ℕ) → lts.Need-returns (calls t) (at t) check-at.Post Inv-loop μ-loop
-returns t c = let a = c .before .before .before .args in let P = c .before .before .before .pre .1 in
+returns t c = let a = c .before .before .before .args in
+    let P = c .before .before .before .pre .1 in
     page-faulty (a .extent) (a .store .now) (a .level) (a .page) (boundOf (a .lower)) (boundOf (a .upper)) _ (told-faulty (a .extent) (a .store .now) (a .page) _ (sym (ap (told (a .extent) (a .store .now) (a .page)) (c .enum-told .given .1)) ∙ P .2))
 
 returns-2 : (t : ℕ) → lts.Need-returns-2 (calls t) (at t) check-at.Post Inv-loop μ-loop
-returns-2 t c = let a = c .before .before .before .before .before .args in let P = c .before .before .before .before .before .pre .1 in
-    page-other (a .extent) (a .store .now) (a .level) (a .page) (boundOf (a .lower)) (boundOf (a .upper)) _ _ (told-fine (a .extent) (a .store .now) (a .page) (c .before .before .found .given .0 .0) (c .before .before .found .given .0 .1 .0) (sym (ap (told (a .extent) (a .store .now) (a .page)) (c .before .before .found .given .1)) ∙ P .2)) (omega (arith, c .if1 .taken))
+returns-2 t c = let a = c .before .before .before .before .before .args in
+    let P = c .before .before .before .before .before .pre .1 in
+    let g = c .before .before .found .given in
+    page-other (a .extent) (a .store .now) (a .level) (a .page) (boundOf (a .lower)) (boundOf (a .upper)) _ _ (told-fine (a .extent) (a .store .now) (a .page) (g .0 .0) (g .0 .1 .0) (sym (ap (told (a .extent) (a .store .now) (a .page)) (g .1)) ∙ P .2)) (omega (arith, c .if1 .taken))
 
 fetch-requires : (t : ℕ) → lts.Need-fetch-requires (calls t) (at t) check-at.Post Inv-loop μ-loop
 fetch-requires t c κs = search needs
 
 loop-holds : (t : ℕ) → lts.Need-loop-holds (calls t) (at t) check-at.Post Inv-loop μ-loop
-loop-holds t c = let a = c .before .before .before .before .before .before .args in let P = c .before .before .before .before .before .before .pre .1 in
-    along-start (a .extent) (a .store .now) (a .c) (a .level) (a .page) _ _ _ (boundOf (a .lower)) (boundOf (a .upper)) (P .0) (P .1) (told-fine (a .extent) (a .store .now) (a .page) (c .before .before .before .found .given .0 .0) (c .before .before .before .found .given .0 .1 .0) (sym (ap (told (a .extent) (a .store .now) (a .page)) (c .before .before .before .found .given .1)) ∙ P .2)) (c .before .if1 .left) (c .fetch .ensures)
+loop-holds t c = let a = c .before .before .before .before .before .before .args in
+    let P = c .before .before .before .before .before .before .pre .1 in
+    let g = c .before .before .before .found .given in
+    along-start (a .extent) (a .store .now) (a .c) (a .level) (a .page) _ _ _ (boundOf (a .lower)) (boundOf (a .upper)) (P .0) (P .1) (told-fine (a .extent) (a .store .now) (a .page) (g .0 .0) (g .0 .1 .0) (sym (ap (told (a .extent) (a .store .now) (a .page)) (g .1)) ∙ P .2)) (c .before .if1 .left) (c .fetch .ensures)
 
 bound-at-requires : (t : ℕ) → lts.Need-bound-at-requires (calls t) (at t) check-at.Post Inv-loop μ-loop
 bound-at-requires t c κs = along-datoms (c .before .loop .inv)
@@ -103,10 +108,20 @@ node-at-requires : (t : ℕ) → lts.Need-node-at-requires (calls t) (at t) chec
 node-at-requires t c κs = let A = c .before .before .before .before .before .before .before .loop .inv in (A .good, A .room)
 
 sub-check-at : (t : ℕ) → lts.Need-sub-check-at (calls t) (at t) check-at.Post Inv-loop μ-loop
-sub-check-at t c = let up = along-above (c .before .before .before .before .before .before .before .before .loop .inv) (c .before .before .before .before .before .before .before .loop-test .taken) _ (c .before .before .before .before .before .before .bound-at .ensures) (sym (c .before .before .before .before .before .is-below .ensures) ∙ not-false _ (c .before .before .before .before .if2 .left)) _ (c .before .before .before .child-at .ensures) (sym (c .before .before .is-none .ensures) ∙ not-true _ (c .before .if3 .taken)) in omega (arith, up)
+sub-check-at t c = let k = c .before .before .before in
+    let up = along-above (k .before .before .before .before .before .loop .inv) (k .before .before .before .before .loop-test .taken) _ (k .before .before .before .bound-at .ensures)
+    (sym (k .before .before .is-below .ensures) ∙ not-false _ (k .before .if2 .left)) _ (k .child-at .ensures)
+    (sym (c .before .before .is-none .ensures) ∙ not-true _ (c .before .if3 .taken)) in
+    omega (arith, up)
 
 check-at-requires : (t : ℕ) → lts.Need-check-at-requires (calls t) (at t) check-at.Post Inv-loop μ-loop
-check-at-requires t c κs = let A = c .before .before .before .before .before .before .before .before .loop .inv in let up = along-above (c .before .before .before .before .before .before .before .before .loop .inv) (c .before .before .before .before .before .before .before .loop-test .taken) _ (c .before .before .before .before .before .before .bound-at .ensures) (sym (c .before .before .before .before .before .is-below .ensures) ∙ not-false _ (c .before .before .before .before .if2 .left)) _ (c .before .before .before .child-at .ensures) (sym (c .before .before .is-none .ensures) ∙ not-true _ (c .before .if3 .taken)) in let z = c .before .before .before .before .before .before .before .before .before .before .before .before .before .before .before .pre .0 in (omega (arith, up, z), (A .good, A .room, c .node-at .ensures))
+check-at-requires t c κs = let k = c .before .before .before in
+    let A = k .before .before .before .before .before .loop .inv in
+    let up = along-above (k .before .before .before .before .before .loop .inv) (k .before .before .before .before .loop-test .taken) _ (k .before .before .before .bound-at .ensures)
+    (sym (k .before .before .is-below .ensures) ∙ not-false _ (k .before .if2 .left)) _ (k .child-at .ensures)
+    (sym (c .before .before .is-none .ensures) ∙ not-true _ (c .before .if3 .taken)) in
+    let z = c .before .before .before .before .before .before .before .before .before .before .before .before .before .before .before .pre .0 in
+    (omega (arith, up, z), (A .good, A .room, c .node-at .ensures))
 
 enum-told-2 : (t : ℕ) → lts.Need-enum-told-2 (calls t) (at t) check-at.Post Inv-loop μ-loop
 enum-told-2 t c = search needs
@@ -115,25 +130,40 @@ loop-less : (t : ℕ) → lts.Need-loop-less (calls t) (at t) check-at.Post Inv-
 loop-less t c = search needs
 
 loop-again : (t : ℕ) → lts.Need-loop-again (calls t) (at t) check-at.Post Inv-loop μ-loop
-loop-again t c = along-sound (c .before .before .before .before .before .before .before .before .before .before .before .loop .inv) (c .before .before .before .before .before .before .before .before .before .before .loop-test .taken) _ (c .before .before .before .before .before .before .before .before .before .bound-at .ensures) (sym (c .before .before .before .before .before .before .before .before .is-below .ensures) ∙ not-false _ (c .before .before .before .before .before .before .before .if2 .left)) _ (c .before .before .before .before .before .before .child-at .ensures) (sym (c .before .before .before .before .before .is-none .ensures) ∙ not-true _ (c .before .before .before .before .if3 .taken)) _ (c .before .before .check-at .ensures) (c .enum-told2 .given .1)
+loop-again t c = let k = c .before .before .before .before .before .before in
+    along-sound (k .before .before .before .before .before .loop .inv) (k .before .before .before .before .loop-test .taken) _ (k .before .before .before .bound-at .ensures)
+    (sym (k .before .before .is-below .ensures) ∙ not-false _ (k .before .if2 .left)) _ (k .child-at .ensures)
+    (sym (c .before .before .before .before .before .is-none .ensures) ∙ not-true _ (c .before .before .before .before .if3 .taken)) _ (c .before .before .check-at .ensures)
+    (c .enum-told2 .given .1)
 
 enum-known-fault : (t : ℕ) → lts.Need-enum-known-fault (calls t) (at t) check-at.Post Inv-loop μ-loop
 enum-known-fault t c = search needs
 
 returns-4 : (t : ℕ) → lts.Need-returns-4 (calls t) (at t) check-at.Post Inv-loop μ-loop
-returns-4 t c = along-unsound (c .before .before .before .before .before .before .before .before .before .before .before .before .loop .inv) (c .before .before .before .before .before .before .before .before .before .before .before .loop-test .taken) _ (c .before .before .before .before .before .before .before .before .before .before .bound-at .ensures) (sym (c .before .before .before .before .before .before .before .before .before .is-below .ensures) ∙ not-false _ (c .before .before .before .before .before .before .before .before .if2 .left)) _ (c .before .before .before .before .before .before .before .child-at .ensures) (sym (c .before .before .before .before .before .before .is-none .ensures) ∙ not-true _ (c .before .before .before .before .before .if3 .taken)) _ (c .before .before .before .check-at .ensures) _ (c .before .fault .given .1)
+returns-4 t c = let k = c .before .before .before .before .before .before .before in
+    along-unsound (k .before .before .before .before .before .loop .inv) (k .before .before .before .before .loop-test .taken) _ (k .before .before .before .bound-at .ensures)
+    (sym (k .before .before .is-below .ensures) ∙ not-false _ (k .before .if2 .left)) _ (k .child-at .ensures)
+    (sym (c .before .before .before .before .before .before .is-none .ensures) ∙ not-true _ (c .before .before .before .before .before .if3 .taken)) _ (c .before .before .before .check-at .ensures)
+    _ (c .before .fault .given .1)
 
 enum-known-refusal : (t : ℕ) → lts.Need-enum-known-refusal (calls t) (at t) check-at.Post Inv-loop μ-loop
 enum-known-refusal t c = search needs
 
 returns-5 : (t : ℕ) → lts.Need-returns-5 (calls t) (at t) check-at.Post Inv-loop μ-loop
-returns-5 t c = along-refused (c .before .before .before .before .before .before .before .before .before .before .before .before .loop .inv) (c .before .before .before .before .before .before .before .before .before .before .before .loop-test .taken) _ (c .before .before .before .before .before .before .before .before .before .before .bound-at .ensures) (sym (c .before .before .before .before .before .before .before .before .before .is-below .ensures) ∙ not-false _ (c .before .before .before .before .before .before .before .before .if2 .left)) _ (c .before .before .before .before .before .before .before .child-at .ensures) (sym (c .before .before .before .before .before .before .is-none .ensures) ∙ not-true _ (c .before .before .before .before .before .if3 .taken)) _ (c .before .before .before .check-at .ensures) _ (c .before .refusal .given .1)
+returns-5 t c = let k = c .before .before .before .before .before .before .before in
+    along-refused (k .before .before .before .before .before .loop .inv) (k .before .before .before .before .loop-test .taken) _ (k .before .before .before .bound-at .ensures)
+    (sym (k .before .before .is-below .ensures) ∙ not-false _ (k .before .if2 .left)) _ (k .child-at .ensures)
+    (sym (c .before .before .before .before .before .before .is-none .ensures) ∙ not-true _ (c .before .before .before .before .before .if3 .taken)) _ (c .before .before .before .check-at .ensures)
+    _ (c .before .refusal .given .1)
 
 loop-less-2 : (t : ℕ) → lts.Need-loop-less-2 (calls t) (at t) check-at.Post Inv-loop μ-loop
 loop-less-2 t c = search needs
 
 loop-again-2 : (t : ℕ) → lts.Need-loop-again-2 (calls t) (at t) check-at.Post Inv-loop μ-loop
-loop-again-2 t c = along-none (c .before .before .before .before .before .before .before .loop .inv) (c .before .before .before .before .before .before .loop-test .taken) _ (c .before .before .before .before .before .bound-at .ensures) (sym (c .before .before .before .before .is-below .ensures) ∙ not-false _ (c .before .before .before .if2 .left)) _ (c .before .before .child-at .ensures) (sym (c .before .is-none .ensures) ∙ not-false _ (c .if3 .left))
+loop-again-2 t c = let k = c .before .before in
+    along-none (k .before .before .before .before .before .loop .inv) (k .before .before .before .before .loop-test .taken) _ (k .before .before .before .bound-at .ensures)
+    (sym (k .before .before .is-below .ensures) ∙ not-false _ (k .before .if2 .left)) _ (k .child-at .ensures)
+    (sym (c .before .is-none .ensures) ∙ not-false _ (c .if3 .left))
 
 returns-6 : (t : ℕ) → lts.Need-returns-6 (calls t) (at t) check-at.Post Inv-loop μ-loop
 returns-6 t c = along-end (c .before .loop .inv) (c .loop-test .left)

@@ -28,7 +28,7 @@ use Rattle.listing.specs.declared.descent.Seek.the-variants.{First}
 use Rattle.listing.specs.declared.descent.End.the-variants.{Bottom, Lost}
 use Rattle.listing.specs.Way.{framesOf}
 use Rattle.listing.specs.Descent.{testOf, childFrom, descentOf, downOf}
-use Rattle.listing.specs.Readable.{nodeAt}
+use Rattle.memory_store.specs.Readable.{nodeAt}
 use Rattle.listing.specs.Candidate.{nodeIn}
 use Rattle.listing.specs.Advance.{stays, taken, advanced, yieldOf}
 

@@ -23,7 +23,7 @@ use Rattle.rules.specs.Store.{badStore, pageAt, fetchPage}
 use Rattle.rules.specs.Reads.{fetch-tells}
 use Rattle.listing.specs.declared.candidate.Candidate.{Candidate}
 use Rattle.listing.specs.declared.candidate.Candidate.the-variants.{Nothing, At, Twice}
-use Rattle.listing.specs.Readable.{nodeAt}
+use Rattle.memory_store.specs.Readable.{nodeAt}
 use Rattle.listing.specs.Candidate.{nodeIn, pickOne, pick, picked}
 
 is-lt : (o : Ordering) → named o ≡ Less → o ≡ Ordering·lt

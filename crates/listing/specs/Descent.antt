@@ -32,7 +32,7 @@ use Rattle.listing.specs.declared.descent.Placed.the-variants as placed
 use Rattle.listing.specs.declared.descent.Descent.{Descent}
 use Rattle.listing.specs.declared.descent.End.the-variants.{Bottom, Lost}
 use Rattle.listing.specs.Way.{wayOf}
-use Rattle.listing.specs.Readable.{nodeAt}
+use Rattle.memory_store.specs.Readable.{nodeAt}
 
 -- the datoms that are passed by
 unfoldable pub testOf : Seek → Datom → Bool

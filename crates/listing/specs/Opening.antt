@@ -22,7 +22,7 @@ use Rattle.rules.specs.Listing.{Frame, framesFrom, Opens, notOpen, opened, open
 use Rattle.listing.specs.declared.opening.Opening.{Opening}
 use Rattle.listing.specs.declared.opening.Opening.the-variants.{Open, Damaged}
 use Rattle.listing.specs.WayLaws.{frames-count}
-use Rattle.listing.specs.Readable.{nodeAt}
+use Rattle.memory_store.specs.Readable.{nodeAt}
 
 -- a page with no fewer datoms than the index
 unfoldable pub isOpen : ℕ → Fetched → Bool

@@ -1,5 +1,5 @@
 -- `is_any_between` meets its contract. Assumes nothing.
-use Rattle.listing.specs.StartLaws.{less-named, equal-named, greater-named}
+use Rattle.memory_store.specs.Steps.{less-named, equal-named, greater-named}
 use mathlib.Core.Path.{sym, _∙_}
 use Rattle.index.specs.Order.{cmpEavt}
 use borrow.Author.Needs.{needs}

@@ -20,7 +20,8 @@ ghost use Rattle.memory_store.specs.Reading.{told};
 ghost use Rattle.invariants.specs.Bounds.{boundOf};
 
 // Page `page`, which was read as `found` and is to be of this level, and all pages under it. The walk goes along the page's datoms,
-// and past the last to its upper bound: each is to be above the last one passed, and bounds the child at its index from above.
+// and past the last to its upper bound: each is to be above the last one passed, and bounds the child at its index from above. A page
+// that was read has real children only above level 0.
 fn check_at(
     store: &[u8],
     extent: Extent,

@@ -49,6 +49,13 @@ private:
 using ByteView = Span<const std::uint8_t>;
 using ByteArea = Span<std::uint8_t>;
 
+// A slice of the library is never at null, also when it is empty.
+template <class T>
+T *lent(Span<T> bytes) {
+    static std::uint8_t nothing = 0;
+    return bytes.data() != nullptr ? bytes.data() : &nothing;
+}
+
 inline std::uint64_t get_word(const std::uint8_t *at) {
     std::uint64_t word = 0;
     for (int i = 7; i >= 0; --i) word = word << 8 | at[i];
@@ -216,8 +223,8 @@ public:
         }
         // The one end there is: no datom is at hand, since the listing has ended or was refused.
         struct End {};
-        friend bool operator!=(const Iterator &it, End) { return it.listing_->answer_.done(); }
-        friend bool operator==(const Iterator &it, End) { return !it.listing_->answer_.done(); }
+        bool operator!=(End) const { return listing_->answer_.done(); }
+        bool operator==(End) const { return !listing_->answer_.done(); }
 
     private:
         friend class Listing;
@@ -247,7 +254,7 @@ private:
         lower.write(bounds);
         upper.write(bounds + Datom::size);
         std::uint8_t words[FLORINWICK_ANSWER_BYTES];
-        florinwick_list_start(store_.data(), store_.size(), page_size_, page_count_, root, bounds, Datom::size,
+        florinwick_list_start(lent(store_), store_.size(), page_size_, page_count_, root, bounds, Datom::size,
                               bounds + Datom::size, Datom::size, cursor_, sizeof cursor_, words, sizeof words);
         answer_ = Answer::read(words);
     }
@@ -255,7 +262,7 @@ private:
     void step() {
         std::uint8_t datom[Datom::size];
         std::uint8_t words[FLORINWICK_ANSWER_BYTES];
-        florinwick_list_step(store_.data(), store_.size(), page_size_, page_count_, cursor_, sizeof cursor_, datom, sizeof datom,
+        florinwick_list_step(lent(store_), store_.size(), page_size_, page_count_, cursor_, sizeof cursor_, datom, sizeof datom,
                              words, sizeof words);
         answer_ = Answer::read(words);
         if (answer_.done()) datom_ = Datom::read(datom);
@@ -281,7 +288,7 @@ public:
     // Why a page cannot be fetched.
     Answer refusal(std::uint64_t page) const {
         std::uint8_t words[FLORINWICK_ANSWER_BYTES];
-        florinwick_fetch(store_.data(), store_.size(), page_size_, page_count_, page, words, sizeof words);
+        florinwick_fetch(lent(store_), store_.size(), page_size_, page_count_, page, words, sizeof words);
         return Answer::read(words);
     }
     // That very part of the store; empty if refused.
@@ -292,7 +299,7 @@ public:
     // Done if the tree is sound.
     Answer check(std::uint64_t root) const {
         std::uint8_t words[FLORINWICK_ANSWER_BYTES];
-        florinwick_check(store_.data(), store_.size(), page_size_, page_count_, root, words, sizeof words);
+        florinwick_check(lent(store_), store_.size(), page_size_, page_count_, root, words, sizeof words);
         return Answer::read(words);
     }
     // From the first datom not below `lower` up to the last below `upper`. A refused start is seen after the loop, as a refused step is.
@@ -328,16 +335,16 @@ public:
     // At an older root, or at none. The newest root is then the one that this gives.
     Answer insert_at(std::uint64_t root, ByteView batch) {
         std::uint8_t words[FLORINWICK_ANSWER_BYTES];
-        florinwick_insert(bytes_.data(), bytes_.size(), page_size_, page_count_, root, batch_data(batch), batch.size(),
-                          scratch_.data(), scratch_.size(), words, sizeof words);
+        florinwick_insert(lent(bytes_), bytes_.size(), page_size_, page_count_, root, lent(batch), batch.size(),
+                          lent(scratch_), scratch_.size(), words, sizeof words);
         return moved_on(Answer::read(words));
     }
 
     // A new tree of a batch in any order.
     Answer initialise(ByteView batch) {
         std::uint8_t words[FLORINWICK_ANSWER_BYTES];
-        florinwick_initialise(bytes_.data(), bytes_.size(), page_size_, page_count_, batch_data(batch), batch.size(),
-                              scratch_.data(), scratch_.size(), words, sizeof words);
+        florinwick_initialise(lent(bytes_), bytes_.size(), page_size_, page_count_, lent(batch), batch.size(),
+                              lent(scratch_), scratch_.size(), words, sizeof words);
         return moved_on(Answer::read(words));
     }
 
@@ -345,12 +352,6 @@ public:
     void lend(ByteArea bytes) { bytes_ = bytes; }
 
 private:
-    // A slice of the library is never at null, also when it is empty.
-    static const std::uint8_t *batch_data(ByteView batch) {
-        static const std::uint8_t nothing = 0;
-        return batch.data() != nullptr ? batch.data() : &nothing;
-    }
-
     Answer moved_on(const Answer &answer) {
         if (answer.done()) {
             page_count_ += answer.pages;

@@ -104,7 +104,7 @@ uint64_t florinwick_check(const uint8_t *store, size_t store_len, uint64_t page_
 /*
  * Puts a cursor at the first datom that is not below `lower`; the listing ends before the first that is not below `upper`. Each bound
  * is a datom of 32 bytes; any other length is BadBound. A lower bound at or above the upper, and root none, give a listing that has
- * ended. A refused start gives such a cursor too. A cursor is 264 bytes, else BadStore. Numbers: 1, 10, 5, 7.
+ * ended. A refused start leaves the cursor as it was. A cursor is 264 bytes, else BadStore. Numbers: 1, 10, 5, 7.
  *
  * A cursor is a value: 33 little-endian words, the height, then by level 0 to 7 the indices and the pages where the listing stands,
  * and the indices and the pages where it ends. It may be copied, kept and used again, as long as the pages in use stay.

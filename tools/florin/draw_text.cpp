@@ -132,7 +132,7 @@ void draw_text(std::FILE *out, const Subject &subject) {
     std::fprintf(out, "root %s: %s, %llu of them pending, in %s\n", page_text(subject.root).c_str(), counted(shape.datoms, "datom").c_str(),
                  static_cast<unsigned long long>(shape.pending), counted(shape.all_pages(), "page").c_str());
     std::fprintf(out, "%s\n", line_of(*root).c_str());
-    if (subject.levels > 1 || root->level() == 0) Outline(out, subject).below(*root, "", subject.levels);
+    Outline(out, subject).below(*root, "", subject.levels);
 }
 
 }  // namespace florin

@@ -169,15 +169,8 @@ Answer StoreFile::create(const std::string &path, std::uint64_t page_size, std::
     store.map(PROT_READ | PROT_WRITE);
     store.scratch_.resize(florinwick_scratch_need(page_size));
     Answer answer;
-    if (first) {
-        florinwick::Store tree({store.base_ + kPagesAt, store.room()}, page_size, store.scratch_);
-        while ((answer = tree.initialise(*first)).number == Number::NoRoom) {
-            store.grow();
-            tree.lend({store.base_ + kPagesAt, store.room()});
-        }
-        if (!answer.done()) return answer;
-        store.commit(answer, florinwick::none, first->size() / florinwick::Datom::size);
-    }
+    if (first) answer = store.initialise(*first);
+    if (!answer.done()) return answer;
     // Into both slots, so that from now on a slot that is not valid tells of a cut.
     store.write_head();
     store.write_head();
@@ -243,7 +236,7 @@ void StoreFile::test_head() const {
     if (head_.end < kPagesAt + kReceiptBytes || head_.receipts > (head_.end - kPagesAt) / kReceiptBytes - 1) {
         throw bad_head(path_, "it counts " + std::to_string(head_.receipts) + " receipts, more than the file holds");
     }
-    if (head_.page_count > room() / head_.page_size) {
+    if (head_.page_count > room_beside(head_.receipts) / head_.page_size) {
         throw bad_head(path_, "it counts " + std::to_string(head_.page_count) + " pages, more than the file holds");
     }
     if (head_.root != florinwick::none && head_.root >= head_.page_count) {
@@ -265,20 +258,41 @@ void StoreFile::unmap() {
 
 std::uint64_t StoreFile::offset_of(std::uint64_t page) const { return kPagesAt + page * head_.page_size; }
 
-// The bytes for pages: all that no receipt takes up, and neither will the next one.
-std::uint64_t StoreFile::room() const { return head_.end - kPagesAt - kReceiptBytes * (head_.receipts + 1); }
+// The bytes for pages when there are so many receipts.
+std::uint64_t StoreFile::room_beside(std::uint64_t receipts) const { return head_.end - kPagesAt - kReceiptBytes * receipts; }
 
-ByteView StoreFile::pages() const { return {base_ + kPagesAt, static_cast<std::size_t>(room())}; }
+ByteView StoreFile::pages() const { return {base_ + kPagesAt, static_cast<std::size_t>(room_beside(head_.receipts))}; }
+
+// What the library may write to: it leaves a place for one more receipt. Where even the pages in use leave none, no page fits.
+ByteArea StoreFile::lent() const {
+    const std::uint64_t in_use = head_.page_count * head_.page_size;
+    const std::uint64_t bytes = std::max(room_beside(head_.receipts + 1), in_use);
+    return {base_ + kPagesAt, static_cast<std::size_t>(bytes)};
+}
+
+std::uint64_t StoreFile::free_pages() const { return lent().size() / head_.page_size - head_.page_count; }
 
 Answer StoreFile::insert(std::uint64_t root, ByteView batch, bool may_grow) {
-    florinwick::Store tree({base_ + kPagesAt, static_cast<std::size_t>(room())}, head_.page_size, scratch_, head_.page_count, head_.root);
-    Answer answer = tree.insert_at(root, batch);
+    const auto call = [&](florinwick::Store &tree) { return tree.insert_at(root, batch); };
+    return write_tree(call, root, batch, may_grow);
+}
+
+Answer StoreFile::initialise(ByteView batch) {
+    const auto call = [&](florinwick::Store &tree) { return tree.initialise(batch); };
+    return write_tree(call, florinwick::none, batch, true);
+}
+
+template <class Call>
+Answer StoreFile::write_tree(Call call, std::uint64_t from, ByteView batch, bool may_grow) {
+    florinwick::Store tree(lent(), head_.page_size, scratch_, head_.page_count, head_.root);
+    Answer answer = call(tree);
     while (answer.number == Number::NoRoom && may_grow) {
         grow();
-        tree.lend({base_ + kPagesAt, static_cast<std::size_t>(room())});
-        answer = tree.insert_at(root, batch);
+        tree.lend(lent());
+        answer = call(tree);
     }
-    if (answer.done()) commit(answer, root, batch.size() / florinwick::Datom::size);
+    // An empty batch at root none writes no page, and there is nothing to keep.
+    if (answer.done() && answer.pages > 0) commit(answer, from, batch.size() / florinwick::Datom::size);
     return answer;
 }
 

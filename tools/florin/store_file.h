@@ -68,7 +68,7 @@ public:
     const Head &head() const { return head_; }
     // One of the two slots is not valid: a head was being written when the power or the process was cut.
     bool has_broken_slot() const { return broken_slot_; }
-    std::uint64_t free_pages() const { return room() / head_.page_size - head_.page_count; }
+    std::uint64_t free_pages() const;   // before the file grows
     std::uint64_t offset_of(std::uint64_t page) const;
 
     florinwick::Reader reader() const { return {pages(), head_.page_size, head_.page_count}; }
@@ -86,13 +86,17 @@ private:
     void map(int protection);
     void unmap();
     void grow();
+    florinwick::Answer initialise(florinwick::ByteView batch);
+    template <class Call>
+    florinwick::Answer write_tree(Call call, std::uint64_t from, florinwick::ByteView batch, bool may_grow);
     void commit(const florinwick::Answer &answer, std::uint64_t from, std::uint64_t datoms);
     void put_receipt(const Receipt &receipt);
     void write_head();
     void sync_part(std::uint64_t from, std::uint64_t to);
     std::optional<std::vector<Receipt>> chained_receipts() const;
-    std::uint64_t room() const;
+    std::uint64_t room_beside(std::uint64_t receipts) const;
     florinwick::ByteView pages() const;
+    florinwick::ByteArea lent() const;
 
     std::string path_;
     int file_ = -1;

@@ -94,8 +94,8 @@ seq 1 30000 | awk '{ print $1, 1, $1, 2, "assert" }' > long.txt
 kills=0 before=0 lost=0 wrong=0
 RANDOM=4
 while :; do
-    tail -n +$((before > 0 ? 3 * before - 2 : 1)) long.txt > rest.txt
-    "$florin" insert killed.fw rest.txt --every 3 --resend > said 2> complained &
+    tail -n +$((before > 0 ? before : 1)) long.txt > rest.txt
+    "$florin" insert killed.fw rest.txt --every 1 --resend > said 2> complained &
     pid=$!
     sleep "0.00$((RANDOM % 9 + 1))"
     kill -KILL $pid 2> /dev/null
@@ -103,14 +103,14 @@ while :; do
     now=$(($("$florin" roots killed.fw | wc -l) - 1))
     [ $now -lt $((before + $(told said))) ] && lost=$((lost + 1))
     "$florin" check killed.fw > /dev/null 2>&1 || wrong=$((wrong + 1))
-    list killed.fw > listed; head -n $((3 * now)) long.txt | cmp -s - listed || wrong=$((wrong + 1))
+    list killed.fw > listed; head -n $now long.txt | cmp -s - listed || wrong=$((wrong + 1))
     before=$now
     [ $status -eq 0 ] && break
     kills=$((kills + 1))
-    [ $kills -ge 1000 ] && break
+    [ $kills -ge 1000 ] || [ $((lost + wrong)) -gt 0 ] && break
 done
 equal "$lost:$wrong" 0:0 'killed at any time: batches lost, listings wrong'
-equal "$now" 10000 'the whole feed in the end'
+equal "$now" 30000 'the whole feed in the end'
 [ $kills -gt 9 ] && pass || fail "killed only $kills times"
 echo "   killed $kills times at any time"
 

@@ -12,7 +12,7 @@ equal "$(ls -d bad.fw* 2> /dev/null)" '' 'files that a refused create leaves'
 
 # 2 TooMany
 d 10 138 > many.txt
-unchanged r.fw expect 2 'TooMany \(2\): batch 1\. A batch has at most 128.*next: cut it.*--every 128' insert r.fw many.txt
+unchanged r.fw expect 2 'TooMany \(2\): batch 1\. +A batch has at most 128.*next: cut it.*--every 128' insert r.fw many.txt
 head -c 33 /dev/zero > odd.bin
 unchanged r.fw expect 2 'TooMany \(2\)' insert r.fw odd.bin --binary
 yes '1 1 1 2 assert' | head -n 100000 > endless.txt
@@ -53,7 +53,7 @@ poke damaged.fw $((8192 + 1 * 256 + 249)) c8
 before=$(shown damaged.fw)
 expect 7 'Damaged \(7\): page 1, batch 1\. .*next: run florin check' insert damaged.fw one.txt
 equal "$(shown damaged.fw)" "$before" 'the head after Damaged'
-expect 7 'Damaged \(7\): page 1, after 0 datoms' list damaged.fw --from 5
+expect 7 'Damaged \(7\): page 1, root 2\.' list damaged.fw --from 5
 list damaged.fw --to 3 > listed; d 0 2 > expected; same listed expected 'the part that is not damaged'
 unchanged damaged.fw expect 33 'Unsound \(33\): page 1, root 2\. .*next: restore' check damaged.fw
 expect 33 '@1 root 2: Unsound, page 1.*Unsound \(33\)' check damaged.fw --all
@@ -65,7 +65,7 @@ grep -q '1 link cannot be followed: run florin check' damaged.svg && xmllint --n
 d 0 29 > thirty.txt
 "$florin" create middle.fw --page-size 256 --from thirty.txt > /dev/null
 poke middle.fw $((8192 + 2 * 256 + 248)) 09
-"$florin" list middle.fw > printed 2> complained; equal "$?:$(grep -c 'Damaged (7): page 2, after [1-9][0-9]* datoms' complained)" 7:1 'damage in the middle of a listing'
+"$florin" list middle.fw > printed 2> complained; equal "$?:$(grep -c 'Damaged (7): page 2, root 6, after [1-9][0-9]* datoms' complained)" 7:1 'damage in the middle of a listing'
 plain < printed > listed; head -n "$(wc -l < listed)" thirty.txt > expected; same listed expected 'a listing up to a damaged page'
 # Unsound although each page is readable: a leaf's datom outside its bounds.
 cp r.fw unsound.fw

@@ -34,7 +34,7 @@ cd "$work" || exit 1
 
 # shellcheck source=steps.sh
 source "$here/steps.sh"
-for part in ${FLORIN_TEST_PARTS:-commands refusals files cuts callers}; do
+for part in ${FLORIN_TEST_PARTS:-commands refusals files cuts callers tour}; do
     echo "== $part"
     # shellcheck source=/dev/null
     source "$here/$part.sh"

@@ -3,9 +3,11 @@
 passed=0 failed=0
 
 pass() { passed=$((passed + 1)); }
+# With FLORIN_TEST_FIRST the first failure is the last word.
 fail() {
     failed=$((failed + 1))
     echo "FAILED  $*"
+    [ -z "${FLORIN_TEST_FIRST:-}" ] || exit 1
 }
 
 # expect STATUS PATTERN WORDS..: florin with these words ends with the status, and what it prints has the pattern (a regular expression

@@ -265,7 +265,8 @@ int list(const Arguments &arguments) {
     warn_of_broken_slot(store);
     const bool binary = arguments.has("--binary");
     const bool followed = isatty(STDOUT_FILENO) == 0;
-    florinwick::Listing listing = store.reader().list(root_of(store, arguments), lower, upper);
+    const std::uint64_t root = root_of(store, arguments);
+    florinwick::Listing listing = store.reader().list(root, lower, upper);
     Progress progress;
     std::uint64_t listed = 0;
     for (const Datom &datom : listing) {
@@ -280,7 +281,7 @@ int list(const Arguments &arguments) {
     }
     progress.clear();
     flush_stdout();
-    if (!listing.ended()) throw refusal(listing.answer(), "after " + counted(listed, "datom"));
+    if (!listing.ended()) throw refusal(listing.answer(), "root " + page_text(root) + (listed > 0 ? ", after " + counted(listed, "datom") : ""));
     return kDone;
 }
 

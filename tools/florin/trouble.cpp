@@ -91,7 +91,7 @@ Trouble refusal(const Answer &answer, const std::string &place) {
     const Words words = words_of(answer.number);
     const std::string where = carried(answer) + (place.empty() ? "" : ", " + place);
     const std::string name = answer.name();
-    return {static_cast<int>(answer.number), name, (where.empty() ? "" : where.substr(2) + ". ") + words.what, words.next};
+    return {static_cast<int>(answer.number), name, (where.empty() ? "" : where.substr(2) + ".\n  ") + words.what, words.next};
 }
 
 void print(const Trouble &trouble) {

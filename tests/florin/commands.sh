@@ -153,7 +153,7 @@ expect 0 '├┄ 7 1 7 2 assert  pending' tree c.fw --root 3
 expect 0 'level 1, 6 of 6 datoms ├─ page 0, level 0, 3 of 6 datoms ├─ 3' tree c.fw --root 3 --levels 1
 drawn() {
     expect 0 'drew picture.svg' tree "$@" --svg picture.svg
-    if xmllint --noout picture.svg 2> complained; then pass; else fail "the picture of $*: $(head -n 1 complained)"; fi
+    holds "the picture of $*" xmllint --noout picture.svg
 }
 for store in c.fw words.fw again.fw batches.fw; do drawn $store; done
 drawn c.fw --root none
@@ -182,7 +182,7 @@ rm -f part*.txt
 seq 0 120000 | awk '{ print $1, 1, $1, 2, "assert" }' > long.txt
 "$florin" create long.fw --page-size 256 > /dev/null
 script -qec "$florin insert long.fw long.txt --every 1 --quiet" /dev/null > terminal 2>&1
-grep -q $'\033\\[K[0-9,]* batches with [0-9,]* datoms in' terminal && pass || fail 'no progress on a terminal'
+holds 'progress on a terminal' grep -q $'\033\\[K[0-9,]* batches with [0-9,]* datoms in' terminal
 "$florin" list long.fw 2> complained > /dev/null; equal "$(wc -c < complained)" 0 'no progress elsewhere'
 rm -f long.fw long.txt
 
@@ -199,5 +199,5 @@ while kill -0 $feed 2> /dev/null; do
 done
 wait $feed; equal $? 0 'the feed ends'
 equal "$wrong" 0 'readers beside a feed'
-[ "$looks" -gt 3 ] && pass || fail "only $looks looks at the feed"
+holds "$looks looks at the feed" test "$looks" -gt 3
 list feed.fw > listed; same listed feed.txt 'the feed is in'

@@ -67,9 +67,9 @@ for size in 256 4096; do
             intact killed.fw 12 "pages of $size, killed at call $at and sent again"
         fi
     done
-    equal $status 0 'the last run is not killed'
+    equal "$status" 0 'the last run is not killed'
     equal "$(told said)" 12 'the last run has all batches'
-    [ "$at" -gt 40 ] && pass || fail "only $at calls"
+    holds "killed at $at calls" test "$at" -gt 40
     echo "   pages of $size: killed at $((at - 1)) calls"
 
     # The power cut at each sync, with any part of what was written since on the disk.
@@ -77,9 +77,13 @@ for size in 256 4096; do
     cp base.fw cut.fw
     FLORIN_CUT_INTO=$PWD/images LD_PRELOAD=$out/cut.so "$florin" insert cut.fw feed.txt > said 2> complained
     equal $? 0 'the run that is cut'
-    for image in images/*; do intact "$image" "${image##*.}" "pages of $size, cut at ${image##*/}"; done
-    echo "   pages of $size: $(ls images | wc -l) images of a cut"
-    [ "$(ls images | wc -l)" -gt 140 ] && pass || fail 'too few images of a cut'
+    cuts=0
+    for image in images/*; do
+        intact "$image" "${image##*.}" "pages of $size, cut at ${image##*/}"
+        cuts=$((cuts + 1))
+    done
+    echo "   pages of $size: $cuts images of a cut"
+    holds "$cuts images of a cut" test "$cuts" -gt 140
     # One in ten is written to again.
     for image in images/*[05].*; do
         "$florin" insert "$image" feed.txt --resend > said 2> complained || fail "sent again to ${image##*/}: $(head -n 1 complained)"
@@ -111,7 +115,7 @@ while :; do
 done
 equal "$lost:$wrong" 0:0 'killed at any time: batches lost, listings wrong'
 equal "$now" 30000 'the whole feed in the end'
-[ $kills -gt 9 ] && pass || fail "killed only $kills times"
+holds "killed $kills times" test "$kills" -gt 9
 echo "   killed $kills times at any time"
 
 # Create: no store, or a whole one.

@@ -33,11 +33,11 @@ while IFS='|' read -r part file name script; do
         echo "MISSED  $name: the script changes nothing in $file"
         continue
     fi
-    FLORIN_TEST_FIRST=1 FLORIN_TEST_PARTS=$part timeout 300 bash "$here/run.sh" > "$FLORIN_TEST_OUT/found" 2>&1
+    FLORIN_TEST_FIRST=1 FLORIN_TEST_PARTS=$part timeout 300 bash "$here/run.sh" < /dev/null > "$FLORIN_TEST_OUT/found" 2>&1
     status=$?
-    if [ $status -ne 0 ] && grep -q '^FAILED' "$FLORIN_TEST_OUT/found"; then
+    if [ $status -ne 0 ] && grep -q 'FAILED  ' "$FLORIN_TEST_OUT/found"; then
         shown=$((shown + 1))
-        echo "shown   $name: $(grep '^FAILED' "$FLORIN_TEST_OUT/found" | head -n 1 | cut -c9-150)"
+        echo "shown   $name: $(grep 'FAILED  ' "$FLORIN_TEST_OUT/found" | head -n 1 | sed 's/.*FAILED  //' | cut -c-140)"
     else
         missed=$((missed + 1))
         echo "MISSED  $name: $(tail -n 1 "$FLORIN_TEST_OUT/found")"

@@ -26,8 +26,8 @@ refuses 67 'NotAStore' zero.fw
 for length in 1 7 8 71 72 4095 4096 4100 8191 8192 8193 9000 $((size - 4096)) $((size - 64)) $((size - 1)); do
     head -c "$length" good.fw > cut.fw
     [ "$length" -lt 8 ] && status=67 name=NotAStore || status=69 name=CutShort
-    unchanged cut.fw expect $status "$name \($status\)" list cut.fw
-    unchanged cut.fw expect $status "$name \($status\).*next:" insert cut.fw second.txt
+    unchanged cut.fw expect "$status" "$name \($status\)" list cut.fw
+    unchanged cut.fw expect "$status" "$name \($status\).*next:" insert cut.fw second.txt
 done
 # A file that is longer than its head says was cut while it grew: all of it is there.
 cp good.fw longer.fw; head -c 12345 /dev/zero >> longer.fw
@@ -64,7 +64,7 @@ expect 0 'note: one of the two heads' list one.fw
 list one.fw > listed; d 0 30 > expected; same listed expected 'a new head that is broken'
 expect 0 'batch 1 is in' insert one.fw second.txt
 list one.fw > listed; d 0 40 > expected; same listed expected 'and the batch sent again'
-"$florin" status one.fw 2>&1 | grep -q note && fail 'a slot stays broken' || pass
+"$florin" status one.fw > printed 2>&1; equal "$(grep -c note printed)" 0 'a slot stays broken'
 cp good.fw both.fw; poke both.fw 30 77; poke both.fw 4126 77
 refuses 68 'BadHead \(68\): the head of both.fw is damaged: neither of its two slots is valid.*next: restore' both.fw
 # Any single byte of the newest head: it is not valid, and the older one is taken.
@@ -128,7 +128,7 @@ length=$(stat -c %s limit.fw)
 equal "$status:$(grep -c 'NoSpace (71): cannot enlarge limit.fw: File too large' complained)" 71:1 'a limit on file sizes'
 equal "$(stat -c %s limit.fw)" "$length" 'the length of the file that could not grow'
 batches=$(grep -c ' is in:' told)
-[ "$batches" -gt 0 ] && pass || fail 'no batch before the limit'
+holds 'batches before the limit' test "$batches" -gt 0
 list limit.fw > listed; grep -v -e --- feed.txt | head -n $((batches * 100)) > expected; same listed expected 'what is in before the limit'
 expect 0 "$batches batch(es)? in before" insert limit.fw feed.txt --resend
 list limit.fw > listed; grep -v -e --- feed.txt > expected; same listed expected 'sent again when there is room'

@@ -6,7 +6,6 @@ d 0 6 > seven.txt
 
 # 1 BadStore
 expect 1 'BadStore \(1\): The page size is not 256, 568 or 4096.*next: choose' create bad.fw --page-size 300
-[ ! -e bad.fw ] && pass || fail 'a refused create leaves a file'
 expect 1 'BadStore' create bad.fw --page-size 0
 equal "$(ls -d bad.fw* 2> /dev/null)" '' 'files that a refused create leaves'
 
@@ -60,12 +59,13 @@ expect 33 '@1 root 2: Unsound, page 1.*Unsound \(33\)' check damaged.fw --all
 expect 0 'page 1: level 0, 200 of 6 datoms; no page can have these' page damaged.fw 1
 expect 0 'page 1 cannot be followed: run florin check' tree damaged.fw
 expect 0 'drew' tree damaged.fw --svg damaged.svg
-grep -q '1 link cannot be followed: run florin check' damaged.svg && xmllint --noout damaged.svg && pass || fail 'the picture of a damaged tree'
+holds 'the picture of a damaged tree tells of it' grep -q '1 link cannot be followed: run florin check' damaged.svg
+holds 'the picture of a damaged tree' xmllint --noout damaged.svg
 # Damage in the middle of a listing: what comes before it is listed, and the end tells that it is none.
 d 0 29 > thirty.txt
 "$florin" create middle.fw --page-size 256 --from thirty.txt > /dev/null
 poke middle.fw $((8192 + 2 * 256 + 248)) 09
-"$florin" list middle.fw > printed 2> complained; equal "$?:$(grep -c 'Damaged (7): page 2, root 6, after [1-9][0-9]* datoms' complained)" 7:1 'damage in the middle of a listing'
+"$florin" list middle.fw > printed 2> complained; equal "$?:$(grep -c 'Damaged (7): page 2, root 5, after [1-9][0-9]* datoms' complained)" 7:1 'damage in the middle of a listing'
 plain < printed > listed; head -n "$(wc -l < listed)" thirty.txt > expected; same listed expected 'a listing up to a damaged page'
 # Unsound although each page is readable: a leaf's datom outside its bounds.
 cp r.fw unsound.fw

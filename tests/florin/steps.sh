@@ -47,6 +47,13 @@ equal() {
     fi
 }
 
+# holds NAME COMMAND..: the command succeeds.
+holds() {
+    local name=$1
+    shift
+    if "$@"; then pass; else fail "$name"; fi
+}
+
 # unchanged FILE COMMAND..: runs a test, and the file stays as it was, byte for byte.
 unchanged() {
     local file=$1

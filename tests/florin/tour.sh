@@ -20,7 +20,7 @@ while read -r command; do
 done < commands > found
 untimed() { sed -E 's/20[0-9]{2}-[0-9]{2}-[0-9]{2} [0-9:]{8}Z/TIME/' "$1"; }
 untimed found > found.untimed; untimed expected > expected.untimed
-[ "$(grep -c '^\$ ' expected)" -gt 10 ] && pass || fail 'the tour has few commands'
+holds 'commands of the tour' test "$(grep -c '^\$ ' expected)" -gt 10
 same found.untimed expected.untimed 'the tour'
 same tree.svg "$repo/docs/tree.svg" 'the picture of the tour'
 cd ..

@@ -4,9 +4,11 @@
 #include "florinwick.hpp"
 
 #include <cstdio>
+#include <cstdlib>
 #include <vector>
 
 using florinwick::Answer;
+using florinwick::Batch;
 using florinwick::Datom;
 using florinwick::Number;
 using florinwick::Value;
@@ -34,24 +36,25 @@ const Fill kFeed[] = {
 };
 const std::size_t kBatches = sizeof kFeed / sizeof kFeed[0] / kFillsInBatch;
 
-// The datoms of a batch rise by entity and attribute, as they are written here.
-std::vector<Datom> batch_of(std::size_t number) {
+// The datoms of a batch rise by entity and attribute, as they are written here. False if a value or the batch is too large.
+bool fill_batch(std::size_t number, Batch &batch) {
     const std::uint64_t transaction = 2 * (number + 1);
-    std::vector<Datom> datoms;
     for (std::size_t i = 0; i < kFillsInBatch; ++i) {
         const Fill &fill = kFeed[number * kFillsInBatch + i];
-        datoms.push_back(Datom::asserted(fill.order, kSymbol, *Value::text(fill.symbol), transaction));
-        datoms.push_back(Datom::asserted(fill.order, kPrice, *Value::integer(fill.price), transaction));
-        datoms.push_back(Datom::asserted(fill.order, kQuantity, *Value::integer(fill.quantity), transaction));
+        const auto symbol = Value::text(fill.symbol), price = Value::integer(fill.price), quantity = Value::integer(fill.quantity);
+        if (!symbol || !price || !quantity) return false;
+        if (!batch.add(Datom::asserted(fill.order, kSymbol, *symbol, transaction))) return false;
+        if (!batch.add(Datom::asserted(fill.order, kPrice, *price, transaction))) return false;
+        if (!batch.add(Datom::asserted(fill.order, kQuantity, *quantity, transaction))) return false;
     }
-    return datoms;
+    return true;
 }
 
 // The one place where a batch is sent, the first time and every time again.
 Answer send(florinwick::Store &store, std::size_t number) {
-    const std::vector<Datom> datoms = batch_of(number);
-    std::vector<std::uint8_t> bytes(datoms.size() * Datom::size);
-    const Answer answer = store.insert(florinwick::encode(datoms, bytes));
+    Batch batch;
+    if (!fill_batch(number, batch)) std::abort();
+    const Answer answer = store.insert(batch);
     if (answer.done()) {
         std::printf("batch %zu: Done, root %llu, %llu pages written\n", number, static_cast<unsigned long long>(answer.root),
                     static_cast<unsigned long long>(answer.pages));

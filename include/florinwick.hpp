@@ -3,6 +3,8 @@
 // Header only. It allocates nothing and throws nothing: every byte is lent by the caller, and every answer is looked at.
 //
 //     florinwick::Store store({bytes, length}, 4096, {scratch, scratch_length});
+//     florinwick::Batch batch;
+//     if (!batch.add(datom)) ..                                 // 128 are in it already
 //     florinwick::Answer answer = store.insert(batch);          // Done: root and page count of `store` have moved on
 //     florinwick::Listing listing = store.reader().list(store.root(), lower, upper);
 //     for (const florinwick::Datom &datom : listing) use(datom);
@@ -139,11 +141,25 @@ struct Datom {
     friend bool operator!=(const Datom &a, const Datom &b) { return !(a == b); }
 };
 
-// The bytes of a batch, laid into an area of at least 32 bytes for each datom.
-inline ByteView encode(Span<const Datom> datoms, ByteArea area) {
-    for (std::size_t i = 0; i < datoms.size(); ++i) datoms[i].write(area.data() + i * Datom::size);
-    return {area.data(), datoms.size() * Datom::size};
-}
+// The bytes of a batch, 4096 of them, in the value itself. A caller that has the bytes already needs none.
+class Batch {
+public:
+    // False if it has 128 datoms already: send it, clear it, and add the datom then.
+    [[nodiscard]] bool add(const Datom &datom) {
+        if (count_ == FLORINWICK_BATCH_MAX) return false;
+        datom.write(bytes_ + count_ * Datom::size);
+        ++count_;
+        return true;
+    }
+    void clear() { count_ = 0; }
+    std::size_t size() const { return count_; }
+    Datom operator[](std::size_t at) const { return Datom::read(bytes_ + at * Datom::size); }
+    operator ByteView() const { return {bytes_, count_ * Datom::size}; }
+
+private:
+    std::uint8_t bytes_[FLORINWICK_BATCH_MAX * Datom::size];
+    std::size_t count_ = 0;
+};
 
 enum class Number : std::uint64_t {
     Done = FLORINWICK_DONE,

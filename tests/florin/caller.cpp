@@ -3,7 +3,7 @@
 
 #include <array>
 #include <cstdio>
-#include <cstring>
+#include <initializer_list>
 #include <string>
 #include <vector>
 
@@ -21,6 +21,27 @@ void expect(int line, bool holds) {
 #define EXPECT(holds) expect(__LINE__, (holds))
 
 Datom d(std::uint64_t k) { return Datom::asserted(k, 1, *Value::integer(k), 2); }
+
+Batch batch_of(std::initializer_list<std::uint64_t> entities) {
+    Batch batch;
+    for (std::uint64_t k : entities) EXPECT(batch.add(d(k)));
+    return batch;
+}
+
+void batches() {
+    Batch batch;
+    for (std::uint64_t k = 0; k < 128; ++k) EXPECT(batch.add(d(k)));
+    EXPECT(!batch.add(d(128)) && batch.size() == 128 && ByteView(batch).size() == 4096 && batch[127] == d(127));
+    batch.clear();
+    EXPECT(batch.size() == 0 && ByteView(batch).empty() && batch.add(d(1)) && batch[0] == d(1));
+    // Bytes from elsewhere: an array, a vector, a part of one; what may be changed also as what may not.
+    std::array<std::uint8_t, 64> array{};
+    std::vector<std::uint8_t> vector(64);
+    const std::vector<std::uint8_t> constant(32);
+    std::uint8_t plain[32] = {};
+    EXPECT(ByteView(array).size() == 64 && ByteView(vector).from(32).size() == 32 && ByteView(constant).size() == 32 && ByteView(plain).size() == 32);
+    EXPECT(ByteView(ByteArea(vector).first(3)).data() == vector.data());
+}
 
 void values() {
     EXPECT(Value::integer((std::uint64_t{1} << 62) - 1).has_value());
@@ -58,17 +79,15 @@ void trees() {
     EXPECT(store.root() == none && store.page_count() == 0);
     EXPECT(store.insert({}).done() && store.root() == none);
 
-    std::array<std::uint8_t, 7 * Datom::size> area;
-    const Datom first[] = {d(3), d(1), d(0), d(2), d(6), d(5), d(4)};
-    Answer answer = store.initialise(encode(first, area));
+    Answer answer = store.initialise(batch_of({3, 1, 0, 2, 6, 5, 4}));
     EXPECT(answer.done() && answer.root == 2 && answer.pages == 3 && store.root() == 2 && store.page_count() == 3);
-    const std::vector<Datom> second = {d(7), d(8), d(9)};
-    answer = store.insert(encode(second, area));
+    const Batch second = batch_of({7, 8, 9});
+    answer = store.insert(second);
     EXPECT(answer && store.root() == 3 && store.page_count() == 4);
 
-    answer = store.insert(encode(second, area));
+    answer = store.insert(second);
     EXPECT(!answer && answer.number == Number::Repeated && answer.detail == 0 && store.root() == 3 && store.page_count() == 4);
-    answer = store.insert_at(7, encode(second, area));
+    answer = store.insert_at(7, second);
     EXPECT(answer.number == Number::NoPage && answer.root == 7 && store.root() == 3);
 
     const Reader reader = store.reader();
@@ -95,17 +114,15 @@ void trees() {
 
     // More room: the same pages in more bytes.
     Store small(Span<std::uint8_t>(bytes).first(5 * 256), 256, scratch, store.page_count(), store.root());
-    const std::vector<Datom> third = {d(20)};
-    EXPECT(small.insert(encode(third, area)).number == Number::NoRoom && small.page_count() == 5);
+    EXPECT(small.insert(batch_of({20})).number == Number::NoRoom && small.page_count() == 5);
     small.lend(bytes);
-    EXPECT(small.insert(encode(third, area)).done() && small.page_count() == 6);
+    EXPECT(small.insert(batch_of({20})).done() && small.page_count() == 6);
 
     // A refusal breaks a loop off, and is told from its end.
-    std::vector<Datom> twenty;
-    for (std::uint64_t k = 0; k < 20; ++k) twenty.push_back(d(k));
-    std::vector<std::uint8_t> room(20 * Datom::size);
+    Batch twenty;
+    for (std::uint64_t k = 0; k < 20; ++k) EXPECT(twenty.add(d(k)));
     Store damaged(bytes, 256, scratch);
-    EXPECT(damaged.initialise(encode(twenty, room)).root == 4);
+    EXPECT(damaged.initialise(twenty).root == 4);
     EXPECT(listed(damaged.reader().list(4), last).size() == 20 && last.number == Number::Ended);
     bytes[256 + 249] = 200;
     EXPECT((listed(damaged.reader().list(4), last) == std::vector<std::uint64_t>{0, 1, 2, 3, 4}));
@@ -117,6 +134,7 @@ void trees() {
 
 int main() {
     values();
+    batches();
     answers();
     trees();
     return failures != 0;

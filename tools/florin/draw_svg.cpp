@@ -251,6 +251,7 @@ private:
         const double width = std::max(right_ + kMargin + (has_stubs() ? 120 : 0), 900.0), height = bottom_ + kMargin;
         std::string out = format("<svg xmlns=\"http://www.w3.org/2000/svg\" viewBox=\"0 0 %.0f %.0f\" width=\"%.0f\" height=\"%.0f\">\n",
                                  width, height, width, height);
+        out += format("<title>%s, root %s</title>\n", escaped(subject_.name).c_str(), page_text(subject_.root).c_str());
         return out + R"(<style>
 text { font-family: 'DejaVu Sans', 'Segoe UI', 'Helvetica Neue', Arial, sans-serif; fill: #1f2a37 }
 .mono { font-family: 'DejaVu Sans Mono', Menlo, Consolas, monospace; font-size: 11.6px }

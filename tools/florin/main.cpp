@@ -228,6 +228,7 @@ int insert(const Arguments &arguments) {
     warn_of_broken_slot(store);
     Batches batches(arguments.files() == 2 ? arguments.file(1) : "-", form_of(arguments), every);
     Insertion insertion(store, arguments);
+    if (arguments.files() < 2 && isatty(STDIN_FILENO) == 1) std::fprintf(stderr, "florin: type datoms, one to a line; Ctrl-D ends them.\n");
     Batch batch;
     while (batches.next(batch)) insertion.take(batch);
     insertion.end();

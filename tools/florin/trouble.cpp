@@ -24,7 +24,7 @@ Trouble system_trouble(int error, const std::string &doing, const std::string &p
         case ENOENT:
         case EISDIR:
         case ENOTDIR:
-            return {kNoInput, "NoInput", what, "look at the name of the file."};
+            return {kNoInput, "NoInput", what, "look at the name of the file; florin create makes a store."};
         default:
             return {kSystem, "System", what, "look at the disk and the system's log, then run florin check."};
     }

@@ -145,6 +145,21 @@ Trouble bad_head(const std::string &path, const std::string &why) {
     return {kBadHead, "BadHead", "the head of " + path + " is damaged: " + why + ". The file was left as it is.", "restore the file from a copy."};
 }
 
+// The two heads, as far as they are valid.
+struct Slots {
+    std::optional<Head> first, second;
+};
+
+Slots read_slots(int file, const std::string &path) {
+    std::uint8_t bytes[2 * kSlotBytes];
+    const std::size_t got = read_some(file, bytes, sizeof bytes, path);
+    if (got == 0) throw not_a_store(path, "it is empty");
+    const bool marked = (got >= 8 && has_mark(bytes)) || (got >= kSlotBytes + 8 && has_mark(bytes + kSlotBytes));
+    if (!marked) throw not_a_store(path, "it does not begin as one");
+    if (got < sizeof bytes) throw Trouble{kCutShort, "CutShort", path + " ends within its head.", "restore the file from a copy."};
+    return {decode_head(bytes), decode_head(bytes + kSlotBytes)};
+}
+
 // Removes a file under its temporary name, whatever happens.
 struct Temporary {
     std::string path;
@@ -211,16 +226,15 @@ void StoreFile::lock() {
 }
 
 void StoreFile::load_head() {
-    std::uint8_t slots[2 * kSlotBytes];
-    const std::size_t got = read_some(file_, slots, sizeof slots, path_);
-    if (got == 0) throw not_a_store(path_, "it is empty");
-    const bool marked = (got >= 8 && has_mark(slots)) || (got >= kSlotBytes + 8 && has_mark(slots + kSlotBytes));
-    if (!marked) throw not_a_store(path_, "it does not begin as one");
-    if (got < sizeof slots) throw Trouble{kCutShort, "CutShort", path_ + " ends within its head.", "restore the file from a copy."};
-    const std::optional<Head> first = decode_head(slots), second = decode_head(slots + kSlotBytes);
-    if (!first && !second) throw bad_head(path_, "neither of its two slots is valid");
-    head_ = !second || (first && first->sequence > second->sequence) ? *first : *second;
-    broken_slot_ = !(first && second);
+    Slots slots = read_slots(file_, path_);
+    // A reader may meet a head while it is written. That is over in a moment; a slot that stays broken is told.
+    for (int again = 0; again < 5 && !(slots.first && slots.second); ++again) {
+        usleep(1000);
+        slots = read_slots(file_, path_);
+    }
+    if (!slots.first && !slots.second) throw bad_head(path_, "neither of its two slots is valid");
+    head_ = !slots.second || (slots.first && slots.first->sequence > slots.second->sequence) ? *slots.first : *slots.second;
+    broken_slot_ = !(slots.first && slots.second);
     test_head();
 }
 

@@ -103,6 +103,10 @@ for at in 1 64 65 128; do
     list receipts.fw > listed; d 0 40 > expected; same listed expected 'a damaged list of roots'
 done
 
+cp good.fw receipts.fw; "$out/forge" receipts.fw "$slot" chain=1
+unchanged receipts.fw expect 68 'BadHead \(68\): the list of roots' roots receipts.fw
+expect 0 'Sound' check receipts.fw
+
 # Another writer.
 cp good.fw busy.fw
 exec 9< busy.fw; flock -x 9

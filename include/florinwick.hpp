@@ -51,12 +51,16 @@ private:
 using ByteView = Span<const std::uint8_t>;
 using ByteArea = Span<std::uint8_t>;
 
+namespace detail {
+
 // A slice of the library is never at null, also when it is empty.
 template <class T>
 T *lent(Span<T> bytes) {
     static std::uint8_t nothing = 0;
     return bytes.data() != nullptr ? bytes.data() : &nothing;
 }
+
+}  // namespace detail
 
 inline std::uint64_t get_word(const std::uint8_t *at) {
     std::uint64_t word = 0;
@@ -270,7 +274,7 @@ private:
         lower.write(bounds);
         upper.write(bounds + Datom::size);
         std::uint8_t words[FLORINWICK_ANSWER_BYTES];
-        florinwick_list_start(lent(store_), store_.size(), page_size_, page_count_, root, bounds, Datom::size,
+        florinwick_list_start(detail::lent(store_), store_.size(), page_size_, page_count_, root, bounds, Datom::size,
                               bounds + Datom::size, Datom::size, cursor_, sizeof cursor_, words, sizeof words);
         answer_ = Answer::read(words);
     }
@@ -278,7 +282,7 @@ private:
     void step() {
         std::uint8_t datom[Datom::size];
         std::uint8_t words[FLORINWICK_ANSWER_BYTES];
-        florinwick_list_step(lent(store_), store_.size(), page_size_, page_count_, cursor_, sizeof cursor_, datom, sizeof datom,
+        florinwick_list_step(detail::lent(store_), store_.size(), page_size_, page_count_, cursor_, sizeof cursor_, datom, sizeof datom,
                              words, sizeof words);
         answer_ = Answer::read(words);
         if (answer_.done()) datom_ = Datom::read(datom);
@@ -304,7 +308,7 @@ public:
     // Why a page cannot be fetched.
     Answer refusal(std::uint64_t page) const {
         std::uint8_t words[FLORINWICK_ANSWER_BYTES];
-        florinwick_fetch(lent(store_), store_.size(), page_size_, page_count_, page, words, sizeof words);
+        florinwick_fetch(detail::lent(store_), store_.size(), page_size_, page_count_, page, words, sizeof words);
         return Answer::read(words);
     }
     // That very part of the store; empty if refused.
@@ -315,7 +319,7 @@ public:
     // Done if the tree is sound.
     Answer check(std::uint64_t root) const {
         std::uint8_t words[FLORINWICK_ANSWER_BYTES];
-        florinwick_check(lent(store_), store_.size(), page_size_, page_count_, root, words, sizeof words);
+        florinwick_check(detail::lent(store_), store_.size(), page_size_, page_count_, root, words, sizeof words);
         return Answer::read(words);
     }
     // From the first datom not below `lower` up to the last below `upper`. A refused start is seen after the loop, as a refused step is.
@@ -351,16 +355,16 @@ public:
     // At an older root, or at none. The newest root is then the one that this gives.
     Answer insert_at(std::uint64_t root, ByteView batch) {
         std::uint8_t words[FLORINWICK_ANSWER_BYTES];
-        florinwick_insert(lent(bytes_), bytes_.size(), page_size_, page_count_, root, lent(batch), batch.size(),
-                          lent(scratch_), scratch_.size(), words, sizeof words);
+        florinwick_insert(detail::lent(bytes_), bytes_.size(), page_size_, page_count_, root, detail::lent(batch), batch.size(),
+                          detail::lent(scratch_), scratch_.size(), words, sizeof words);
         return moved_on(Answer::read(words));
     }
 
     // A new tree of a batch in any order.
     Answer initialise(ByteView batch) {
         std::uint8_t words[FLORINWICK_ANSWER_BYTES];
-        florinwick_initialise(lent(bytes_), bytes_.size(), page_size_, page_count_, lent(batch), batch.size(),
-                              lent(scratch_), scratch_.size(), words, sizeof words);
+        florinwick_initialise(detail::lent(bytes_), bytes_.size(), page_size_, page_count_, detail::lent(batch), batch.size(),
+                              detail::lent(scratch_), scratch_.size(), words, sizeof words);
         return moved_on(Answer::read(words));
     }
 

@@ -186,6 +186,23 @@ holds 'progress on a terminal' grep -q $'\033\\[K[0-9,]* batches with [0-9,]* da
 "$florin" list long.fw 2> complained > /dev/null; equal "$(wc -c < complained)" 0 'no progress elsewhere'
 rm -f long.fw long.txt
 
+# A feed that is open: each batch goes in, and its receipt comes, when its line --- has come.
+mkfifo feed.pipe
+"$florin" create live.fw --page-size 256 > /dev/null
+"$florin" insert live.fw < feed.pipe > told 2> complained &
+feed=$!
+exec 8> feed.pipe
+for batch in 1 2 3; do
+    (d $((10 * batch)) $((10 * batch + 4)); echo ---) >&8
+    for _ in $(seq 1 200); do
+        [ "$(grep -c ' is in:' told)" -ge "$batch" ] && break
+        sleep 0.01
+    done
+    equal "$(grep -c ' is in:' told):$("$florin" list live.fw | wc -l)" "$batch:$((5 * batch))" "batch $batch of an open feed"
+done
+exec 8>&-
+wait $feed; equal $? 0 'an open feed ends'
+
 # The listing of a store goes on while a feed is written to it, and the feed is not held up.
 "$florin" create feed.fw --page-size 256 --room 1 > /dev/null
 seq 0 59999 | awk '{ print $1, 1, $1, 2, "assert" }' > feed.txt

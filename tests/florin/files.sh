@@ -107,6 +107,19 @@ cp good.fw receipts.fw; "$out/forge" receipts.fw "$slot" chain=1
 unchanged receipts.fw expect 68 'BadHead \(68\): the list of roots' roots receipts.fw
 expect 0 'Sound' check receipts.fw
 
+# A file that is cut short by another program while florin has it mapped.
+mkfifo feed.pipe 2> /dev/null
+cp good.fw mapped.fw
+"$florin" insert mapped.fw < feed.pipe > told 2> complained &
+feed=$!
+exec 8> feed.pipe
+(d 100 101; echo ---) >&8
+for _ in $(seq 1 200); do grep -q ' is in:' told && break; sleep 0.01; done
+truncate -s 8192 mapped.fw
+(d 102 103; echo ---) >&8
+exec 8>&-
+wait $feed; equal "$?:$(grep -c 'System (74): the store cannot be read where it is mapped' complained)" 74:1 'a mapped file that is cut short'
+
 # Another writer.
 cp good.fw busy.fw
 exec 9< busy.fw; flock -x 9

@@ -212,11 +212,16 @@ fn check(store: &[u8], extent: Extent, recorded: &[u8], counts: &mut [u64; 12]) 
     let root = record::word(recorded, 2);
     let number = florinwick::florinwick_check(store, extent.size, extent.count, root, &mut area);
     let is_page = store::word(&area, 24) == record::word(recorded, 4);
-    if record::word(recorded, 3) == 0 {
+    let fault = record::word(recorded, 3);
+    if fault == 0 {
         tally::settle(counts, number == 0 && is_page, tally::SOUND);
         return;
     }
-    tally::settle(counts, number == 33 && is_page, tally::UNSOUND);
+    tally::settle(
+        counts,
+        number == 33 && fault == 1 && is_page,
+        tally::UNSOUND,
+    );
 }
 
 // The page of a record goes into the store: damage, or its repair.

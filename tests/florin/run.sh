@@ -29,7 +29,8 @@ fi
 florin=$out/cmake/florin
 # On a file system in memory a sync takes no time; what a sync must do is tested by cut.so, on any.
 work=$(mktemp -d "${FLORIN_TEST_WORK:-/dev/shm}/florin.XXXXXX")
-trap 'rm -rf "$work"' EXIT
+# files.sh mounts a file system in it.
+trap 'umount "$work/disk" 2> /dev/null; rm -rf "$work"' EXIT
 cd "$work" || exit 1
 
 # shellcheck source=steps.sh

@@ -22,7 +22,8 @@ fi
 # The file of a fault, in its copy.
 file_of() {
     case $1 in
-        history | library | store) echo "$out/differential/$1.rs" ;;
+        history | library | store | model | reader) echo "$out/differential/$1.rs" ;;
+        damage | wrong) echo "$out/differential/history/$1.rs" ;;
         *) rust_file "$1" ;;
     esac
 }

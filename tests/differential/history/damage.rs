@@ -49,7 +49,11 @@ impl History<'_> {
     pub(super) fn readable_damage(&mut self) -> Result<(), Fault> {
         let at = self.some_tree();
         let root = self.trees[at].root;
-        let Some((page, new)) = readable_damage(&self.patched, root, &self.supply, &mut self.random) else {
+        let damage = match self.random.one_in(3) {
+            true => self.damage_at_bounds(root),
+            false => readable_damage(&self.patched, root, &self.supply, &mut self.random),
+        };
+        let Some((page, new)) = damage else {
             return Ok(());
         };
         self.damage(page, new);
@@ -65,6 +69,30 @@ impl History<'_> {
         }
         self.tally.damaged_readable += 1;
         self.read_damaged(at)
+    }
+
+    /// A page below the root whose first or last datom is equal to its bound, with a child below it that is outside its own bounds.
+    fn damage_at_bounds(&mut self, root: u64) -> Option<(u64, Vec<u8>)> {
+        let sought = self.supply.any(&mut self.random);
+        let way = path(&self.patched, root, &sought);
+        let at = 1 + self.random.below(way.len().max(2) - 1);
+        let &page = way.get(at)?;
+        let (parent, mut node) = (node(&self.patched, way[at - 1]), node(&self.patched, page));
+        let place = parent.children.iter().position(|&child| child == page)?;
+        let last = node.datoms.len().checked_sub(1)?;
+        if self.random.one_in(3) {
+            let before = (0..place).rev().find(|&i| parent.children[i] != NONE)?;
+            node.datoms[0] = parent.datoms[before];
+        } else {
+            node.datoms[last] = *parent.datoms.get(place)?;
+        }
+        let midpoint = (0..last).find(|&i| node.children[i] != NONE).filter(|_| self.random.one_in(2));
+        if let Some(i) = midpoint {
+            node.datoms[i] = *super::node(&self.patched, node.children[i]).datoms.last()?;
+        }
+        let mut new = self.patched.page(page)?.to_vec();
+        node.encode_over(&mut new);
+        if node.is_readable(page) { Some((page, new)) } else { None }
     }
 
     /// A page that breaks one of the rules of a readable one.

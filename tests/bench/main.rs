@@ -99,7 +99,7 @@ impl Bench {
                 self.note(what, keys, tree, "Rust", time / batches.len() as f64);
             }
         }
-        assert!(ours.slab.count == theirs.slab.count && ours.root == theirs.root && ours.slab.bytes() == theirs.slab.bytes());
+        assert!(ours.root == theirs.root && ours.slab.bytes_from(count) == theirs.slab.bytes_from(count), "both write the same pages");
         (ours.root, theirs.root) = (root, root);
         ours.slab.rewind(count);
         theirs.slab.rewind(count);

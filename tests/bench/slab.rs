@@ -13,7 +13,9 @@ pub struct Slab {
 impl Slab {
     /// Room for so many pages, all of it touched.
     pub fn new(pages: usize) -> Slab {
-        Slab { words: vec![1; pages * PAGE / 8], count: 0 }
+        let mut words = vec![1; pages * PAGE / 8];
+        words.fill(0);
+        Slab { words, count: 0 }
     }
 
     pub fn bytes(&self) -> &[u8] {
@@ -28,6 +30,11 @@ impl Slab {
         &self.bytes()[page as usize * PAGE..][..PAGE]
     }
 
+    /// The pages from `count` on.
+    pub fn bytes_from(&self, count: u64) -> &[u8] {
+        &self.bytes()[count as usize * PAGE..self.count as usize * PAGE]
+    }
+
     pub fn append(&mut self, page: &[u8]) -> u64 {
         let at = self.count as usize * PAGE;
         self.bytes_mut()[at..at + PAGE].copy_from_slice(page);
@@ -35,10 +42,10 @@ impl Slab {
         self.count - 1
     }
 
-    /// Forgets the pages from `count` on and clears the room past them.
+    /// Forgets the pages from `count` on, and clears them: the room past the pages in use is zero.
     pub fn rewind(&mut self, count: u64) {
+        self.words[count as usize * PAGE / 8..self.count as usize * PAGE / 8].fill(0);
         self.count = count;
-        self.words[count as usize * PAGE / 8..].fill(0);
     }
 
     /// The first pages of a slab, with room for more.
@@ -46,7 +53,7 @@ impl Slab {
         let mut slab = Slab::new(other.count as usize + more);
         let length = other.count as usize * PAGE;
         slab.bytes_mut()[..length].copy_from_slice(&other.bytes()[..length]);
-        slab.rewind(other.count);
+        slab.count = other.count;
         slab
     }
 }

@@ -1,0 +1,45 @@
+// The record entry: a batch as a slice of datom records.
+use datom::Datom;
+ghost use mathlib.Core.Path.{_≡_};
+ghost use Prim.Native.Nat.{_+_, _*_, _≤_};
+ghost use lib.ListN.{length};
+ghost use Rattle.store.specs.Words.{patch};
+ghost use Rattle.datom.specs.Datom.{datomBytes};
+ghost use Rattle.records.specs.Laid.{laidCount, Laid};
+
+// How many of n records are laid into so many bytes: all of them, or none of a batch that is refused without a look at it.
+pub fn laid_count(n: usize, room: usize) -> usize
+    ensures { λ r. ⌜ r ≡ laidCount n room ⌝ }
+{
+    if 128 < n {
+        return 0;
+    }
+    if room < 32 * n {
+        return 0;
+    }
+    n
+}
+
+// A datom's bytes, as number i of an area of datoms.
+pub fn put_datom(area: &mut [u8], i: usize, d: Datom)
+    requires { ⌜ 32 * i + 32 ≤ length (now area) ⌝ }
+    ensures { λ _. ⌜ now (area .exit) ≡ patch (now (area .entry)) (32 * i) (datomBytes d) ⌝ }
+{
+    let at = 32 * i;
+    store::put_word(area, at, d.entity.0);
+    store::put_word(area, at + 8, d.attribute.0);
+    store::put_word(area, at + 16, d.value.0);
+    store::put_word(area, at + 24, d.transaction_operation.0);
+}
+
+// The records of a batch, in order, from the front of the area on.
+pub fn lay(batch: &[Datom], area: &mut [u8])
+    ensures { λ _. ⌜ Laid (now (batch .entry)) (now (area .exit)) ⌝ }
+{
+    let n = laid_count(batch.len(), area.len());
+    let mut i = 0;
+    while i < n {
+        put_datom(area, i, batch[i]);
+        i = i + 1;
+    }
+}

@@ -32,15 +32,15 @@ module _ (n room : ℕ) where
   unfolding laidCount
   laid-all h k = rw (le-ltb 128 n h, le-ltb room (32 * n) k)
 
-  -- what is laid is of the batch, and in the area
-  pub laid-fits : (laidCount n room ≤ n) × (32 * laidCount n room ≤ room)
+  -- what is laid is of the batch, in the area, and no more than a batch may have
+  pub laid-fits : (laidCount n room ≤ n) × (32 * laidCount n room ≤ room) × (laidCount n room ≤ 128)
   unfolding laidCount
-  laid-fits = side (ltb 128 n) (ltb room (32 * n)) refl
+  laid-fits = side (ltb 128 n) refl (ltb room (32 * n)) refl
     where
-      side : (a b : Bool) → ltb room (32 * n) ≡ b → (cond a 0 (cond b 0 n) ≤ n) × (32 * cond a 0 (cond b 0 n) ≤ room)
-      side true b e = (omega arith, omega arith)
-      side false true e = (omega arith, omega arith)
-      side false false e = (omega arith, ltb-false room (32 * n) e)
+      side : (a : Bool) → ltb 128 n ≡ a → (b : Bool) → ltb room (32 * n) ≡ b → (cond a 0 (cond b 0 n) ≤ n) × (32 * cond a 0 (cond b 0 n) ≤ room) × (cond a 0 (cond b 0 n) ≤ 128)
+      side true d b e = (omega arith, omega arith, omega arith)
+      side false d true e = (omega arith, omega arith, omega arith)
+      side false d false e = (omega arith, ltb-false room (32 * n) e, ltb-false 128 n d)
 
 -- a datom's words behind one another are its bytes
 module _ (s : List ℕ) (at : ℕ) where

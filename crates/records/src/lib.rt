@@ -1,11 +1,18 @@
 // The record entry: a batch as a slice of datom records.
+use answer::Answer;
 use datom::Datom;
+use store::Extent;
+use store::PageId;
 ghost use mathlib.Core.Path.{_≡_};
 ghost use Prim.Native.Nat.{_+_, _*_, _≤_};
 ghost use lib.ListN.{length};
 ghost use Rattle.store.specs.Words.{patch};
 ghost use Rattle.datom.specs.Datom.{datomBytes};
+ghost use Rattle.index.specs.Order.{eavt};
+ghost use Rattle.rules.specs.Insert.{insertBytes};
+ghost use Rattle.entry.specs.Reply.{Replies};
 ghost use Rattle.records.specs.Laid.{laidCount, Laid};
+ghost use Rattle.records.specs.Handed.{handedLength, handedArea, handedBytes};
 
 // How many of n records are laid into so many bytes: all of them, or none of a batch that is refused without a look at it.
 pub fn laid_count(n: usize, room: usize) -> usize
@@ -42,4 +49,33 @@ pub fn lay(batch: &[Datom], area: &mut [u8])
         put_datom(area, i, batch[i]);
         i = i + 1;
     }
+}
+
+// How many bytes the byte entry is handed for n records. Over 128 of them are handed on as 129: it refuses these in its own order.
+fn handed_length(n: usize) -> usize
+    ensures { λ r. ⌜ r ≡ handedLength n ⌝ }
+{
+    if 128 < n {
+        return 4128;
+    }
+    32 * n
+}
+
+// A copy of the records that `lay` has laid, since the byte entry gets the scratch to write in.
+fn handed(n: usize, s: &[u8]) -> [u8; 4128]
+    ensures { λ r. ⌜ r ≡ handedArea n (now (s .entry)) ⌝ }
+{
+    let mut b = [0u8; 4128];
+    let k = 32 * laid_count(n, s.len());
+    store::put(&mut b, 0, &s[..k]);
+    b
+}
+
+// Inserts the n records that `lay` has seen at the front of the scratch.
+pub fn insert_laid(store: &mut [u8], extent: Extent, root: PageId, n: usize, s: &mut [u8]) -> Answer
+    ensures { λ r. ⌜ Replies extent (now (store .entry)) (now (store .exit)) r (insertBytes eavt extent (now (store .entry)) (length (now (s .entry))) root (handedBytes n (now (s .entry)))) ⌝ }
+{
+    let b = handed(n, s);
+    let m = handed_length(n);
+    entry::insert(store, extent, root, &b[..m], s)
 }

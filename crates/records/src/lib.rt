@@ -9,7 +9,7 @@ ghost use lib.ListN.{length};
 ghost use Rattle.store.specs.Words.{patch};
 ghost use Rattle.datom.specs.Datom.{datomBytes};
 ghost use Rattle.index.specs.Order.{eavt};
-ghost use Rattle.rules.specs.Insert.{insertBytes};
+ghost use Rattle.rules.specs.Insert.{insertBytes, insert as rulesInsert};
 ghost use Rattle.entry.specs.Reply.{Replies};
 ghost use Rattle.records.specs.Laid.{laidCount, Laid};
 ghost use Rattle.records.specs.Handed.{handedLength, handedArea, handedBytes};
@@ -78,4 +78,18 @@ pub fn insert_laid(store: &mut [u8], extent: Extent, root: PageId, n: usize, s: 
     let b = handed(n, s);
     let m = handed_length(n);
     entry::insert(store, extent, root, &b[..m], s)
+}
+
+// Inserts a batch of records at a root.
+pub fn insert(
+    store: &mut [u8],
+    extent: Extent,
+    root: PageId,
+    batch: &[Datom],
+    s: &mut [u8],
+) -> Answer
+    ensures { λ r. ⌜ Replies extent (now (store .entry)) (now (store .exit)) r (rulesInsert eavt extent (now (store .entry)) (length (now (s .entry))) root (now (batch .entry))) ⌝ }
+{
+    lay(batch, s);
+    insert_laid(store, extent, root, batch.len(), s)
 }

@@ -9,7 +9,7 @@ ghost use lib.ListN.{length};
 ghost use Rattle.store.specs.Words.{patch};
 ghost use Rattle.datom.specs.Datom.{datomBytes};
 ghost use Rattle.index.specs.Order.{eavt};
-ghost use Rattle.rules.specs.Insert.{insertBytes, insert as rulesInsert};
+ghost use Rattle.rules.specs.Insert.{insertBytes, initialiseBytes, insert as rulesInsert, initialise as rulesInitialise};
 ghost use Rattle.entry.specs.Reply.{Replies};
 ghost use Rattle.records.specs.Laid.{laidCount, Laid};
 ghost use Rattle.records.specs.Handed.{handedLength, handedArea, handedBytes};
@@ -92,4 +92,21 @@ pub fn insert(
 {
     lay(batch, s);
     insert_laid(store, extent, root, batch.len(), s)
+}
+
+// Makes a new tree of the n records that `lay` has seen at the front of the scratch.
+pub fn initialise_laid(store: &mut [u8], extent: Extent, n: usize, s: &mut [u8]) -> Answer
+    ensures { λ r. ⌜ Replies extent (now (store .entry)) (now (store .exit)) r (initialiseBytes eavt extent (now (store .entry)) (length (now (s .entry))) (handedBytes n (now (s .entry)))) ⌝ }
+{
+    let b = handed(n, s);
+    let m = handed_length(n);
+    entry::initialise(store, extent, &b[..m], s)
+}
+
+// Makes a new tree of a batch of records in any order.
+pub fn initialise(store: &mut [u8], extent: Extent, batch: &[Datom], s: &mut [u8]) -> Answer
+    ensures { λ r. ⌜ Replies extent (now (store .entry)) (now (store .exit)) r (rulesInitialise eavt extent (now (store .entry)) (length (now (s .entry))) (now (batch .entry))) ⌝ }
+{
+    lay(batch, s);
+    initialise_laid(store, extent, batch.len(), s)
 }

@@ -1,18 +1,16 @@
 -- One step of each check along the batch, as its loop takes it.
-use Prim.Native.Nat.{ℕ, _+_, _<_, _≤_, Ordering, Ordering·lt, Ordering·eq, Ordering·gt}
+use Prim.Native.Nat.{ℕ, _+_, _<_, _≤_, Ordering}
 use native.Mathlib.Numerals.{add-one}
 use mathlib.Core.Bool.{Bool, true, false}
 use mathlib.Core.List.{List, _∷_}
 use mathlib.Core.Path.{_≡_, refl, sym, ap}
 use lib.ListN.{drop}
 use Rattle.store.specs.Words.{cells}
-use Rattle.store.specs.Laws.{apart}
 use Rattle.store.specs.Cells.{cells-end}
 use Rattle.datom.specs.declared.Datom.{Datom}
 use Rattle.datom.specs.Datom.{datomAt, datomOf, datomsOf}
 use Rattle.datom.specs.Laws.{datoms-from}
-use Rattle.index.specs.declared.Order.the-variants.{Less, Equal, Greater}
-use Rattle.index.specs.Order.{isLess, isSame, named}
+use Rattle.index.specs.Order.{isLess}
 use Rattle.answer.specs.declared.Refusal.the-variants.{BadDatom, OutOfOrder}
 use Rattle.rules.specs.Lookup.{clear, found}
 use Rattle.rules.specs.Insert.{formFault, lowFault, orderFault}
@@ -56,22 +54,3 @@ module _ (cmp : Datom → Datom → Ordering) where
   order-start n b h =
       let e : datomsOf n b ≡ datomAt b 0 ∷ drop 1 (datomsOf n b) = datoms-from n 0 b h in
       sym (ap (orderFault cmp) e)
-
--- what a named ordering says
-pub less-named : (o : Ordering) → named o ≡ Less → (isLess o ≡ true) × (isSame o ≡ false)
-unfolding named isLess isSame
-less-named Ordering·lt e = (refl, refl)
-less-named Ordering·eq e = absurd (apart (cc))
-less-named Ordering·gt e = absurd (apart (cc))
-
-pub equal-named : (o : Ordering) → named o ≡ Equal → (isLess o ≡ false) × (isSame o ≡ true)
-unfolding named isLess isSame
-equal-named Ordering·lt e = absurd (apart (cc))
-equal-named Ordering·eq e = (refl, refl)
-equal-named Ordering·gt e = absurd (apart (cc))
-
-pub greater-named : (o : Ordering) → named o ≡ Greater → (isLess o ≡ false) × (isSame o ≡ false)
-unfolding named isLess isSame
-greater-named Ordering·lt e = absurd (apart (cc))
-greater-named Ordering·eq e = absurd (apart (cc))
-greater-named Ordering·gt e = (refl, refl)

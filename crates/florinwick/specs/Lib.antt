@@ -1,2 +1,4 @@
 -- What the C interface returns and leaves, as the rules reply.
 pub mod Words
+pub mod Cursor
+pub mod Listing

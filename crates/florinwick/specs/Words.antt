@@ -52,14 +52,13 @@ pub replied-same :
     (r₁ r₂ : ℕ) (s₁ s₂ a₁ a₂ : List ℕ) (y : Reply) → Replied r₁ s₁ a₁ y → Replied r₂ s₂ a₂ y → (r₁ ≡ r₂) × (s₁ ≡ s₂) × (a₁ ≡ a₂)
 replied-same r₁ r₂ s₁ s₂ a₁ a₂ y A B = (A .returns ∙ sym (B .returns), A .store ∙ sym (B .store), A .area ∙ sym (B .area))
 
--- four words behind one another fill the area
-next-word :
-    (a p : List ℕ) (n w : ℕ) → length p ≡ n → n + 8 ≤ length a → patch (patch a 0 p) n (bytesOf 8 w) ≡ patch a 0 (p ++ bytesOf 8 w)
-next-word a p n w e h =
-    ap (λ (k : ℕ). patch (patch a 0 p) k (bytesOf 8 w)) (let z : n ≡ 0 + length p = omega arith in z)
-    ∙ patch-patch a 0 p (bytesOf 8 w) (omega (arith, bytes-length 8 w))
+-- blocks behind one another, until they fill an area
+pub next-block :
+    (a p q : List ℕ) (n : ℕ) → length p ≡ n → n + length q ≤ length a → patch (patch a 0 p) n q ≡ patch a 0 (p ++ q)
+next-block a p q n e h =
+    ap (λ (k : ℕ). patch (patch a 0 p) k q) (let z : n ≡ 0 + length p = omega arith in z) ∙ patch-patch a 0 p q (omega arith)
 
-filled : (a p : List ℕ) → length a ≡ length p → patch a 0 p ≡ p
+pub filled : (a p : List ℕ) → length a ≡ length p → patch a 0 p ≡ p
 unfolding patch
 filled a p e = ap (λ (l : List ℕ). p ++ l) (drop-of-length-le a {i = 0 + length p} (omega arith)) ∙ append-nil p
 
@@ -79,8 +78,9 @@ module _ (a : List ℕ) (full : length a ≡ 32) (p q r t : ℕ) where
   stacked :
       patch (patch (patch (patch a 0 (bytesOf 8 p)) 8 (bytesOf 8 q)) 16 (bytesOf 8 r)) 24 (bytesOf 8 t) ≡ three ++ bytesOf 8 t
   stacked =
-      ap (λ (s : List ℕ). patch (patch s 16 (bytesOf 8 r)) 24 (bytesOf 8 t)) (next-word a (bytesOf 8 p) 8 q (bytes-length 8 p) (omega arith))
-      ∙ ap (λ (s : List ℕ). patch s 24 (bytesOf 8 t)) (next-word a two 16 r two-long (omega arith)) ∙ next-word a three 24 t three-long (omega arith)
+      ap (λ (s : List ℕ). patch (patch s 16 (bytesOf 8 r)) 24 (bytesOf 8 t)) (next-block a (bytesOf 8 p) (bytesOf 8 q) 8 (bytes-length 8 p) (omega (arith, bytes-length 8 q)))
+      ∙ ap (λ (s : List ℕ). patch s 24 (bytesOf 8 t)) (next-block a two (bytesOf 8 r) 16 two-long (omega (arith, bytes-length 8 r)))
+      ∙ next-block a three (bytesOf 8 t) 24 three-long (omega (arith, bytes-length 8 t))
       ∙ filled a (three ++ bytesOf 8 t) (omega (arith, length-append three (bytesOf 8 t), three-long, bytes-length 8 t))
 
   pub four-words :
@@ -105,13 +105,17 @@ told-reply x s s₁ a a₁ root o r v h R e T =
       area = T .bytes ∙ ap (λ (z : Answer). wordBytes (answerWords root z)) (R .answer);
     })
 
--- of a fetch
-pub record Fetched (r : ℕ) (a a₁ : List ℕ) (w : Words) : Type 0 where
+-- what a call that changes no store returned and left in its answer area
+pub record Answered (r : ℕ) (a a₁ : List ℕ) (w : Words) : Type 0 where
   pub returns : r ≡ cond (eqb (length a) 32) (w .number) 1
   pub area : a₁ ≡ cond (eqb (length a) 32) (wordBytes w) a
 
-pub no-fetch : (a : List ℕ) (w : Words) → (length a ≡ 32 → ⊥) → Fetched 1 a a w
-no-fetch a w h = record { returns = rw (ne-eqb (length a) 32 h); area = rw (ne-eqb (length a) 32 h) }
+pub answered-same :
+    (r₁ r₂ : ℕ) (a a₁ a₂ : List ℕ) (w : Words) → Answered r₁ a a₁ w → Answered r₂ a a₂ w → (r₁ ≡ r₂) × (a₁ ≡ a₂)
+answered-same r₁ r₂ a a₁ a₂ w A B = (A .returns ∙ sym (B .returns), A .area ∙ sym (B .area))
 
-pub told-fetch : (r : ℕ) (a a₁ : List ℕ) (w : Words) → length a ≡ 32 → r ≡ w .number → Tells w a₁ → Fetched r a a₁ w
-told-fetch r a a₁ w h e T = record { returns = rw (eq-eqb (length a) 32 h) e; area = rw (eq-eqb (length a) 32 h) (T .bytes) }
+pub not-answered : (a : List ℕ) (w : Words) → (length a ≡ 32 → ⊥) → Answered 1 a a w
+not-answered a w h = record { returns = rw (ne-eqb (length a) 32 h); area = rw (ne-eqb (length a) 32 h) }
+
+pub answered : (r : ℕ) (a a₁ : List ℕ) (w : Words) → length a ≡ 32 → r ≡ w .number → Tells w a₁ → Answered r a a₁ w
+answered r a a₁ w h e T = record { returns = rw (eq-eqb (length a) 32 h) e; area = rw (eq-eqb (length a) 32 h) (T .bytes) }

@@ -5,4 +5,5 @@ pub mod Laws
 pub mod Key
 pub mod Compare
 pub mod Keys
+pub mod Named
 pub mod Ways

@@ -1,11 +1,10 @@
 -- The ways on from a level whose datom is taken, and the answers they give.
-use Prim.Native.Nat.{ℕ, zero, suc, _+_, _-_, _≤_}
-use native.Mathlib.Numerals.{add-one}
+use Prim.Native.Nat.{ℕ, zero, suc, _+_, _-_}
 use native.Mathlib.Omega.{arith}
-use mathlib.Core.Bool.{Bool, true, false}
-use mathlib.Core.List.{List, []}
-use mathlib.Core.Path.{_≡_, refl, sym, ap, _∙_}
-use lib.ListN.{length, getD, set}
+use mathlib.Core.Bool.{true, false}
+use mathlib.Core.List.{List}
+use mathlib.Core.Path.{_≡_, refl, ap, _∙_}
+use lib.ListN.{getD}
 use Rattle.store.specs.declared.PageId.{PageId}
 use Rattle.store.specs.declared.Extent.{Extent}
 use Rattle.store.specs.Page.{page}
@@ -15,10 +14,9 @@ use Rattle.index.specs.Order.{eavt}
 use Rattle.answer.specs.declared.Refusal.the-variants.{Damaged}
 use Rattle.answer.specs.declared.Cursor.{Cursor}
 use Rattle.answer.specs.declared.Step.the-variants as step
-use Rattle.answer.specs.declared.Stepped.{Stepped}
-use Rattle.rules.specs.Page.{Node, nodeOf}
+use Rattle.rules.specs.Page.{nodeOf}
 use Rattle.rules.specs.Node.{isMidpoint}
-use Rattle.rules.specs.Tree.{Fetched, fine}
+use Rattle.rules.specs.Tree.{fine}
 use Rattle.rules.specs.Store.{pageAt, fetchPage}
 use Rattle.rules.specs.Listing.{never, cursorOf, endFrames, refuseStep}
 use Rattle.memory_store.specs.Layout.{childrenOf}
@@ -28,7 +26,7 @@ use Rattle.listing.specs.declared.descent.Seek.the-variants.{First}
 use Rattle.listing.specs.declared.descent.End.the-variants.{Bottom, Lost}
 use Rattle.listing.specs.Way.{framesOf}
 use Rattle.listing.specs.Descent.{testOf, childFrom, descentOf, downOf}
-use Rattle.listing.specs.Readable.{nodeAt}
+use Rattle.memory_store.specs.Readable.{nodeAt}
 use Rattle.listing.specs.Candidate.{nodeIn}
 use Rattle.listing.specs.Advance.{stays, taken, advanced, yieldOf}
 

@@ -1,48 +1,29 @@
 -- One level of the running minimum.
-use Prim.Native.Nat.{ℕ, suc, _+_, _*_, _<_, _≤_, Ordering, Ordering·lt, Ordering·eq, Ordering·gt}
+use Prim.Native.Nat.{ℕ, _+_, _*_, _<_, _≤_}
 use native.Mathlib.Numerals.{add-one}
-use native.Mathlib.Omega.{arith}
-use mathlib.Core.Bool.{false}
-use mathlib.Core.List.{List, [], _∷_}
+use mathlib.Core.List.{List}
 use mathlib.Core.Path.{_≡_, refl, sym, ap, _∙_}
 use lib.ListN.{length, drop, getD}
 use Rattle.store.specs.declared.PageId.{PageId}
 use Rattle.store.specs.declared.Extent.{Extent}
 use Rattle.store.specs.Page.{page}
 use Rattle.store.specs.Size.{capacity}
-use Rattle.store.specs.Laws.{apart, cells-length}
+use Rattle.store.specs.Laws.{cells-length}
 use Rattle.store.specs.Cells.{cells-end}
 use Rattle.datom.specs.declared.Datom.{Datom}
-use Rattle.datom.specs.Datom.{datomAt, datomOf, datomsOf}
+use Rattle.datom.specs.Datom.{datomAt, datomOf}
 use Rattle.datom.specs.Laws.{datoms-from}
 use Rattle.index.specs.declared.Order.the-variants.{Less, Equal, Greater}
+use Rattle.index.specs.Named.{is-lt, is-eq, is-gt}
 use Rattle.index.specs.Order.{cmpEavt, eavt, named}
 use Rattle.rules.specs.Page.{Node, nodeOf, levelOf, countOf}
 use Rattle.rules.specs.Tree.{Fetched, fine}
-use Rattle.rules.specs.Store.{badStore, pageAt, fetchPage}
+use Rattle.rules.specs.Store.{pageAt, fetchPage}
 use Rattle.rules.specs.Reads.{fetch-tells}
 use Rattle.listing.specs.declared.candidate.Candidate.{Candidate}
 use Rattle.listing.specs.declared.candidate.Candidate.the-variants.{Nothing, At, Twice}
-use Rattle.listing.specs.Readable.{nodeAt}
+use Rattle.memory_store.specs.Readable.{nodeAt}
 use Rattle.listing.specs.Candidate.{nodeIn, pickOne, pick, picked}
-
-is-lt : (o : Ordering) → named o ≡ Less → o ≡ Ordering·lt
-unfolding named
-is-lt Ordering·lt e = refl
-is-lt Ordering·eq e = absurd (apart (cc))
-is-lt Ordering·gt e = absurd (apart (cc))
-
-is-eq : (o : Ordering) → named o ≡ Equal → o ≡ Ordering·eq
-unfolding named
-is-eq Ordering·lt e = absurd (apart (cc))
-is-eq Ordering·eq e = refl
-is-eq Ordering·gt e = absurd (apart (cc))
-
-is-gt : (o : Ordering) → named o ≡ Greater → o ≡ Ordering·gt
-unfolding named
-is-gt Ordering·lt e = absurd (apart (cc))
-is-gt Ordering·eq e = absurd (apart (cc))
-is-gt Ordering·gt e = refl
 
 module _ (l : ℕ) (q : PageId) (x : Datom) (b : Candidate) where
   pub one-first : b ≡ Nothing → At l x ≡ pickOne l q x b

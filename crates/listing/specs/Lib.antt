@@ -13,4 +13,3 @@ pub mod AdvanceLaws
 pub mod Least
 pub mod Taken
 pub mod StepLaws
-pub mod Readable

@@ -3,9 +3,9 @@ use Prim.Native.Nat.{ℕ, zero, suc, _-_, _<_, _≤_}
 use native.Mathlib.Decide.{decLe}
 use native.Mathlib.Omega.{arith}
 use mathlib.Core.Bool.{Bool, true, false}
-use mathlib.Core.List.{List, [], _∷_, map}
+use mathlib.Core.List.{List}
 use mathlib.Core.Path.{_≡_, refl, sym, ap, _∙_}
-use borrow.Author.Tests.{eq-eqb, ne-eqb, eqb-true, leb-true, leb-false, le-leb, lt-leb}
+use borrow.Author.Tests.{eq-eqb, ne-eqb, eqb-true, leb-true, le-leb, lt-leb}
 use lib.Dec.{leb, eqb}
 use lib.ListN.{length, getD}
 use Rattle.store.specs.declared.PageId.{PageId}
@@ -18,11 +18,11 @@ use Rattle.answer.specs.declared.Fault.{Fault}
 use Rattle.rules.specs.Page.{Node, nodeOf}
 use Rattle.rules.specs.Tree.{Fetched, faulty, fine, atLevel}
 use Rattle.rules.specs.Store.{pageAt, fetchPage}
-use Rattle.rules.specs.Listing.{Frame, framesFrom, Opens, notOpen, opened, openMore, openOne, openFrames}
+use Rattle.rules.specs.Listing.{Frame, framesFrom, Opens, notOpen, opened, openOne, openFrames}
 use Rattle.listing.specs.declared.opening.Opening.{Opening}
 use Rattle.listing.specs.declared.opening.Opening.the-variants.{Open, Damaged}
 use Rattle.listing.specs.WayLaws.{frames-count}
-use Rattle.listing.specs.Readable.{nodeAt}
+use Rattle.memory_store.specs.Readable.{nodeAt}
 
 -- a page with no fewer datoms than the index
 unfoldable pub isOpen : ℕ → Fetched → Bool

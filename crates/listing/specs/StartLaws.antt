@@ -1,47 +1,25 @@
 -- The refusals of a start, in their order.
-use Prim.Native.Nat.{ℕ, _≤_, _<_, Ordering, Ordering·lt, Ordering·eq, Ordering·gt}
-use native.Mathlib.Omega.{arith}
-use mathlib.Core.Bool.{Bool, true, false, _&&_, not}
+use Prim.Native.Nat.{ℕ, _≤_, _<_}
+use mathlib.Core.Bool.{true, false, _&&_, not}
 use mathlib.Core.List.{List, []}
-use mathlib.Core.Path.{_≡_, refl, sym, ap, _∙_}
-use borrow.Author.Tests.{eq-eqb, le-ltb, lt-ltb, not-true, not-false}
+use mathlib.Core.Path.{_≡_, refl}
+use borrow.Author.Tests.{eq-eqb, le-ltb, lt-ltb}
 use Rattle.store.specs.declared.PageId.{PageId}
 use Rattle.store.specs.declared.Extent.{Extent}
 use Rattle.store.specs.Page.{isNone}
-use Rattle.store.specs.Laws.{apart}
 use Rattle.datom.specs.declared.Datom.{Datom}
 use Rattle.datom.specs.Datom.{boundDatom}
-use Rattle.index.specs.declared.Order.the-variants.{Less, Equal, Greater}
-use Rattle.index.specs.Order.{cmpEavt, eavt, isLess, named}
+use Rattle.index.specs.Order.{cmpEavt, eavt, isLess}
 use Rattle.answer.specs.declared.Fault.{Fault}
 use Rattle.answer.specs.declared.Refusal.the-variants.{BadStore, BadBound, NoPage, Damaged}
 use Rattle.answer.specs.declared.Start.the-variants as start
 use Rattle.rules.specs.Page.{nodeOf}
 use Rattle.rules.specs.Tree.{faulty, fine, atLevel}
 use Rattle.rules.specs.Store.{badStore, badRoot, fetchPage}
-use Rattle.rules.specs.Listing.{cursorOf, refuseStart, joinPaths, startAt, startUnder, startList, pathBy}
+use Rattle.rules.specs.Listing.{cursorOf, refuseStart, joinPaths, startAt, startUnder, startList}
 use Rattle.listing.specs.declared.descent.Seek.the-variants.{NotBelow}
 use Rattle.listing.specs.Descent.{testOf, downOf}
-use Rattle.listing.specs.Readable.{nodeAt}
-
--- an order that is named
-pub less-named : (o : Ordering) → named o ≡ Less → isLess o ≡ true
-unfolding named isLess
-less-named Ordering·lt e = refl
-less-named Ordering·eq e = absurd (apart (cc))
-less-named Ordering·gt e = absurd (apart (cc))
-
-pub equal-named : (o : Ordering) → named o ≡ Equal → isLess o ≡ false
-unfolding named isLess
-equal-named Ordering·lt e = absurd (apart (cc))
-equal-named Ordering·eq e = refl
-equal-named Ordering·gt e = absurd (apart (cc))
-
-pub greater-named : (o : Ordering) → named o ≡ Greater → isLess o ≡ false
-unfolding named isLess
-greater-named Ordering·lt e = absurd (apart (cc))
-greater-named Ordering·eq e = absurd (apart (cc))
-greater-named Ordering·gt e = refl
+use Rattle.memory_store.specs.Readable.{nodeAt}
 
 module _ (x : Extent) (root : PageId) where
   pub root-none : isNone root ≡ true → false ≡ badRoot x root

@@ -59,7 +59,7 @@ pub fn nothing() -> Cursor
     }
 }
 
-fn refused(refusal: Refusal) -> Started
+pub fn refused(refusal: Refusal) -> Started
     ensures { λ r. ⌜ r ≡ refuseStart refusal ⌝ }
 {
     Started {

@@ -72,10 +72,8 @@ fn refused(cursor: Cursor, refusal: Refusal) -> Stepped
 fn ended(cursor: Cursor) -> Stepped
     ensures { λ r. ⌜ r ≡ staying cursor Ended ⌝ }
 {
-    Stepped {
-        answer: Step::Ended,
-        cursor,
-    }
+    let answer = Step::Ended;
+    Stepped { answer, cursor }
 }
 
 // The datom of a level is yielded, unless a page is lost while the cursor advances.

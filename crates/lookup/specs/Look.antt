@@ -5,16 +5,15 @@ use mathlib.Core.Path.{_≡_, refl}
 use lib.ListN.{length}
 use Rattle.store.specs.declared.PageId.{PageId}
 use Rattle.store.specs.declared.Extent.{Extent}
-use Rattle.store.specs.Size.{capacity}
 use Rattle.store.specs.Laws.{apart}
 use Rattle.datom.specs.declared.Datom.{Datom}
 use Rattle.index.specs.Order.{eavt}
 use Rattle.answer.specs.declared.Refusal.{Refusal}
 use Rattle.answer.specs.declared.Refusal.the-variants.{Damaged}
-use Rattle.rules.specs.Page.{Node, nodeOf}
+use Rattle.rules.specs.Page.{Node}
 use Rattle.rules.specs.Tree.{Fetched, faulty, fine, Env, insertTree}
 use Rattle.rules.specs.Lookup as rules
-use Rattle.rules.specs.Store.{pageAt, fetchPage, envOf}
+use Rattle.rules.specs.Store.{fetchPage, envOf}
 use Rattle.rules.specs.Insert.{refuse, outcome, insertAt}
 use Rattle.lookup.specs.declared.Look.{Look}
 use Rattle.lookup.specs.declared.Look.the-variants.{Met, Absent, Lost}
@@ -31,10 +30,6 @@ lookOf (rules.lost p f) = Lost p
 unfoldable pub openedOf : Fetched → Opened
 openedOf (faulty f) = opened.Damaged
 openedOf (fine n) = opened.Node (length (n .datoms))
-
--- page p of the store, as a node of level l and k datoms
-abbrev pub nodeAt : Extent → List ℕ → PageId → ℕ → ℕ → Node
-nodeAt x s p l k = nodeOf (capacity (x .size)) l k (pageAt x s p)
 
 -- the path of d from page p, which is to be of level l
 abbrev pub pathOf : Extent → List ℕ → Datom → ℕ → PageId → rules.Look

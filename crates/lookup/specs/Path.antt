@@ -22,10 +22,11 @@ use Rattle.rules.specs.Node.{rank, headSame, nextMidpoint}
 use Rattle.rules.specs.Tree.{fine, fetchAt}
 use Rattle.rules.specs.Store.{pageAt, fetchPage, envOf}
 use Rattle.memory_store.specs.Layout.{childrenOf}
+use Rattle.memory_store.specs.Readable.{nodeAt}
 use Rattle.lookup.specs.declared.Path.{Path}
 use Rattle.lookup.specs.declared.Look.the-variants.{Met, Absent, Lost}
 use Rattle.lookup.specs.declared.Opened.the-variants as opened
-use Rattle.lookup.specs.Look.{lookOf, openedOf, nodeAt, pathOf}
+use Rattle.lookup.specs.Look.{lookOf, openedOf, pathOf}
 use Rattle.lookup.specs.Steps.{node-opened, opened-node, metIn, nextIn, way-met, way-absent, way-stuck, way-lost, way-down}
 
 -- nothing was read

@@ -7,8 +7,7 @@ use mathlib.Core.List.{List, [], _∷_}
 use mathlib.Core.Path.{_≡_, refl, sym, ap, _∙_}
 use borrow.Author.Tests.{eqb-true, eq-eqb, ne-eqb, le-ltb}
 use lib.Dec.{eqb}
-use lib.ListN.{length, drop, length-drop}
-use lib.Seq.{length-take-le}
+use lib.ListN.{length, drop}
 use Rattle.store.specs.declared.PageId.{PageId}
 use Rattle.store.specs.declared.Extent.{Extent}
 use Rattle.store.specs.Page.{none, isNone}
@@ -23,46 +22,20 @@ use Rattle.answer.specs.declared.Fault.{Fault}
 use Rattle.answer.specs.declared.Refusal.the-variants.{Repeated, Damaged}
 use Rattle.answer.specs.declared.NextMidpoint.{NextMidpoint}
 use Rattle.answer.specs.declared.NextMidpoint.the-variants.{Child, Nothing}
-use Rattle.rules.specs.Page.{Node, nodeOf, levelOf, countOf, rising}
+use Rattle.rules.specs.Page.{Node, nodeOf, levelOf, countOf}
 use Rattle.rules.specs.Node.{rank, headSame, nextMidpoint}
 use Rattle.rules.specs.Tree.{Fetched, faulty, fine, Env, atLevel, fetchAt}
 use Rattle.rules.specs.Lookup as rules
 use Rattle.rules.specs.Lookup.{clear, found, lookup, afterLook, lookupAll}
-use Rattle.rules.specs.Store.{badStore, pageAt, fetchPage, envOf}
+use Rattle.rules.specs.Store.{pageAt, fetchPage, envOf}
 use Rattle.rules.specs.Reads.{read-count, fetch-tells}
 use Rattle.memory_store.specs.declared.found.Found.the-variants.{Faulty, Fine}
 use Rattle.memory_store.specs.Reading.{told}
 use Rattle.memory_store.specs.Layout.{childrenOf}
-use Rattle.memory_store.specs.FetchLaws.{in-order, page-inside}
+use Rattle.memory_store.specs.Readable.{nodeAt, told-fine}
 use Rattle.lookup.specs.declared.Look.the-variants.{Met, Absent, Lost}
 use Rattle.lookup.specs.declared.Opened.the-variants as opened
-use Rattle.lookup.specs.Look.{lookOf, openedOf, nodeAt, pathOf, searchAll}
-
--- a page that was read as a node of level l and k datoms
-pub record Opens (x : Extent) (s : List ℕ) (p : PageId) (l k : ℕ) : Type 0 where
-  pub below : p .0 < x .count
-  pub low : l ≤ 7
-  pub few : k ≤ capacity (x .size)
-  pub wide : 40 * capacity (x .size) + 10 ≤ length (pageAt x s p)
-  pub rise : rising cmpEavt (datomsOf k (pageAt x s p)) ≡ true
-
-pub opens : (x : Extent) (s : List ℕ) (p : PageId) (l k : ℕ) → badStore x s ≡ false → fetchPage eavt x s p ≡ fine (nodeAt x s p l k) → Opens x s p l k
-unfolding nodeOf eavt pageAt
-opens x s p l k good e =
-    let w = fetch-tells eavt x s p (nodeAt x s p l k) e in
-    let o = in-order x s good in
-    let here = page-inside x s (p .0) o (w .0) in
-    let count : k ≡ countOf (capacity (x .size)) (pageAt x s p) =
-    sym (cells-length datomOf 32 k (pageAt x s p)) ∙ read-count eavt (capacity (x .size)) p (pageAt x s p) (nodeAt x s p l k) (w .1) in
-    let level : levelOf (capacity (x .size)) (pageAt x s p) ≡ l = ap (λ (n : Node). n .level) (w .1 .node) in
-    let long : length (pageAt x s p) ≡ x .size = length-take-le (x .size) (drop (p .0 * x .size) s) (omega (arith, length-drop (p .0 * x .size) s)) in
-    record {
-      below = w .0;
-      low = omega (arith, w .1 .low);
-      few = omega (arith, w .1 .few);
-      wide = omega (arith, o .known .fits);
-      rise = w .1 .rise;
-    }
+use Rattle.lookup.specs.Look.{lookOf, openedOf, pathOf, searchAll}
 
 -- the equal datom at an index, and past the end
 module _ (cmp : Datom → Datom → Ordering) (d : Datom) (n i : ℕ) (s : List ℕ) where
@@ -86,10 +59,6 @@ module _ (x : Extent) (s : List ℕ) (p : PageId) (l k : ℕ) (e : fetchPage eav
 
 -- what the reader tells of a page, at a level
 module _ (x : Extent) (s : List ℕ) (p : PageId) where
-  pub told-fine : (l k : ℕ) → told x s p (Fine l k) ≡ fetchPage eavt x s p → fetchPage eavt x s p ≡ fine (nodeAt x s p l k)
-  unfolding told
-  told-fine l k e = sym e
-
   pub open-faulty : (f : Fault) (l : ℕ) → told x s p (Faulty f) ≡ fetchPage eavt x s p → opened.Damaged ≡ openedOf (fetchAt (envOf eavt x s) l p)
   unfolding told openedOf fetchAt atLevel envOf
   open-faulty f l e = rw (← e)
@@ -100,7 +69,7 @@ module _ (x : Extent) (s : List ℕ) (p : PageId) where
     open-other h = rw (← e, ne-eqb l m h)
 
     pub open-node : l ≡ m → opened.Node k ≡ openedOf (fetchAt (envOf eavt x s) m p)
-    open-node h = rw (← h) (node-opened x s p l k (told-fine l k e))
+    open-node h = rw (← h) (node-opened x s p l k (told-fine x s p l k e))
 
 -- and back: a page that was opened was read at that level
 pub opened-node :

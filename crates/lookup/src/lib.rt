@@ -21,7 +21,8 @@ ghost use Rattle.rules.specs.Node.{headSame};
 ghost use Rattle.rules.specs.Tree.{fine, fetchAt};
 ghost use Rattle.rules.specs.Store.{badStore, pageAt, fetchPage, envOf};
 ghost use Rattle.batch.specs.Finding.{findingOf};
-ghost use Rattle.lookup.specs.Look.{lookOf, openedOf, nodeAt, pathOf, searchAll};
+ghost use Rattle.memory_store.specs.Readable.{nodeAt};
+ghost use Rattle.lookup.specs.Look.{lookOf, openedOf, pathOf, searchAll};
 ghost use Rattle.lookup.specs.Path.{unread, Kept};
 
 // Where a datom's path ends: at an equal datom, at level 0 without one, or at a page that cannot be read.

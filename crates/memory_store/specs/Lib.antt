@@ -4,5 +4,6 @@ pub mod Layout
 pub mod RankLaws
 pub mod Steps
 pub mod FetchLaws
+pub mod Readable
 pub mod Ways
 pub mod WriterLaws

@@ -1,11 +1,10 @@
 -- One step of each test along a list, as the reader's loops take it.
-use Prim.Native.Nat.{ℕ, zero, suc, _+_, _*_, _<_, _≤_, Ordering, Ordering·lt, Ordering·eq, Ordering·gt}
-use native.Mathlib.Omega.{arith}
+use Prim.Native.Nat.{ℕ, _+_, _<_, _≤_, Ordering}
 use mathlib.Core.Bool.{Bool, true, false}
-use mathlib.Core.List.{List, [], _∷_}
+use mathlib.Core.List.{List, _∷_}
 use mathlib.Core.Path.{_≡_, refl, sym, ap}
 use borrow.Author.Tests.{eq-eqb, ne-eqb, lt-ltb, le-ltb}
-use lib.ListN.{length, drop}
+use lib.ListN.{drop}
 use Rattle.store.specs.declared.PageId.{PageId}
 use Rattle.store.specs.Words.{wordAt, cells}
 use Rattle.store.specs.Page.{page, isNone, pageOf}
@@ -14,8 +13,7 @@ use Rattle.datom.specs.declared.Datom.{Datom}
 use Rattle.datom.specs.Value.{storedValue}
 use Rattle.datom.specs.Datom.{datomAt, datomOf, datomsOf, storedDatom}
 use Rattle.datom.specs.Laws.{datoms-from}
-use Rattle.index.specs.declared.Order.the-variants.{Less, Equal, Greater}
-use Rattle.index.specs.Order.{isLess, named}
+use Rattle.index.specs.Order.{isLess}
 use Rattle.answer.specs.declared.NextMidpoint.the-variants.{Child, Nothing}
 use Rattle.rules.specs.Page.{all, above, rising, older}
 use Rattle.rules.specs.Node.{nextMidpoint}
@@ -83,25 +81,6 @@ older-real id c e h = rw (e, lt-ltb (c .0) (id .0) h)
 pub older-not : (id c : PageId) → isNone c ≡ false → id .0 ≤ c .0 → older id c ≡ false
 unfolding older
 older-not id c e h = rw (e, le-ltb (c .0) (id .0) h)
-
--- what a named ordering says
-pub less-named : (o : Ordering) → named o ≡ Less → isLess o ≡ true
-unfolding named isLess
-less-named Ordering·lt e = refl
-less-named Ordering·eq e = cc
-less-named Ordering·gt e = cc
-
-pub equal-named : (o : Ordering) → named o ≡ Equal → isLess o ≡ false
-unfolding named isLess
-equal-named Ordering·lt e = cc
-equal-named Ordering·eq e = refl
-equal-named Ordering·gt e = refl
-
-pub greater-named : (o : Ordering) → named o ≡ Greater → isLess o ≡ false
-unfolding named isLess
-greater-named Ordering·lt e = cc
-greater-named Ordering·eq e = refl
-greater-named Ordering·gt e = refl
 
 -- the next midpoint at the head of a rest, and past the end
 pub next-on : {l : List PageId} {x : PageId} {r : List PageId} → l ≡ x ∷ r → isNone x ≡ true → nextMidpoint l ≡ nextMidpoint r

@@ -6,7 +6,7 @@ use Rattle.datom.specs.Datom.{datomAt}
 use Rattle.index.specs.declared.Order.the-variants.{Less, Equal, Greater}
 use Rattle.index.specs.Order.{cmpEavt, named}
 use Rattle.rules.specs.Insert.{anySame}
-use Rattle.batch.specs.Steps.{less-named, equal-named, greater-named}
+use Rattle.index.specs.Named.{less-named, equal-named, greater-named}
 use Rattle.batch.specs.Twins.{earlier, earlier-at, any-on, any-stop, any-end}
 use borrow.Author.Needs.{needs}
 use Rattle.batch.proofs.has_twin.Statement.{statement}

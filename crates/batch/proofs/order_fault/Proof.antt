@@ -8,7 +8,8 @@ use Rattle.datom.specs.Laws.{datoms-from}
 use Rattle.index.specs.declared.Order.the-variants.{Less, Equal, Greater}
 use Rattle.index.specs.Order.{cmpEavt, named}
 use Rattle.rules.specs.Insert.{lowFault, orderFault}
-use Rattle.batch.specs.Steps.{low-on, low-stop, low-end, order-none, order-start, less-named, equal-named, greater-named}
+use Rattle.index.specs.Named.{less-named, equal-named, greater-named}
+use Rattle.batch.specs.Steps.{low-on, low-stop, low-end, order-none, order-start}
 use borrow.Author.Needs.{needs}
 use Rattle.batch.proofs.order_fault.Statement.{statement}
 use Rattle.batch.proofs.order_fault.Tie as tie

@@ -1,12 +1,12 @@
 -- `florinwick_fetch` meets its contract on every input. Assumes nothing.
 use mathlib.Core.Path.{refl}
-use Rattle.florinwick.specs.Words.{Tells, Fetched, no-fetch, told-fetch}
+use Rattle.florinwick.specs.Words.{Tells, Answered, not-answered, answered}
 use borrow.Author.Needs.{needs}
 use Rattle.florinwick.proofs.florinwick_fetch.Statement.{statement}
 use Rattle.florinwick.proofs.florinwick_fetch.Tie as tie
 
 returns : tie.Need-returns
-returns c = no-fetch _ _ (c .if1 .taken)
+returns c = not-answered _ _ (c .if1 .taken)
 
 fetch-refusal-requires : tie.Need-fetch-refusal-requires
 fetch-refusal-requires c κs = search needs
@@ -20,29 +20,22 @@ put-words-requires c κs = search needs
 enum-known-refusal : tie.Need-enum-known-refusal
 enum-known-refusal c = search needs
 
-number-requires : tie.Need-number-requires
-number-requires c κs = search needs
-
-detail-requires : tie.Need-detail-requires
-detail-requires c κs = search needs
-
-put-words-requires-2 : tie.Need-put-words-requires-2
-put-words-requires-2 c κs = search needs
+refuse-requires : tie.Need-refuse-requires
+refuse-requires c κs = search needs
 
 same-length : tie.Need-same-length
 same-length c = search needs
 
 returns-2 : tie.Need-returns-2
-returns-2 c =
-    rw (← c .before .before .before .before .before .before .fetch-refusal .ensures, c .before .before .before .before .enum-told .given .1) (told-fetch _ _ _ _ (c .before .before .before .before .before .before .before .if1 .left) refl (c .before .before .put-words .ensures))
+returns-2 c = rw (← c .before .before .before .before .before .before .fetch-refusal .ensures, c .before .before .before .before .enum-told .given .1) (answered _ _ _ _ (c .before .before .before .before .before .before .before .if1 .left) refl (c .before .before .put-words .ensures))
 
 same-length-2 : tie.Need-same-length-2
 same-length-2 c = search needs
 
 returns-3 : tie.Need-returns-3
 returns-3 c =
-    rw (← c .before .before .before .before .before .before .before .before .before .fetch-refusal .ensures, c .before .before .before .before .before .before .before .refusal .given .1)
-    (told-fetch _ _ _ _ (c .before .before .before .before .before .before .before .before .before .before .if1 .left) (c .before .before .before .before .before .number .ensures) (rw (c .before .before .before .before .before .number .ensures, c .before .before .before .detail .ensures) at (c .before .before .put-words2 .ensures)))
+    let t = c .before .before .refuse .ensures in
+    rw (← c .before .before .before .before .before .before .before .fetch-refusal .ensures, c .before .before .before .before .before .refusal .given .1) (answered _ _ _ _ (c .before .before .before .before .before .before .before .before .if1 .left) (t .0) (t .1))
 
 pub florinwick-fetch-spec : {M : Type 1} → statement M
 florinwick-fetch-spec =
@@ -53,9 +46,7 @@ florinwick-fetch-spec =
     enum-told
     put-words-requires
     enum-known-refusal
-    number-requires
-    detail-requires
-    put-words-requires-2
+    refuse-requires
     same-length
     returns-2
     same-length-2

@@ -5,7 +5,7 @@ use mathlib.Core.Path.{_≡_, sym}
 use Rattle.datom.specs.Datom.{datomAt}
 use Rattle.index.specs.declared.Order.the-variants.{Less, Equal, Greater}
 use Rattle.index.specs.Order.{cmpEavt, named}
-use Rattle.batch.specs.Steps.{less-named, equal-named, greater-named}
+use Rattle.index.specs.Named.{less-named, equal-named, greater-named}
 use Rattle.lookup.specs.Steps.{same-past, same-at}
 use borrow.Author.Needs.{needs}
 use Rattle.lookup.proofs.is_met.Statement.{statement}

@@ -10,7 +10,8 @@ use Rattle.rules.specs.Lookup.{lookupAll}
 use Rattle.rules.specs.Store.{fetchPage, envOf}
 use Rattle.memory_store.specs.Reading.{told}
 use Rattle.lookup.specs.Look.{searchAll}
-use Rattle.lookup.specs.Steps.{told-fine, search-faulty, search-fine, all-met, all-on, all-lost, all-end}
+use Rattle.memory_store.specs.Readable.{told-fine}
+use Rattle.lookup.specs.Steps.{search-faulty, search-fine, all-met, all-on, all-lost, all-end}
 use Rattle.lookup.specs.Path.{Kept, kept-unread}
 use borrow.Author.Needs.{needs}
 use Rattle.lookup.proofs.lookup_all.Statement.{statement}

@@ -1,7 +1,8 @@
 -- `lookup_one` meets its contract: the path from the page at hand ends where the whole path ends. Assumes nothing.
 use native.Mathlib.Omega.{arith}
 use mathlib.Core.Path.{refl, sym, _∙_}
-use Rattle.lookup.specs.Steps.{opens, next-real}
+use Rattle.memory_store.specs.Readable.{Opens, opens}
+use Rattle.lookup.specs.Steps.{next-real}
 use Rattle.lookup.specs.Path.{Going, met-is, next-is, going-met, going-absent, going-stuck, going-lost, going-down}
 use borrow.Author.Needs.{needs}
 use Rattle.lookup.proofs.lookup_one.Statement.{statement}

@@ -1,6 +1,6 @@
 -- `start_under` meets its contract: nothing between the bounds, a root that cannot be read, or both ways from it. Assumes nothing.
 use Rattle.listing.specs.StartLaws.{under-nothing, under-damaged, under-read}
-use Rattle.listing.specs.Readable.{opens, told-fine, told-faulty}
+use Rattle.memory_store.specs.Readable.{opens, told-fine, told-faulty}
 use Rattle.memory_store.specs.Reading.{told}
 use borrow.Author.Tests.{not-true, not-false}
 use mathlib.Core.Path.{sym, _∙_, ap}

@@ -1,7 +1,7 @@
 -- `chosen` meets its contract: the count is the one in the page's header. Assumes nothing.
 use Prim.Native.Nat.{_+_, _*_}
 use Rattle.listing.specs.CandidateLaws.{read-node, pick-past, pick-at}
-use Rattle.listing.specs.Readable.{opens}
+use Rattle.memory_store.specs.Readable.{opens}
 use Rattle.memory_store.specs.FetchLaws.{in-order}
 use Rattle.rules.specs.Page.{countOf}
 use native.Mathlib.Omega.{arith}

@@ -1,6 +1,6 @@
 -- `place_in` meets its contract: what the reader tells, at the level asked for. Assumes nothing.
 use Rattle.listing.specs.Descent.{place-faulty, place-other, place-at, testOf}
-use Rattle.listing.specs.Readable.{opens, told-fine, told-faulty}
+use Rattle.memory_store.specs.Readable.{opens, told-fine, told-faulty}
 use mathlib.Core.Path.{_∙_, sym, ap}
 use native.Mathlib.Omega.{arith}
 use Rattle.memory_store.specs.Reading.{told}

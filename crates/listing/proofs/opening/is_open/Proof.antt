@@ -1,6 +1,6 @@
 -- `is_open` meets its contract: what the reader tells, at the level asked for. Assumes nothing.
 use Rattle.listing.specs.Opening.{open-faulty, open-other, open-past, open-here}
-use Rattle.listing.specs.Readable.{told-fine, told-faulty}
+use Rattle.memory_store.specs.Readable.{told-fine, told-faulty}
 use Rattle.memory_store.specs.Reading.{told}
 use mathlib.Core.Path.{sym, _∙_, ap}
 use borrow.Author.Needs.{needs}

@@ -8,7 +8,7 @@ use Rattle.store.specs.Page.{page}
 use Rattle.rules.specs.Page.{countOf}
 use Rattle.rules.specs.Node.{isMidpoint}
 use Rattle.memory_store.specs.FetchLaws.{in-order}
-use Rattle.listing.specs.Readable.{opens}
+use Rattle.memory_store.specs.Readable.{opens}
 use Rattle.listing.specs.CandidateLaws.{read-node, read-most}
 use Rattle.listing.specs.AdvanceLaws.{read-children, childrenAt, adv-bottom, adv-pending, adv-midpoint}
 use borrow.Author.Needs.{needs}

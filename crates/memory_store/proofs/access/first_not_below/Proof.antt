@@ -8,7 +8,7 @@ use Rattle.index.specs.declared.Order.the-variants.{Less, Equal, Greater}
 use Rattle.index.specs.Order.{cmpEavt, named}
 use Rattle.rules.specs.Node.{rank}
 use Rattle.memory_store.specs.RankLaws.{seek-right, seek-left, rank-within}
-use Rattle.memory_store.specs.Steps.{less-named, equal-named, greater-named}
+use Rattle.index.specs.Named.{less-named, equal-named, greater-named}
 use Rattle.memory_store.proofs.access.first_not_below.Statement.{statement}
 use Rattle.memory_store.proofs.access.first_not_below.Tie as tie
 
@@ -51,7 +51,7 @@ loop-again c =
     let l = c .before .before .before .before .before .loop in
     let i = l .lo + (l .hi - l .lo) / 2 in
     let e : named (cmpEavt (datomAt (a .s .now) (32 * i)) (a .d)) ≡ Less = cc (c .enum-told .given .1) in
-    (omega (arith, seek-right (a .k) (a .s .now) (a .d) i (omega arith) (c .before .before .before .before .before .before .before .pre .1) (less-named _ e)), l .inv .1, l .inv .2)
+    (omega (arith, seek-right (a .k) (a .s .now) (a .d) i (omega arith) (c .before .before .before .before .before .before .before .pre .1) (less-named _ e .0)), l .inv .1, l .inv .2)
 
 enum-told-2 : tie.Need-enum-told-2 Inv-loop μ-loop
 enum-told-2 c = search needs
@@ -65,7 +65,7 @@ loop-again-2 c =
     let l = c .before .before .before .before .before .loop in
     let i = l .lo + (l .hi - l .lo) / 2 in
     let e : named (cmpEavt (datomAt (a .s .now) (32 * i)) (a .d)) ≡ Equal = cc (c .enum-told2 .given .1) in
-    (l .inv .0, seek-left (a .k) (a .s .now) (a .d) i (omega arith) (equal-named _ e), omega arith)
+    (l .inv .0, seek-left (a .k) (a .s .now) (a .d) i (omega arith) (equal-named _ e .0), omega arith)
 
 enum-told-3 : tie.Need-enum-told-3 Inv-loop μ-loop
 enum-told-3 c = search needs
@@ -79,7 +79,7 @@ loop-again-3 c =
     let l = c .before .before .before .before .before .loop in
     let i = l .lo + (l .hi - l .lo) / 2 in
     let e : named (cmpEavt (datomAt (a .s .now) (32 * i)) (a .d)) ≡ Greater = cc (c .enum-told3 .given .1) in
-    (l .inv .0, seek-left (a .k) (a .s .now) (a .d) i (omega arith) (greater-named _ e), omega arith)
+    (l .inv .0, seek-left (a .k) (a .s .now) (a .d) i (omega arith) (greater-named _ e .0), omega arith)
 
 returns : tie.Need-returns Inv-loop μ-loop
 returns c = omega arith

@@ -10,7 +10,8 @@ use Rattle.datom.specs.Laws.{datoms-from}
 use Rattle.index.specs.declared.Order.the-variants.{Less, Equal, Greater}
 use Rattle.index.specs.Order.{cmpEavt, named}
 use Rattle.rules.specs.Page.{above, rising}
-use Rattle.memory_store.specs.Steps.{above-on, above-stop, above-end, rising-none, rising-start, less-named, equal-named, greater-named}
+use Rattle.index.specs.Named.{less-named, equal-named, greater-named}
+use Rattle.memory_store.specs.Steps.{above-on, above-stop, above-end, rising-none, rising-start}
 use Rattle.memory_store.proofs.reader.all_rising.Statement.{statement}
 use Rattle.memory_store.proofs.reader.all_rising.Tie as tie
 
@@ -53,7 +54,7 @@ loop-again c =
     let l = c .before .before .before .before .before .loop in
     let e : named (cmpEavt (l .p) (datomAt (a .s .now) (32 * l .i))) ≡ Less = cc (c .enum-told .given .1) in (
       omega arith,
-      rw (c .before .before .before .datom-at2 .ensures) (sym (above-on cmpEavt (l .p) (datoms-from (a .k) (l .i) (a .s .now) (omega arith)) (less-named _ e))) ∙ l .inv .1,
+      rw (c .before .before .before .datom-at2 .ensures) (sym (above-on cmpEavt (l .p) (datoms-from (a .k) (l .i) (a .s .now) (omega arith)) (less-named _ e .0))) ∙ l .inv .1,
     )
 
 enum-told-2 : tie.Need-enum-told-2 Inv-loop μ-loop
@@ -64,7 +65,7 @@ returns-2 c =
     let a = c .before .before .before .before .before .before .before .before .before .args in
     let l = c .before .before .before .before .before .loop in
     let e : named (cmpEavt (l .p) (datomAt (a .s .now) (32 * l .i))) ≡ Equal = cc (c .enum-told2 .given .1) in
-    sym (above-stop cmpEavt (l .p) (datoms-from (a .k) (l .i) (a .s .now) (omega arith)) (equal-named _ e)) ∙ l .inv .1
+    sym (above-stop cmpEavt (l .p) (datoms-from (a .k) (l .i) (a .s .now) (omega arith)) (equal-named _ e .0)) ∙ l .inv .1
 
 enum-told-3 : tie.Need-enum-told-3 Inv-loop μ-loop
 enum-told-3 c = search needs
@@ -74,7 +75,7 @@ returns-3 c =
     let a = c .before .before .before .before .before .before .before .before .before .args in
     let l = c .before .before .before .before .before .loop in
     let e : named (cmpEavt (l .p) (datomAt (a .s .now) (32 * l .i))) ≡ Greater = cc (c .enum-told3 .given .1) in
-    sym (above-stop cmpEavt (l .p) (datoms-from (a .k) (l .i) (a .s .now) (omega arith)) (greater-named _ e)) ∙ l .inv .1
+    sym (above-stop cmpEavt (l .p) (datoms-from (a .k) (l .i) (a .s .now) (omega arith)) (greater-named _ e .0)) ∙ l .inv .1
 
 returns-4 : tie.Need-returns-4 Inv-loop μ-loop
 returns-4 c = let l = c .before .loop in sym (above-end cmpEavt (l .p) _ (l .i) _ (omega arith)) ∙ l .inv .1

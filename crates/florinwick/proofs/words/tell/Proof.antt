@@ -3,8 +3,8 @@ use mathlib.Core.Path.{refl}
 use Rattle.answer.specs.declared.Answer.{Answer}
 use Rattle.florinwick.specs.Words.{Tells}
 use borrow.Author.Needs.{needs}
-use Rattle.florinwick.proofs.tell.Statement.{statement}
-use Rattle.florinwick.proofs.tell.Tie as tie
+use Rattle.florinwick.proofs.words.tell.Statement.{statement}
+use Rattle.florinwick.proofs.words.tell.Tie as tie
 
 enum-known-a : tie.Need-enum-known-a
 enum-known-a c = search needs
@@ -15,28 +15,20 @@ put-words-requires c κs = search needs
 enum-known-a-2 : tie.Need-enum-known-a-2
 enum-known-a-2 c = search needs
 
-number-requires : tie.Need-number-requires
-number-requires c κs = search needs
-
-detail-requires : tie.Need-detail-requires
-detail-requires c κs = search needs
-
-put-words-requires-2 : tie.Need-put-words-requires-2
-put-words-requires-2 c κs = search needs
+refuse-requires : tie.Need-refuse-requires
+refuse-requires c κs = search needs
 
 same-length : tie.Need-same-length
 same-length c = search needs
 
 returns : tie.Need-returns
-returns c =
-    rw (c .before .before .before .before .before .a .given .1) (refl, c .before .before .put-words .ensures)
+returns c = rw (c .before .before .before .before .before .a .given .1) (refl, c .before .before .put-words .ensures)
 
 same-length-2 : tie.Need-same-length-2
 same-length-2 c = search needs
 
 returns-2 : tie.Need-returns-2
-returns-2 c =
-    rw (c .before .before .before .before .before .before .before .a2 .given .1) (c .before .before .before .before .before .number .ensures, rw (c .before .before .before .before .before .number .ensures, c .before .before .before .detail .ensures) at (c .before .before .put-words2 .ensures))
+returns-2 c = rw (c .before .before .before .before .before .a2 .given .1) (c .before .before .refuse .ensures)
 
 pub tell-spec : {M : Type 1} → statement M
 tell-spec =
@@ -45,9 +37,7 @@ tell-spec =
     enum-known-a
     put-words-requires
     enum-known-a-2
-    number-requires
-    detail-requires
-    put-words-requires-2
+    refuse-requires
     same-length
     returns
     same-length-2

@@ -3,25 +3,24 @@ use Prim.Native.Nat.{ℕ, _+_, _*_, _<_, _≤_}
 use native.Mathlib.Omega.{arith}
 use mathlib.Core.Bool.{true, false}
 use mathlib.Core.List.{List}
-use mathlib.Core.Path.{_≡_, refl, sym, ap, _∙_}
-use borrow.Author.Tests.{eq-eqb, ne-eqb, lt-ltb}
+use mathlib.Core.Path.{_≡_, sym, ap, _∙_}
+use borrow.Author.Tests.{lt-ltb}
 use lib.ListN.{length, drop, length-drop}
 use lib.Seq.{length-take-le}
 use Rattle.store.specs.declared.PageId.{PageId}
 use Rattle.store.specs.declared.Extent.{Extent}
 use Rattle.store.specs.Size.{capacity}
 use Rattle.store.specs.Laws.{cells-length}
-use Rattle.datom.specs.declared.Datom.{Datom}
 use Rattle.datom.specs.Datom.{datomOf, datomsOf}
 use Rattle.index.specs.Order.{cmpEavt, eavt}
 use Rattle.answer.specs.declared.Fault.{Fault}
 use Rattle.rules.specs.Page.{Node, nodeOf, levelOf, countOf, rising}
-use Rattle.rules.specs.Tree.{faulty, fine, atLevel}
+use Rattle.rules.specs.Tree.{faulty, fine}
 use Rattle.rules.specs.Store.{badStore, pageAt, fetched, fetchFault, fetchPage}
 use Rattle.rules.specs.Reads.{read-count, fetch-tells}
 use Rattle.memory_store.specs.declared.found.Found.the-variants.{Faulty, Fine}
 use Rattle.memory_store.specs.Reading.{told}
 use Rattle.memory_store.specs.FetchLaws.{in-order, page-inside}
 
 -- page p of the store, as a node of level l and k datoms
 abbrev pub nodeAt : Extent → List ℕ → PageId → ℕ → ℕ → Node
@@ -29,6 +28,7 @@ nodeAt x s p l k = nodeOf (capacity (x .size)) l k (pageAt x s p)
 
 -- a page that was read as a node of level l and k datoms; the fetch gives its bytes
 pub record Opens (x : Extent) (s : List ℕ) (p : PageId) (l k : ℕ) : Type 0 where
+  pub below : p .0 < x .count
   pub bytes : fetched x s p ≡ pageAt x s p
   pub low : l ≤ 7
   pub few : k ≤ capacity (x .size)
@@ -47,6 +47,7 @@ opens x s p l k ok e =
     let level : levelOf (capacity (x .size)) (pageAt x s p) ≡ l = ap (λ (n : Node). n .level) (w .1 .node) in
     let long : length (pageAt x s p) ≡ x .size = length-take-le (x .size) (drop (p .0 * x .size) s) (omega (arith, length-drop (p .0 * x .size) s)) in
     record {
+      below = w .0;
       bytes = rw (ok, lt-ltb (p .0) (x .count) (w .0));
       low = omega (arith, w .1 .low);
       few = omega (arith, w .1 .few);

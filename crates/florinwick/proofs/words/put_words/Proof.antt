@@ -1,8 +1,8 @@
 -- `put_words` meets its contract. Assumes nothing.
 use Rattle.florinwick.specs.Words.{four-words}
 use borrow.Author.Needs.{needs}
-use Rattle.florinwick.proofs.put_words.Statement.{statement}
-use Rattle.florinwick.proofs.put_words.Tie as tie
+use Rattle.florinwick.proofs.words.put_words.Statement.{statement}
+use Rattle.florinwick.proofs.words.put_words.Tie as tie
 
 put-word-requires : tie.Need-put-word-requires
 put-word-requires c κs = search needs

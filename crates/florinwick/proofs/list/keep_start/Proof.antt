@@ -1,0 +1,54 @@
+-- `keep_start` meets its contract. Assumes nothing.
+use mathlib.Core.Path.{refl}
+use Rattle.florinwick.specs.Words.{Tells}
+use Rattle.florinwick.specs.Listing.{cursorStarted}
+use borrow.Author.Needs.{needs}
+use Rattle.florinwick.proofs.list.keep_start.Statement.{statement}
+use Rattle.florinwick.proofs.list.keep_start.Tie as tie
+
+enum-told : tie.Need-enum-told
+enum-told c = search needs
+
+put-cursor-requires : tie.Need-put-cursor-requires
+put-cursor-requires c κs = search needs
+
+put-words-requires : tie.Need-put-words-requires
+put-words-requires c κs = search needs
+
+enum-known-answer : tie.Need-enum-known-answer
+enum-known-answer c = search needs
+
+refuse-requires : tie.Need-refuse-requires
+refuse-requires c κs = search needs
+
+same-length : tie.Need-same-length
+same-length c = search needs
+
+same-length-2 : tie.Need-same-length-2
+same-length-2 c = search needs
+
+returns : tie.Need-returns
+unfolding cursorStarted
+returns c = rw (c .before .before .before .before .before .before .before .before .enum-told .given .1) ((refl, c .before .before .put-words .ensures), c .before .before .before .before .before .before .put-cursor .ensures)
+
+same-length-3 : tie.Need-same-length-3
+same-length-3 c = search needs
+
+returns-2 : tie.Need-returns-2
+unfolding cursorStarted
+returns-2 c = rw (c .before .before .before .before .before .answer .given .1) (c .before .before .refuse .ensures, refl)
+
+pub keep-start-spec : {M : Type 1} → statement M
+keep-start-spec =
+    tie.close
+    (tie.spec
+    enum-told
+    put-cursor-requires
+    put-words-requires
+    enum-known-answer
+    refuse-requires
+    same-length
+    same-length-2
+    returns
+    same-length-3
+    returns-2)

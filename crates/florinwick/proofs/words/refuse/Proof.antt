@@ -1,0 +1,24 @@
+-- `refuse` meets its contract: the words of document 01's table. Assumes nothing.
+use Rattle.florinwick.specs.Words.{Tells}
+use borrow.Author.Needs.{needs}
+use Rattle.florinwick.proofs.words.refuse.Statement.{statement}
+use Rattle.florinwick.proofs.words.refuse.Tie as tie
+
+number-requires : tie.Need-number-requires
+number-requires c κs = search needs
+
+detail-requires : tie.Need-detail-requires
+detail-requires c κs = search needs
+
+put-words-requires : tie.Need-put-words-requires
+put-words-requires c κs = search needs
+
+same-length : tie.Need-same-length
+same-length c = search needs
+
+returns : tie.Need-returns
+returns c = (c .before .before .before .before .before .number .ensures, rw (c .before .before .before .before .before .number .ensures, c .before .before .before .detail .ensures) at (c .before .before .put-words .ensures))
+
+pub refuse-spec : {M : Type 1} → statement M
+refuse-spec =
+    tie.close (tie.spec number-requires detail-requires put-words-requires same-length returns)

@@ -21,7 +21,7 @@ use Rattle.answer.specs.declared.Refusal.the-variants.{BadStore, TooMany}
 use Rattle.rules.specs.Lookup.{Finding, clear, found}
 use Rattle.rules.specs.Store.{orElse, badStore, badScratch, envOf}
 use Rattle.rules.specs.Insert.{Outcome, refuse, storeFault, countFault, formFault, orderFault, twinFault, rootFault, sort, writeFresh, insertUnder, bytesFault, batchOf, insert, insertBytes, initialise, initialiseBytes}
-use Rattle.records.specs.Laid.{laidCount, Laid, laid-all, laid-fits}
+use Rattle.records.specs.Laid.{laidCount, Laid, laid-all, laid-fits, firstOf, first-length}
 
 -- the bytes of n records, or of 129 for any number of them over 128
 unfoldable pub handedLength : ℕ → ℕ
@@ -154,3 +154,10 @@ module _ (x : Extent) (st : List ℕ) (ds : List Datom) (s : List ℕ) (L : Laid
         begun λ ds. orElse refuse (formFault (t .stored) 0 ds)
         (orElse refuse (twinFault (t .cmp) 0 [] ds)
         (writeFresh (envOf t x st) (sort (t .cmp) ds)))
+
+-- of the first n records of an array
+pub insert-first :
+    (x : Extent) (st : List ℕ) (n : ℕ) (ds : List Datom) (s : List ℕ) → Laid (firstOf n ds) s → (t : DatomOrd) (root : PageId) →
+    insertBytes t x st (length s) root (handedBytes n s) ≡ insert t x st (length s) root (firstOf n ds)
+insert-first x st n ds s L t root =
+    ap (λ (k : ℕ). insertBytes t x st (length s) root (handedBytes k s)) (sym (first-length n ds)) ∙ insert-handed x st (firstOf n ds) s L t root

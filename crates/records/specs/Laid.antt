@@ -1,5 +1,5 @@
 -- Records laid as bytes at the front of an area, and what is laid of a batch.
-use Prim.Native.Nat.{ℕ, zero, suc, _+_, _*_, _<_, _≤_}
+use Prim.Native.Nat.{ℕ, zero, suc, _+_, _-_, _*_, _<_, _≤_}
 use native.Mathlib.Nat.{mul-suc, lt-trans, lt-suc-self}
 use native.Mathlib.Decide.{decLe}
 use native.Mathlib.Omega.{arith}
@@ -9,8 +9,8 @@ use mathlib.Core.List.{List, [], _∷_, _++_, append-assoc}
 use mathlib.Core.Path.{_≡_, refl, sym, _∙_, ap, subst}
 use borrow.Author.Tests.{le-ltb, ltb-false}
 use lib.Dec.{ltb}
-use lib.ListN.{length, take, getD, length-append}
-use lib.Seq.{take-suc}
+use lib.ListN.{length, take, getD, replicate, length-append, length-take, length-replicate}
+use lib.Seq.{take-suc, take-take, take-append-le}
 use Rattle.store.specs.Words.{bytesOf, patch, cells}
 use Rattle.store.specs.Cells.{patch-length, cells-push}
 use Rattle.store.specs.Laws.{bytes-length}
@@ -112,3 +112,24 @@ module _ (ds : List Datom) (s : List ℕ) where
   laid-done w =
       let f = laid-fits (length ds) (length s) in
       rw (laid-length (laidCount (length ds) (length s)) (f .1)) (laid-back (laidCount (length ds) (length s)) (f .0) (f .1) w)
+
+-- the first n records of an array, and blank ones past its end
+unfoldable pub firstOf : ℕ → List Datom → List Datom
+firstOf n ds = take n ds ++ replicate (n - length ds) blank
+
+pub first-length : (n : ℕ) (ds : List Datom) → length (firstOf n ds) ≡ n
+unfolding firstOf
+first-length n ds = simp (length-append, length-take, length-replicate) (omega arith)
+
+first-take : (n k : ℕ) (ds : List Datom) → k ≤ n → k ≤ length ds → take k (firstOf n ds) ≡ take k ds
+unfolding firstOf
+first-take n k ds h l =
+    take-append-le k (take n ds) (replicate (n - length ds) blank) (omega (arith, length-take n ds)) ∙ take-take k n ds h
+
+pub laid-first : (n : ℕ) (ds : List Datom) (s : List ℕ) → 128 ≤ length ds → WordsTo ds 128 → Laid (firstOf n ds) (laidTo ds s (laidCount n (length s)))
+unfolding Laid
+laid-first n ds s h w =
+    let k = laidCount n (length s) in
+    let f = laid-fits n (length s) in
+    rw (first-length n ds, laid-length ds s k (f .1))
+    (laid-back ds s k (omega arith) (f .1) (λ j l. w j (omega arith)) ∙ sym (first-take n k ds (f .0) (omega arith)))

@@ -11,7 +11,7 @@ ghost use Rattle.datom.specs.Datom.{datomBytes};
 ghost use Rattle.index.specs.Order.{eavt};
 ghost use Rattle.rules.specs.Insert.{insertBytes, initialiseBytes, insert as rulesInsert, initialise as rulesInitialise};
 ghost use Rattle.entry.specs.Reply.{Replies};
-ghost use Rattle.records.specs.Laid.{laidCount, Laid};
+ghost use Rattle.records.specs.Laid.{laidCount, Laid, firstOf};
 ghost use Rattle.records.specs.Handed.{handedLength, handedArea, handedBytes};
 
 // How many of n records are laid into so many bytes: all of them, or none of a batch that is refused without a look at it.
@@ -109,4 +109,31 @@ pub fn initialise(store: &mut [u8], extent: Extent, batch: &[Datom], s: &mut [u8
 {
     lay(batch, s);
     initialise_laid(store, extent, batch.len(), s)
+}
+
+// The first n records of an array, as `lay` lays those of a slice.
+fn lay_array(batch: [Datom; 128], n: usize, area: &mut [u8])
+    ensures { λ _. ⌜ Laid (firstOf n batch) (now (area .exit)) ⌝ }
+{
+    let k = laid_count(n, area.len());
+    let mut i = 0;
+    while i < k {
+        put_datom(area, i, batch[i]);
+        i += 1;
+    }
+}
+
+// Inserts the first n records of an array at a root. Its signature has no reference to a record: a function that calls it is covered.
+pub fn insert_array(
+    store: &mut [u8],
+    extent: Extent,
+    root: PageId,
+    batch: [Datom; 128],
+    n: usize,
+    s: &mut [u8],
+) -> Answer
+    ensures { λ r. ⌜ Replies extent (now (store .entry)) (now (store .exit)) r (rulesInsert eavt extent (now (store .entry)) (length (now (s .entry))) root (firstOf n batch)) ⌝ }
+{
+    lay_array(batch, n, s);
+    insert_laid(store, extent, root, n, s)
 }

@@ -42,7 +42,10 @@ put-datom-requires c κs =
     omega (arith, f, l .inv .1, ap length (l .inv .2), laid-length (a .t1) (a .area .now) (l .i) (omega (arith, f, l .inv .1)))
 
 add-i : tie.Need-add-i Inv-loop μ-loop
-add-i c = search needs
+add-i c =
+    let a = c .before .before .before .before .before .before .before .before .before .args in
+    let l = c .before .before .before .before .before .before .loop in
+    record { fits = omega (arith, laid-fits (a .n) (length (a .area .now)) .2, l .inv .1) }
 
 loop-less : tie.Need-loop-less Inv-loop μ-loop
 loop-less c = search needs

@@ -8,4 +8,4 @@ cd "$(dirname "${BASH_SOURCE[0]}")/../.."
 source tests/oracle/steps.sh
 
 build_against probe leaves
-build/leaves/leaves tests/oracle/recorded/answers.bin
+build/leaves/leaves crates/replay/stdin

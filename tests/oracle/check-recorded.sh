@@ -6,7 +6,7 @@ set -euo pipefail
 here=$(cd "$(dirname "${BASH_SOURCE[0]}")" && pwd)
 repo=$(cd "$here/../.." && pwd)
 oracle=$repo/build/oracle/oracle
-recorded=$here/recorded/answers.bin
+recorded=$repo/crates/replay/stdin
 anew=$repo/build/oracle/answers.bin
 
 if [ ! -x "$oracle" ]; then

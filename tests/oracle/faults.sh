@@ -25,7 +25,7 @@ while IFS='|' read -r file name script; do
     build_noblit patched
     build_harness "$out/harness"
     build_driver
-    if "$out/oracle" replay "$here/recorded/answers.bin" > "$out/replay" 2>&1; then
+    if "$out/oracle" replay "$repo/crates/replay/stdin" > "$out/replay" 2>&1; then
         missed=$((missed + 1))
         echo "MISSED   $name"
     else

@@ -1,15 +1,18 @@
 -- A few bytes as a number.
-use Prim.Native.Nat.{ℕ, zero, suc, _+_, _-_, _*_, _^_, _≤_, _<_, zero-le, suc-le-suc}
+use Prim.Native.Nat.{ℕ, zero, suc, _+_, _-_, _*_, _/_, _%_, _^_, _≤_, _<_, zero-le, suc-le-suc}
 use native.Mathlib.Nat.{pow-suc}
 use native.Mathlib.Omega.{arith}
 use mathlib.Core.List.{List, [], _∷_}
-use mathlib.Core.Path.{_≡_, ap}
-use borrow.Author.Tests.{le-leb, lt-leb}
+use mathlib.Core.Bool.{true, false}
+use mathlib.Core.Path.{_≡_, refl, sym, ap, _∙_}
+use borrow.Author.Tests.{le-leb, lt-leb, le-ltb, lt-ltb, eq-eqb}
 use lib.ListN.{length, drop, getD, length-drop, drop-of-length-le}
 use lib.Seq.{drop-cons, getD-drop}
-use Rattle.store.specs.Words.{little}
+use Rattle.store.specs.Words.{little, bytesOf}
+use Rattle.store.specs.Laws.{bytes-little, low-bytes}
+use Rattle.datom.specs.declared.Value.{Value}
 use Rattle.datom.specs.declared.Inline.the-variants.{Made, TooLarge}
-use Rattle.datom.specs.Value.{inlineStr}
+use Rattle.datom.specs.Value.{isInt, strLen, isStr, str, content, inlineStr}
 
 pub little-below : (n : ℕ) (s : List ℕ) → ((i : ℕ) → getD s i 0 < 256) → length s ≤ n → little s < 256 ^ n
 unfolding little
@@ -40,3 +43,40 @@ too-long s h = rw (lt-leb (length s) 7 h)
 
 pub is-short : (s : List ℕ) (w : ℕ) → length s ≤ 7 → w ≡ little s → Made (record { 0 = 2 ^ 63 + length s * 2 ^ 56 + w }) ≡ inlineStr s
 is-short s w h e = rw (le-leb (length s) 7 h, e)
+
+-- the word that is made of a byte string stands for just these bytes
+module _ (s : List ℕ) (bytes : (i : ℕ) → getD s i 0 < 256) (short : length s ≤ 7) where
+  abbrev made : Value
+  made = record { 0 = 2 ^ 63 + length s * 2 ^ 56 + little s }
+
+  low : little s < 2 ^ 56
+  low = little-below 7 s bytes short
+
+  tagged : made .0 / 2 ^ 62 ≡ 2
+  tagged = omega (arith, low)
+
+  no-int : isInt made ≡ false
+  unfolding isInt
+  no-int = le-ltb (made .0) (2 ^ 62) (omega (arith, low))
+
+  long : strLen made ≡ length s
+  unfolding strLen
+  long = omega (arith, low)
+
+  is-str : isStr made ≡ true
+  unfolding isStr
+  is-str =
+      let z : made .0 % 2 ^ 56 ≡ little s = omega (arith, low) in
+      rw (eq-eqb (made .0 / 2 ^ 62) 2 tagged, long, le-leb (length s) 7 short, z, lt-ltb (little s) (256 ^ length s) (little-below (length s) s bytes (omega arith)))
+
+  same-bytes : bytesOf (length s) (made .0) ≡ s
+  same-bytes =
+      let k : length s + (7 - length s) ≡ 7 = omega arith in
+      let e : made .0 ≡ little s + 2 ^ 56 * (128 + length s) = omega arith in
+      let w : bytesOf (length s) (little s + 256 ^ (length s + (7 - length s)) * (128 + length s)) ≡ bytesOf (length s) (little s) =
+      low-bytes (length s) (7 - length s) (little s) (128 + length s) in
+      ap (bytesOf (length s)) e ∙ rw k at w ∙ bytes-little s bytes
+
+  pub inline-content : content made ≡ str s
+  unfolding content
+  inline-content = rw (no-int, is-str, long, same-bytes)

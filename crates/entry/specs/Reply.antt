@@ -16,7 +16,8 @@ use Rattle.rules.specs.Store.{storeAfter}
 use Rattle.rules.specs.Insert.{Outcome, refuse, outcome}
 use Rattle.htree.specs.declared.root.Rooted.{Rooted}
 use Rattle.htree.specs.declared.root.Rooted.the-variants as rooted
-use Rattle.htree.specs.Wrote.{Wrote, pagesBytes, patch-none}
+use Rattle.htree.specs.Wrote.{Wrote, pagesBytes}
+use Rattle.store.specs.Cells.{patch-none}
 use Rattle.htree.specs.Root.{RootTold, root-at, root-not}
 
 -- the answer, and every byte of the store

@@ -13,7 +13,7 @@ use Rattle.store.specs.Words.{little, bytesOf, wordAt, cells, spread, patch}
 use Rattle.store.specs.Page.{page, pageOf, pageBytes}
 use Rattle.store.specs.Laws.{bytes-length, page-length, spread-length}
 use Rattle.answer.specs.declared.Cursor.{Cursor}
-use Rattle.htree.specs.Wrote.{patch-patch}
+use Rattle.store.specs.Cells.{patch-patch}
 use Rattle.florinwick.specs.Words.{next-block, filled}
 
 unfoldable pub cursorBytes : Cursor → List ℕ

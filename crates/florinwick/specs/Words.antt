@@ -16,7 +16,7 @@ use Rattle.answer.specs.declared.Answer.{Answer}
 use Rattle.answer.specs.Table.{Words, answerWords}
 use Rattle.rules.specs.Insert.{Outcome}
 use Rattle.rules.specs.Entry.{wordBytes, Reply, reply}
-use Rattle.htree.specs.Wrote.{patch-patch}
+use Rattle.store.specs.Cells.{patch-patch}
 use Rattle.entry.specs.Reply.{Replies}
 
 abbrev pub words : ℕ → ℕ → ℕ → ℕ → Words

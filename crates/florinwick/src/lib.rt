@@ -4,6 +4,7 @@ pub mod list;
 pub mod record;
 pub mod words;
 
+use answer::Check;
 use answer::Fetch;
 use store::Extent;
 use store::PageId;
@@ -11,10 +12,14 @@ ghost use mathlib.Core.Path.{_≡_};
 ghost use lib.ListN.{length};
 ghost use Rattle.index.specs.Order.{eavt};
 ghost use Rattle.store.specs.Page.{page};
-ghost use Rattle.answer.specs.Table.{fetchWords};
+ghost use Rattle.answer.specs.Table.{fetchWords, checkWords};
 ghost use Rattle.rules.specs.Entry.{insertReply, initialiseReply};
 ghost use Rattle.rules.specs.Store.{fetchAnswer};
+ghost use Rattle.rules.specs.Check.{checkTree};
 ghost use Rattle.florinwick.specs.Words.{Replied, Answered, extentOf, needOf};
+
+// The number of a check that finds a fault.
+const UNSOUND: u64 = 33;
 
 // Inserts a batch at a root, which is 2^64-1 for none.
 #[no_mangle]
@@ -90,5 +95,33 @@ pub extern "C" fn florinwick_fetch(
             0
         }
         Fetch::Refused(refusal) => words::refuse(area, 0, refusal),
+    }
+}
+
+// Whether the tree under a root is sound: 0, or 33 with the page of the first fault.
+#[no_mangle]
+pub extern "C" fn florinwick_check(
+    store: &[u8],
+    size: u64,
+    count: u64,
+    root: u64,
+    area: &mut [u8],
+) -> u64
+    ensures { λ r. ⌜ Answered r (now (area .entry)) (now (area .exit)) (checkWords (page root) (checkTree eavt (extentOf size count) (now (store .entry)) (page root))) ⌝ }
+{
+    if area.len() != words::AREA {
+        return 1;
+    }
+    let extent = Extent { size, count };
+    match invariants::check(store, extent, PageId(root)) {
+        Check::Sound => {
+            words::put_words(area, 0, 0, 0, 0);
+            0
+        }
+        Check::Unsound(fault) => {
+            words::put_words(area, UNSOUND, 0, 0, fault.0);
+            UNSOUND
+        }
+        Check::Refused(refusal) => words::refuse(area, root, refusal),
     }
 }

@@ -13,7 +13,7 @@ use Rattle.store.specs.declared.PageId.{PageId}
 use Rattle.store.specs.declared.Extent.{Extent}
 use Rattle.store.specs.Words.{spread, patch}
 use Rattle.store.specs.Size.{capacity}
-use Rattle.store.specs.Cells.{take-patch, patch-length, drop-take-le}
+use Rattle.store.specs.Cells.{patch-length, patch-none, patch-patch, patch-before}
 use Rattle.index.specs.Order.{DatomOrd}
 use Rattle.rules.specs.Page.{Node, encodePage}
 use Rattle.rules.specs.Store.{badStore, pageAt, fetchPage, envOf}
@@ -32,29 +32,6 @@ pub record Wrote (x : Extent) (s : List ℕ) (w : ℕ) (new : List Node) (s₁ :
   pub bytes : s₁ ≡ patch s ((x .count + w) * x .size) (pagesBytes x new)
   pub sized : length (pagesBytes x new) ≡ length new * x .size
   pub fits : (x .count + w + length new) * x .size ≤ length s
-
-pub patch-none : (s : List ℕ) (at : ℕ) → patch s at [] ≡ s
-unfolding patch
-patch-none s at = rw (append-nil, add-zero) (take-append-drop at s)
-
--- a store behind a store
-pub patch-patch : (s : List ℕ) (at : ℕ) (p q : List ℕ) → at + length p + length q ≤ length s → patch (patch s at p) (at + length p) q ≡ patch s at (p ++ q)
-unfolding patch
-patch-patch s at p q h =
-    let n : length (take at s ++ p) ≡ at + length p = simp (length-append, length-take-le at s (omega arith)) in
-    let t : take (at + length p) ((take at s ++ p) ++ drop (at + length p) s) ≡ take at s ++ p = take-at (take at s ++ p) _ (at + length p) n in
-    let d : drop (at + length p + length q) ((take at s ++ p) ++ drop (at + length p) s) ≡ drop (at + length (p ++ q)) s =
-    sym (drop-drop (length q) (at + length p) _) ∙ ap (drop (length q)) (drop-at (take at s ++ p) _ (at + length p) n)
-    ∙ drop-drop (length q) (at + length p) s ∙ ap (λ (k : ℕ). drop k s) (let e : at + length p + length q ≡ at + length (p ++ q) = omega (arith, length-append p q) in e) in
-    rw (t, d, append-assoc (take at s) p q)
-
--- what lies before a store is as it was
-patch-before : (s : List ℕ) (at : ℕ) (p : List ℕ) (b n : ℕ) → b + n ≤ at → at ≤ length s → take n (drop b (patch s at p)) ≡ take n (drop b s)
-patch-before s at p b n h l =
-    sym (front (patch s at p)) ∙ ap (λ (t : List ℕ). take n (drop b t)) (take-patch s at p l) ∙ front s
-  where
-    front : (t : List ℕ) → take n (drop b (take at t)) ≡ take n (drop b t)
-    front t = rw (drop-take-le b at t (omega arith)) (take-take n (at - b) (drop b t) (omega arith))
 
 module _ (x : Extent) (s : List ℕ) (w : ℕ) where
   pub wrote-none : (x .count + w) * x .size ≤ length s → Wrote x s w [] s

@@ -10,22 +10,7 @@ use lib.ListN.{length, take, drop, length-drop, length-append, drop-of-length-le
 use lib.Seq.{length-take-le, take-length, take-add, take-take, take-at, drop-at, drop-drop}
 use Rattle.store.specs.Words.{cells, patch}
 use Rattle.store.specs.Laws.{cells-length}
-use Rattle.store.specs.Cells.{take-patch, patch-length, drop-patch-le, drop-take-le, cells-more, cells-front, cells-put}
-
--- a part has the length that was asked for
-pub cut : (n at : ℕ) (s : List ℕ) → at + n ≤ length s → length (take n (drop at s)) ≡ n
-cut n at s h = length-take-le n (drop at s) (simp length-drop (omega arith))
-
--- w bytes that are copied to an array of w
-pub copied :
-    (w from : ℕ) (s z : List ℕ) → from + w ≤ length s → length z ≡ w →
-    take (length (take (from + w - from) (drop from s))) (take (from + w - from) (drop from s))
-    ++ drop (length (take (from + w - from) (drop from s))) z
-    ≡ take w (drop from s)
-copied w from s z h e =
-    let n : from + w - from ≡ w = omega arith in
-    let k = cut w from s h in
-    rw (n, take-length (take w (drop from s)), drop-of-length-le z {i = length (take w (drop from s))} (omega arith), append-nil)
+use Rattle.store.specs.Cells.{patch-length, patch-patch, patch-before, drop-patch-le, cut, cells-more, cells-front, cells-put}
 
 -- the slice after `size` bytes have gone from one place to another
 abbrev pub moveOf : List ℕ → ℕ → ℕ → ℕ → List ℕ
@@ -37,28 +22,6 @@ module _ (s : List ℕ) (from to size : ℕ) (h : from + size ≤ length s) (g :
 
   pub move-past : (at : ℕ) → to + size ≤ at → at ≤ length s → drop at (moveOf s from to size) ≡ drop at s
   move-past at k l = drop-patch-le s to (take size (drop from s)) at (omega (arith, cut size from s h)) l
-
--- two stores side by side are one
-patch-patch :
-    (s : List ℕ) (at : ℕ) (p q : List ℕ) → at + length p + length q ≤ length s → patch (patch s at p) (at + length p) q ≡ patch s at (p ++ q)
-unfolding patch
-patch-patch s at p q h =
-    let k : length (take at s ++ p) ≡ at + length p = rw (length-append, length-take-le at s (omega arith)) in
-    let f : at + length p + length q ≡ at + length (p ++ q) = omega (arith, length-append p q) in
-    let e : drop (at + length p + length q) ((take at s ++ p) ++ drop (at + length p) s) ≡ drop (at + length (p ++ q)) s =
-    sym (drop-drop (length q) (at + length p) _) ∙ ap (drop (length q)) (drop-at (take at s ++ p) (drop (at + length p) s) (at + length p) k)
-    ∙ drop-drop (length q) (at + length p) s ∙ ap (λ (j : ℕ). drop j s) f in
-    rw (take-at (take at s ++ p) (drop (at + length p) s) (at + length p) k, e)
-    (ap (λ (t : List ℕ). t ++ drop (at + length (p ++ q)) s) (append-assoc (take at s) p q))
-
--- bytes in front of a store
-before-patch : (w from : ℕ) (s : List ℕ) (at : ℕ) (p : List ℕ) → from + w ≤ at → at ≤ length s → take w (drop from (patch s at p)) ≡ take w (drop from s)
-before-patch w from s at p h l = sym (front (patch s at p)) ∙ ap (λ (x : List ℕ). take w (drop from x)) (take-patch s at p l) ∙ front s
-  where
-    front : (x : List ℕ) → take w (drop from (take at x)) ≡ take w (drop from x)
-    front x =
-        let k : w ≤ at - from = omega arith in
-        rw (drop-take-le from at x (omega arith), take-take w (at - from) (drop from x) k)
 
 -- A move of n cells of w bytes, one after the other, first cell first. They go down, or to a place past all of them.
 module _ (w : ℕ) (s : List ℕ) (from to : ℕ) where
@@ -78,7 +41,7 @@ module _ (w : ℕ) (s : List ℕ) (from to : ℕ) where
         still : take w (drop (from + w * i) (moveOf s from to (w * i))) ≡ take w (drop (from + w * i) s)
         still = elim (decLe to from) [
           | yes a ↦ ap (take w) (move-past s from to (w * i) (omega (arith, turn)) (omega (arith, turn)) (from + w * i) (omega (arith, a)) (omega (arith, turn)))
-          | no a ↦ before-patch w (from + w * i) s to (take (w * i) (drop from s)) (omega (arith, turn, apart (omega (arith, a)))) (omega arith)
+          | no a ↦ patch-before s to (take (w * i) (drop from s)) (from + w * i) w (omega (arith, turn, apart (omega (arith, a)))) (omega arith)
         ]
 
     -- and its move makes the move of i cells one of i + 1

@@ -11,14 +11,14 @@ use Rattle.store.specs.declared.PageId.{PageId}
 use Rattle.store.specs.Words.{cells, patch}
 use Rattle.store.specs.Page.{pageOf, pageBytes}
 use Rattle.store.specs.Laws.{cells-length}
-use Rattle.store.specs.Cells.{patch-length}
+use Rattle.store.specs.Cells.{patch-length, cut}
 use Rattle.datom.specs.declared.Datom.{Datom}
 use Rattle.datom.specs.Datom.{datomAt, datomOf, datomsOf}
 use Rattle.datom.specs.Laws.{datoms-from}
 use Rattle.rules.specs.Page.{nodeOf}
 use Rattle.rules.specs.Node.{share, parts, between, pagesFor, splitParts, splitUp}
 use Rattle.node.specs.Area.{childrenOf, partOf, node-is}
-use Rattle.node.specs.Moves.{cut, cells-take, cells-drop}
+use Rattle.node.specs.Moves.{cells-take, cells-drop}
 use Rattle.node.specs.Stores.{midpoint-front, midpoint-rest, midpoint-children, child-front, child-rest, child-datoms}
 
 -- "The first r pages take q+1 children, the others q", by the number p of the page

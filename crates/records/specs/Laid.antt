@@ -12,12 +12,11 @@ use lib.Dec.{ltb}
 use lib.ListN.{length, take, getD, replicate, length-append, length-take, length-replicate}
 use lib.Seq.{take-suc, take-take, take-append-le}
 use Rattle.store.specs.Words.{bytesOf, patch, cells}
-use Rattle.store.specs.Cells.{patch-length, cells-push}
+use Rattle.store.specs.Cells.{patch-length, patch-patch, cells-push}
 use Rattle.store.specs.Laws.{bytes-length}
 use Rattle.datom.specs.declared.Datom.{Datom}
 use Rattle.datom.specs.Datom.{datomOf, datomBytes, datomsOf, Words}
 use Rattle.datom.specs.Laws.{datom-length, datom-back}
-use Rattle.htree.specs.Wrote.{patch-patch}
 
 -- all of n records, or none of a batch that is refused whatever its records are: one over 128, and one in a scratch that is too short
 unfoldable pub laidCount : ℕ → ℕ → ℕ

@@ -1,11 +1,11 @@
 -- What stands at an index of cells of bytes, and what a store into them does.
 use Prim.Native.Nat.{ℕ, zero, suc, _+_, _-_, _*_, _<_, _≤_}
-use native.Mathlib.Nat.{mul-zero, mul-one, mul-suc, zero-add, suc-add, add-assoc}
+use native.Mathlib.Nat.{mul-zero, mul-one, mul-suc, zero-add, add-zero, suc-add, add-assoc}
 use native.Mathlib.Numerals.{add-one}
 use native.Mathlib.Omega.{arith}
 use mathlib.Core.List.{List, [], _∷_, _++_, append-assoc, append-nil}
 use mathlib.Core.Path.{_≡_, refl, sym, ap, _∙_}
-use lib.ListN.{length, take, drop, getD, length-take, length-drop, length-append, drop-of-length-le}
+use lib.ListN.{length, take, drop, getD, length-take, length-drop, length-append, drop-of-length-le, take-append-drop}
 use lib.Seq.{drop-drop, drop-cons, take-at, drop-at, take-take, length-take-le, take-length, take-all, take-nil, drop-append-le, drop-append-add}
 use Rattle.store.specs.declared.PageId.{PageId}
 use Rattle.store.specs.Words.{little, cells, wordAt, wordOf, patch}
@@ -74,6 +74,31 @@ drop-patch-add s base at p h =
       ← add-assoc,
     )
 
+pub patch-none : (s : List ℕ) (at : ℕ) → patch s at [] ≡ s
+unfolding patch
+patch-none s at = rw (append-nil, add-zero) (take-append-drop at s)
+
+-- a store behind a store is one
+pub patch-patch :
+    (s : List ℕ) (at : ℕ) (p q : List ℕ) → at + length p + length q ≤ length s → patch (patch s at p) (at + length p) q ≡ patch s at (p ++ q)
+unfolding patch
+patch-patch s at p q h =
+    let n : length (take at s ++ p) ≡ at + length p = simp (length-append, length-take-le at s (omega arith)) in
+    let t : take (at + length p) ((take at s ++ p) ++ drop (at + length p) s) ≡ take at s ++ p = take-at (take at s ++ p) _ (at + length p) n in
+    let e : at + length p + length q ≡ at + length (p ++ q) = omega (arith, length-append p q) in
+    let d : drop (at + length p + length q) ((take at s ++ p) ++ drop (at + length p) s) ≡ drop (at + length (p ++ q)) s =
+    sym (drop-drop (length q) (at + length p) _) ∙ ap (drop (length q)) (drop-at (take at s ++ p) _ (at + length p) n)
+    ∙ drop-drop (length q) (at + length p) s ∙ ap (λ (k : ℕ). drop k s) e in
+    rw (t, d, append-assoc (take at s) p q)
+
+-- what lies before a store is as it was
+pub patch-before :
+    (s : List ℕ) (at : ℕ) (p : List ℕ) (b n : ℕ) → b + n ≤ at → at ≤ length s → take n (drop b (patch s at p)) ≡ take n (drop b s)
+patch-before s at p b n h l = sym (front (patch s at p)) ∙ ap (λ (t : List ℕ). take n (drop b t)) (take-patch s at p l) ∙ front s
+  where
+    front : (t : List ℕ) → take n (drop b (take at t)) ≡ take n (drop b t)
+    front t = rw (drop-take-le b at t (omega arith)) (take-take n (at - b) (drop b t) (omega arith))
+
 -- a store leaves what lies past it
 pub drop-patch-le : (s : List ℕ) (at : ℕ) (p : List ℕ) (base : ℕ) → at + length p ≤ base → base ≤ length s → drop base (patch s at p) ≡ drop base s
 unfolding patch
@@ -130,6 +155,20 @@ module _ {A : Type 0} (f : List ℕ → A) (w : ℕ) where
   pub cells-push : (n : ℕ) (s p : List ℕ) → length p ≡ w → w * n ≤ length s → cells f w (n + 1) (patch s (w * n) p) ≡ cells f w n s ++ (f p ∷ [])
   unfolding cells
   cells-push n s p e l = cells-put n 1 s p (omega (arith, mul-one w)) l ∙ ap (λ (c : List ℕ). cells f w n s ++ (f c ∷ [])) (take-all w p (omega arith))
+
+-- a part has the length that was asked for
+pub cut : (n at : ℕ) (s : List ℕ) → at + n ≤ length s → length (take n (drop at s)) ≡ n
+cut n at s h = length-take-le n (drop at s) (simp length-drop (omega arith))
+
+-- w bytes that are copied to an array of w
+pub copied :
+    (w at : ℕ) (s z : List ℕ) → at + w ≤ length s → length z ≡ w →
+    take (length (take (at + w - at) (drop at s))) (take (at + w - at) (drop at s)) ++ drop (length (take (at + w - at) (drop at s))) z
+    ≡ take w (drop at s)
+copied w at s z h e =
+    let n : at + w - at ≡ w = omega arith in
+    let k = cut w at s h in
+    rw (n, take-length (take w (drop at s)), drop-of-length-le z {i = length (take w (drop at s))} (omega arith), append-nil)
 
 -- a part that comes back whole from a copy
 pub part : (d s : List ℕ) (at : ℕ) → at + length s ≤ length d

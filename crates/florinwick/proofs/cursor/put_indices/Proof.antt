@@ -6,7 +6,7 @@ use lib.ListN.{length, take}
 use lib.Seq.{take-length}
 use borrow.Author.Needs.{needs}
 use Rattle.store.specs.Words.{bytesOf, spread, patch}
-use Rattle.htree.specs.Wrote.{patch-none}
+use Rattle.store.specs.Cells.{patch-none}
 use Rattle.store.specs.Laws.{bytes-length}
 use Rattle.florinwick.specs.Cursor.{put-next}
 use Rattle.florinwick.proofs.cursor.put_indices.Statement.{statement}

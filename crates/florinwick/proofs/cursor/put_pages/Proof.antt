@@ -7,7 +7,7 @@ use lib.Seq.{take-length}
 use borrow.Author.Needs.{needs}
 use Rattle.store.specs.Words.{spread, patch}
 use Rattle.store.specs.Page.{page, pageBytes}
-use Rattle.htree.specs.Wrote.{patch-none}
+use Rattle.store.specs.Cells.{patch-none}
 use Rattle.store.specs.Laws.{page-length}
 use Rattle.florinwick.specs.Cursor.{put-next}
 use Rattle.florinwick.proofs.cursor.put_pages.Statement.{statement}

@@ -1,0 +1,69 @@
+-- `florinwick_check` meets its contract on every input. Assumes nothing.
+use mathlib.Core.Path.{refl}
+use Rattle.florinwick.specs.Words.{Tells, Answered, not-answered, answered}
+use borrow.Author.Needs.{needs}
+use Rattle.florinwick.proofs.florinwick_check.Statement.{statement}
+use Rattle.florinwick.proofs.florinwick_check.Tie as tie
+
+returns : tie.Need-returns
+returns c = not-answered _ _ (c .if1 .taken)
+
+check-requires : tie.Need-check-requires
+check-requires c κs = search needs
+
+enum-told : tie.Need-enum-told
+enum-told c = search needs
+
+put-words-requires : tie.Need-put-words-requires
+put-words-requires c κs = search needs
+
+enum-known-fault : tie.Need-enum-known-fault
+enum-known-fault c = search needs
+
+put-words-requires-2 : tie.Need-put-words-requires-2
+put-words-requires-2 c κs = search needs
+
+enum-known-refusal : tie.Need-enum-known-refusal
+enum-known-refusal c = search needs
+
+refuse-requires : tie.Need-refuse-requires
+refuse-requires c κs = search needs
+
+same-length : tie.Need-same-length
+same-length c = search needs
+
+returns-2 : tie.Need-returns-2
+returns-2 c = rw (← c .before .before .before .before .before .before .check .ensures, c .before .before .before .before .enum-told .given .1) (answered _ _ _ _ (c .before .before .before .before .before .before .before .if1 .left) refl (c .before .before .put-words .ensures))
+
+same-length-2 : tie.Need-same-length-2
+same-length-2 c = search needs
+
+returns-3 : tie.Need-returns-3
+returns-3 c = rw (← c .before .before .before .before .before .before .before .check .ensures, c .before .before .before .before .before .fault .given .1) (answered _ _ _ _ (c .before .before .before .before .before .before .before .before .if1 .left) refl (c .before .before .put-words2 .ensures))
+
+same-length-3 : tie.Need-same-length-3
+same-length-3 c = search needs
+
+returns-4 : tie.Need-returns-4
+returns-4 c =
+    let t = c .before .before .refuse .ensures in
+    rw (← c .before .before .before .before .before .before .before .check .ensures, c .before .before .before .before .before .refusal .given .1) (answered _ _ _ _ (c .before .before .before .before .before .before .before .before .if1 .left) (t .0) (t .1))
+
+pub florinwick-check-spec : {M : Type 1} → statement M
+florinwick-check-spec =
+    tie.close
+    (tie.spec
+    returns
+    check-requires
+    enum-told
+    put-words-requires
+    enum-known-fault
+    put-words-requires-2
+    enum-known-refusal
+    refuse-requires
+    same-length
+    returns-2
+    same-length-2
+    returns-3
+    same-length-3
+    returns-4)

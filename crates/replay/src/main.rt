@@ -1,0 +1,64 @@
+// Replays the recorded answers of the Rust, plain and patched, through the library's C entries, and counts what agrees. The records
+// come from standard input; docs/ORACLE.md says how they were made and what they hold.
+pub mod calls;
+pub mod examples;
+pub mod record;
+pub mod tally;
+
+use store::Extent;
+
+// Whether there was a record, and the store's record after it.
+struct Turn {
+    is_any: bool,
+    extent: Extent,
+}
+
+fn replay_next(
+    store: &mut [u8],
+    scratch: &mut [u8],
+    recorded: &mut [u8],
+    extent: Extent,
+    counts: &mut [u64; 12],
+) -> Turn {
+    let n = record::next(recorded);
+    if n == 0 {
+        return Turn {
+            is_any: false,
+            extent,
+        };
+    }
+    let left = calls::replay(store, scratch, extent, &recorded[..n], counts);
+    Turn {
+        is_any: true,
+        extent: left,
+    }
+}
+
+// Nothing says that the input ends, so the turns are counted down from a number that no run uses up.
+fn replay_all(
+    store: &mut [u8; 1048576],
+    scratch: &mut [u8; 332352],
+    recorded: &mut [u8; 65536],
+    counts: &mut [u64; 12],
+) {
+    let mut turns: u64 = 1000000;
+    let mut turn = Turn {
+        is_any: true,
+        extent: Extent { size: 0, count: 0 },
+    };
+    while 0 < turns && turn.is_any {
+        let extent = turn.extent;
+        turn = replay_next(store, scratch, recorded, extent, counts);
+        turns -= 1;
+    }
+}
+
+fn main() {
+    let mut store = [0u8; 1048576];
+    let mut scratch = [0u8; 332352];
+    let mut recorded = [0u8; 65536];
+    let mut counts = [0u64; 12];
+    replay_all(&mut store, &mut scratch, &mut recorded, &mut counts);
+    tally::print(&counts);
+    examples::run(&mut store, &mut scratch);
+}

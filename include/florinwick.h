@@ -1,0 +1,128 @@
+/*
+ * Florinwick: an append-only tree for trade fills in which no repeat passes in silence. For C and C++17; link libflorinwick.a.
+ *
+ * The tree lives in a slice of memory that the caller lends: the store. It is cut into pages of one size, and the first `page_count`
+ * of them are in use. The library keeps nothing between calls, allocates nothing, opens nothing and calls nothing back: a caller that
+ * holds (page size, page count, root) and the bytes holds the tree. After a call that is Done the caller adds the pages written
+ * to its page count and keeps the new root. Older roots go on listing what they listed, as pages are only ever appended.
+ *
+ * A byte slice is a pointer and then a length. No pointer needs an alignment. Slices that one call may write must not overlap any
+ * other slice of that call. A slice of length 0 is still given by a pointer that is not null. Calls on one store that only read may
+ * run at the same time; a call that writes must be alone with its store.
+ *
+ * A datom is 32 bytes: entity, attribute, value, transaction_operation, each 8 bytes little-endian.
+ *   value                  below 2^62 an integer; top bits 10 a string of at most 7 bytes: its length in bits 56 to 61, its first byte
+ *                          lowest, unused bytes zero; 2^64-1 is max, which a bound may have and a stored datom may not
+ *   transaction_operation  an even transaction, plus 1 for assert, 0 for retract
+ * Datoms are ordered by entity, attribute, value, transaction_operation; integers come before strings, these before max.
+ *
+ * Every call but the first takes an answer area of 32 bytes, writes four little-endian words into it, and returns the first:
+ *   word 0   the number below, 0 for Done
+ *   word 1   the root; a refused call gives back the one it was given, initialise none; calls with no root to give have 0 here
+ *   word 2   pages written; 0 if refused
+ *   word 3   the index or page that the number carries; 0 if it carries none
+ * An answer area of any other length is answered by BadStore before all else, and stays as it was.
+ *
+ * What a call leaves in the store:
+ *   Done                     bytes below the old page count, and those past the new one, are as they were
+ *   1 to 6, 10               no byte is changed
+ *   7, 8, 9                  root and page count stay; pages past the count may hold what was written before the refusal, every other
+ *                            byte is as it was. The call may be made again: with more room after NoRoom
+ * Calls whose store is const change no byte of it.
+ */
+#ifndef FLORINWICK_H
+#define FLORINWICK_H
+
+#include <stddef.h>
+#include <stdint.h>
+
+#ifdef __cplusplus
+extern "C" {
+#endif
+
+/* Numbers that a call may give, in the order in which they are tested. */
+enum florinwick_number {
+    FLORINWICK_DONE = 0,          /* done; a datom was listed; the tree is sound */
+    FLORINWICK_BAD_STORE = 1,     /* page size unknown, page count times page size exceeds the store, or scratch too short */
+    FLORINWICK_TOO_MANY = 2,      /* the batch has over 128 datoms, or its bytes are no multiple of 32 */
+    FLORINWICK_BAD_DATOM = 3,     /* index: the first malformed datom, or one with value max */
+    FLORINWICK_OUT_OF_ORDER = 4,  /* index: the first datom not above the one before; for initialise, the first equal to an earlier one */
+    FLORINWICK_NO_PAGE = 5,       /* the root is neither none nor below the page count */
+    FLORINWICK_REPEATED = 6,      /* index: the first datom of the batch that the tree holds already */
+    FLORINWICK_DAMAGED = 7,       /* page: it is missing, unreadable or of the wrong level; none where no page is to blame */
+    FLORINWICK_TOO_TALL = 8,      /* the next page to write would have level 8 */
+    FLORINWICK_NO_ROOM = 9,       /* the next page to write does not fit into the store */
+    FLORINWICK_BAD_BOUND = 10,    /* a bound of a listing is malformed */
+    FLORINWICK_ENDED = 32,        /* the listing has ended; no refusal */
+    FLORINWICK_UNSOUND = 33       /* page: the first fault that the check met; no refusal */
+};
+
+#define FLORINWICK_NONE UINT64_MAX   /* the page id and the root that mean "none" */
+#define FLORINWICK_MAX UINT64_MAX    /* the value max, for bounds */
+#define FLORINWICK_DATOM_BYTES 32
+#define FLORINWICK_ANSWER_BYTES 32
+#define FLORINWICK_CURSOR_BYTES 264
+#define FLORINWICK_BATCH_MAX 128     /* datoms in one batch */
+#define FLORINWICK_LEVELS 8          /* a tree is at most so high */
+
+/*
+ * How much scratch insert and initialise need with pages of this size: 62016, 81728 and 332352 bytes for 256, 568 and 4096.
+ * 0 for a page size that is not known. What scratch holds before a call is of no matter, and what it holds afterwards is unsaid.
+ */
+uint64_t florinwick_scratch_need(uint64_t page_size);
+
+/*
+ * Makes a new tree of one batch, which may be in any order, behind the pages in use. It reads no page. An empty batch gives root
+ * none and writes nothing. Numbers: 1 to 4, 9.
+ */
+uint64_t florinwick_initialise(uint8_t *store, size_t store_len, uint64_t page_size, uint64_t page_count,
+                               const uint8_t *batch, size_t batch_len, uint8_t *scratch, size_t scratch_len,
+                               uint8_t *answer, size_t answer_len);
+
+/*
+ * Inserts an ascending batch into the tree at a root, whole or not at all. At root none it begins a tree. An empty batch writes the
+ * root page anew; at root none it writes nothing and the root stays none. Numbers: 1 to 9.
+ */
+uint64_t florinwick_insert(uint8_t *store, size_t store_len, uint64_t page_size, uint64_t page_count, uint64_t root,
+                           const uint8_t *batch, size_t batch_len, uint8_t *scratch, size_t scratch_len,
+                           uint8_t *answer, size_t answer_len);
+
+/*
+ * Why a page cannot be fetched, or 0: the page is then the part of the store at page * page_size, page_size bytes long. It says
+ * nothing of what the page holds. Numbers: 1, 5 (also for none).
+ */
+uint64_t florinwick_fetch(const uint8_t *store, size_t store_len, uint64_t page_size, uint64_t page_count, uint64_t page,
+                          uint8_t *answer, size_t answer_len);
+
+/*
+ * Walks the whole tree at a root and tests the rules of every page, the levels and the bounds between pages. 0 for Sound, 33 for
+ * Unsound. Root none is sound. Numbers: 1, 5, 33; never 7.
+ */
+uint64_t florinwick_check(const uint8_t *store, size_t store_len, uint64_t page_size, uint64_t page_count, uint64_t root,
+                          uint8_t *answer, size_t answer_len);
+
+/*
+ * Puts a cursor at the first datom that is not below `lower`; the listing ends before the first that is not below `upper`. Each bound
+ * is a datom of 32 bytes; any other length is BadBound. A lower bound at or above the upper, and root none, give a listing that has
+ * ended. A refused start leaves the cursor as it was. A cursor is 264 bytes, else BadStore. Numbers: 1, 10, 5, 7.
+ *
+ * A cursor is a value: 33 little-endian words, the height, then by level 0 to 7 the indices and the pages where the listing stands,
+ * and the indices and the pages where it ends. It may be copied, kept and used again, as long as the pages in use stay.
+ */
+uint64_t florinwick_list_start(const uint8_t *store, size_t store_len, uint64_t page_size, uint64_t page_count, uint64_t root,
+                               const uint8_t *lower, size_t lower_len, const uint8_t *upper, size_t upper_len,
+                               uint8_t *cursor, size_t cursor_len, uint8_t *answer, size_t answer_len);
+
+/*
+ * Writes the next datom, of 32 bytes, and moves the cursor on: 0. At the end 32, and if refused its number; then cursor and datom stay
+ * as they were. A datom area of another length is BadStore. Any cursor is answered, also one that no call made. Numbers: 1, 7, 32.
+ */
+uint64_t florinwick_list_step(const uint8_t *store, size_t store_len, uint64_t page_size, uint64_t page_count,
+                              uint8_t *cursor, size_t cursor_len, uint8_t *datom, size_t datom_len,
+                              uint8_t *answer, size_t answer_len);
+
+#ifdef __cplusplus
+}
+#endif
+
+#endif

@@ -1,0 +1,198 @@
+#include "datom_text.h"
+
+#include <cctype>
+#include <cstdio>
+
+namespace florin {
+
+using florinwick::Datom;
+using florinwick::Value;
+
+namespace {
+
+const std::uint64_t kMax = FLORINWICK_MAX;
+
+bool is_space(char c) { return c == ' ' || c == '\t' || c == '\r'; }
+
+int hex_digit(char c) {
+    if (c >= '0' && c <= '9') return c - '0';
+    if (c >= 'a' && c <= 'f') return c - 'a' + 10;
+    if (c >= 'A' && c <= 'F') return c - 'A' + 10;
+    return -1;
+}
+
+// The end of a quoted word that begins at `at`: behind its closing quote, or the end of the line.
+std::size_t end_of_quoted(const std::string &line, std::size_t at) {
+    for (std::size_t i = at + 1; i < line.size(); ++i) {
+        if (line[i] == '\\') {
+            ++i;
+        } else if (line[i] == '"') {
+            return i + 1;
+        }
+    }
+    return line.size();
+}
+
+std::size_t end_of_word(const std::string &line, std::size_t at) {
+    if (line[at] == '"') return end_of_quoted(line, at);
+    while (at < line.size() && !is_space(line[at]) && line[at] != '#') ++at;
+    return at;
+}
+
+// Between the quotes: any byte, with \" and \\ for these two and \xNN for a byte by its number.
+std::string unquoted(const std::string &word) {
+    if (word.size() < 2 || word.back() != '"') throw BadText{"the string " + word + " has no closing quote"};
+    std::string bytes;
+    for (std::size_t i = 1; i + 1 < word.size(); ++i) {
+        if (word[i] != '\\') {
+            bytes += word[i];
+        } else if (word[i + 1] == 'x' && i + 4 < word.size() && hex_digit(word[i + 2]) >= 0 && hex_digit(word[i + 3]) >= 0) {
+            bytes += static_cast<char>(hex_digit(word[i + 2]) * 16 + hex_digit(word[i + 3]));
+            i += 3;
+        } else if ((word[i + 1] == '"' || word[i + 1] == '\\') && i + 2 < word.size()) {
+            bytes += word[++i];
+        } else {
+            throw BadText{"in the string " + word + " a backslash stands before neither \" nor \\ nor xNN"};
+        }
+    }
+    return bytes;
+}
+
+// A word of 64 bits as it is, so that what the library refuses can be written down and read again.
+std::uint64_t parse_raw(const std::string &word) {
+    std::uint64_t number = 0;
+    if (word.size() < 3 || word.size() > 18) throw BadText{"the value " + word + " has not 1 to 16 hexadecimal digits"};
+    for (std::size_t i = 2; i < word.size(); ++i) {
+        if (hex_digit(word[i]) < 0) throw BadText{"the value " + word + " is no hexadecimal number"};
+        number = number << 4 | static_cast<std::uint64_t>(hex_digit(word[i]));
+    }
+    return number;
+}
+
+Value parse_text_value(const std::string &word) {
+    const auto value = Value::text(unquoted(word));
+    if (!value) throw BadText{"the string " + word + " has more than 7 bytes"};
+    return *value;
+}
+
+Value parse_value(const std::string &word) {
+    if (word == "max") return Value::max();
+    if (word[0] == '"') return parse_text_value(word);
+    if (word.compare(0, 2, "0x") == 0) return Value{parse_raw(word)};
+    const auto value = Value::integer(parse_number(word, "value"));
+    if (!value) throw BadText{"the value " + word + " is 2^62 or more"};
+    return *value;
+}
+
+std::uint64_t parse_transaction(const std::string &word) {
+    const std::uint64_t transaction = parse_number(word, "transaction");
+    if (transaction % 2 != 0) throw BadText{"the transaction " + word + " is odd; transactions are even"};
+    return transaction;
+}
+
+std::uint64_t parse_operation(const std::string &word) {
+    if (word == "assert" || word == "+") return 1;
+    if (word == "retract" || word == "-") return 0;
+    throw BadText{"the last word is " + word + ", not assert or retract"};
+}
+
+std::uint64_t number_or_max(const std::string &word, const std::string &what) {
+    return word == "max" ? kMax : parse_number(word, what);
+}
+
+}  // namespace
+
+std::vector<std::string> words_of_line(const std::string &line) {
+    std::vector<std::string> words;
+    std::size_t at = 0;
+    while (at < line.size() && line[at] != '#') {
+        if (is_space(line[at])) {
+            ++at;
+            continue;
+        }
+        const std::size_t end = end_of_word(line, at);
+        words.push_back(line.substr(at, end - at));
+        at = end;
+    }
+    return words;
+}
+
+std::uint64_t parse_number(const std::string &word, const std::string &what) {
+    std::uint64_t number = 0;
+    if (word.empty()) throw BadText{"the " + what + " is missing"};
+    for (char c : word) {
+        if (!std::isdigit(static_cast<unsigned char>(c))) throw BadText{"the " + what + " " + word + " is no number"};
+        const std::uint64_t digit = static_cast<std::uint64_t>(c - '0');
+        if (number > (kMax - digit) / 10) throw BadText{"the " + what + " " + word + " is 2^64 or more"};
+        number = number * 10 + digit;
+    }
+    return number;
+}
+
+Datom parse_datom(const std::vector<std::string> &words) {
+    if (words.size() != 5) {
+        throw BadText{"a datom has 5 words, entity attribute value transaction assert|retract, and here are " + std::to_string(words.size())};
+    }
+    Datom datom;
+    datom.entity = parse_number(words[0], "entity");
+    datom.attribute = parse_number(words[1], "attribute");
+    datom.value = parse_value(words[2]);
+    datom.transaction_operation = parse_transaction(words[3]) + parse_operation(words[4]);
+    return datom;
+}
+
+Datom parse_bound(const std::string &text) {
+    const std::vector<std::string> words = words_of_line(text);
+    if (words.empty() || words.size() > 5) throw BadText{"a bound has 1 to 5 words, and \"" + text + "\" has " + std::to_string(words.size())};
+    Datom bound = Datom::min();
+    bound.entity = number_or_max(words[0], "entity");
+    if (words.size() > 1) bound.attribute = number_or_max(words[1], "attribute");
+    if (words.size() > 2) bound.value = parse_value(words[2]);
+    if (words.size() > 3) bound.transaction_operation = words[3] == "max" ? kMax : parse_transaction(words[3]);
+    if (words.size() > 4) bound.transaction_operation |= parse_operation(words[4]);
+    return bound;
+}
+
+namespace {
+
+std::string quoted(Value value) {
+    std::string text = "\"";
+    for (std::size_t i = 0; i < value.text_size(); ++i) {
+        const char c = value.text_byte(i);
+        char escaped[8];
+        if (c == '"' || c == '\\') {
+            text += '\\';
+            text += c;
+        } else if (c < ' ' || c > '~') {
+            std::snprintf(escaped, sizeof escaped, "\\x%02x", static_cast<unsigned>(static_cast<unsigned char>(c)));
+            text += escaped;
+        } else {
+            text += c;
+        }
+    }
+    return text + "\"";
+}
+
+}  // namespace
+
+std::string counted(std::uint64_t number, const char *thing) {
+    std::string digits = std::to_string(number);
+    for (std::size_t at = digits.size(); at > 3; at -= 3) digits.insert(at - 3, ",");
+    return digits + " " + thing + (number == 1 ? "" : "s");
+}
+
+std::string value_text(Value value) {
+    if (value.is_integer()) return std::to_string(value.word);
+    if (value.is_max()) return "max";
+    if (value.is_text()) return quoted(value);
+    char raw[24];
+    std::snprintf(raw, sizeof raw, "0x%016llx", static_cast<unsigned long long>(value.word));
+    return raw;
+}
+
+std::string datom_text(const Datom &datom) {
+    return std::to_string(datom.entity) + " " + std::to_string(datom.attribute) + " " + value_text(datom.value) + " " +
+           std::to_string(datom.transaction()) + (datom.is_assert() ? " assert" : " retract");
+}
+
+}  // namespace florin

@@ -1,0 +1,37 @@
+// Datoms as a clerk reads and types them: entity attribute value transaction assert|retract.
+#ifndef FLORIN_DATOM_TEXT_H
+#define FLORIN_DATOM_TEXT_H
+
+#include "florinwick.hpp"
+
+#include <string>
+#include <vector>
+
+namespace florin {
+
+// A line that is no datom; its message says which word is wrong.
+struct BadText {
+    std::string message;
+};
+
+// The words of a line up to a comment. A string in quotes is one word, and keeps its quotes.
+std::vector<std::string> words_of_line(const std::string &line);
+
+// Of five words. Throws BadText.
+florinwick::Datom parse_datom(const std::vector<std::string> &words);
+
+// Of one to five words, where max may stand for any of them; what is left out is the least. Throws BadText.
+florinwick::Datom parse_bound(const std::string &text);
+
+// A decimal number. Throws BadText, which calls it `what`.
+std::uint64_t parse_number(const std::string &word, const std::string &what);
+
+// "1 page", "1,024 pages"
+std::string counted(std::uint64_t number, const char *thing);
+
+std::string value_text(florinwick::Value value);
+std::string datom_text(const florinwick::Datom &datom);
+
+}  // namespace florin
+
+#endif

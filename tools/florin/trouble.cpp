@@ -1,0 +1,103 @@
+#include "trouble.h"
+
+#include <cerrno>
+#include <cstdio>
+#include <cstring>
+
+namespace florin {
+
+using florinwick::Answer;
+using florinwick::Carries;
+using florinwick::Number;
+
+Trouble system_trouble(int error, const std::string &doing, const std::string &path) {
+    const std::string what = "cannot " + doing + " " + path + ": " + std::strerror(error) + ".";
+    switch (error) {
+        case ENOSPC:
+        case EDQUOT:
+        case EFBIG:
+            return {kNoSpace, "NoSpace", what, "make room on the disk, or raise the limit on file sizes, and try again; all that was accepted is kept."};
+        case EACCES:
+        case EPERM:
+        case EROFS:
+            return {kNotPermitted, "NotPermitted", what, "ask for the right to the file, or name another one."};
+        case ENOENT:
+        case EISDIR:
+        case ENOTDIR:
+            return {kNoInput, "NoInput", what, "look at the name of the file; florin create makes a store."};
+        default:
+            return {kSystem, "System", what, "look at the disk and the system's log, then run florin check."};
+    }
+}
+
+std::string page_text(std::uint64_t page) {
+    return page == florinwick::none ? "none" : std::to_string(page);
+}
+
+namespace {
+
+struct Words {
+    const char *what;
+    const char *next;
+};
+
+Words words_of(Number number) {
+    switch (number) {
+        case Number::BadStore:
+            return {"The page size is not 256, 568 or 4096, or the pages do not fit into the store.", "choose one of these page sizes."};
+        case Number::TooMany:
+            return {"A batch has at most 128 datoms of 32 bytes each. Nothing was written.",
+                    "cut it into batches: a line --- between them, or --every 128."};
+        case Number::BadDatom:
+            return {"Its value is neither an integer below 2^62 nor a string of at most 7 bytes. Nothing was written.",
+                    "correct that datom and send the batch again."};
+        case Number::OutOfOrder:
+            return {"The datoms of a batch rise: by entity, attribute, value, transaction. Nothing was written.",
+                    "put that datom in its place, or take it out if it stands there twice, and send the batch again."};
+        case Number::NoPage:
+            return {"The store has no such page.", "take a root from florin roots."};
+        case Number::Repeated:
+            return {"The tree holds it already. Nothing of the batch was written.", "take out of the batch what the tree holds, and send the rest."};
+        case Number::Damaged:
+            return {"The page is missing, unreadable or of the wrong level. Root and pages are as they were.",
+                    "run florin check; older roots that do not reach the page can still be listed. Restore the file from a copy."};
+        case Number::TooTall:
+            return {"The tree would get more than 8 levels. Root and pages are as they were.",
+                    "create a store with larger pages and insert the listing of this one into it."};
+        case Number::NoRoom:
+            return {"The next page does not fit into the file. Root and pages are as they were.", "leave out --no-grow, so that the file may grow."};
+        case Number::BadBound:
+            return {"The value of a bound is neither an integer below 2^62, nor a string of at most 7 bytes, nor max.", "correct --from or --to."};
+        case Number::Unsound:
+            return {"The check met its first fault in that page.",
+                    "restore the file from a copy; florin check --all says which roots are sound."};
+        default:
+            return {"This answer is not known.", "build florin anew with the library that it is linked to."};
+    }
+}
+
+std::string carried(const Answer &answer) {
+    switch (answer.carries()) {
+        case Carries::Index: return ", datom " + std::to_string(answer.detail);
+        case Carries::Page: return ", page " + page_text(answer.detail);
+        case Carries::Nothing: break;
+    }
+    return "";
+}
+
+}  // namespace
+
+Trouble refusal(const Answer &answer, const std::string &place) {
+    const Words words = words_of(answer.number);
+    const std::string where = carried(answer) + (place.empty() ? "" : ", " + place);
+    const std::string name = answer.name();
+    return {static_cast<int>(answer.number), name, (where.empty() ? "" : where.substr(2) + ".\n  ") + words.what, words.next};
+}
+
+void print(const Trouble &trouble) {
+    std::fflush(stdout);
+    std::fprintf(stderr, "florin: %s (%d): %s\n", trouble.name.c_str(), trouble.status, trouble.what.c_str());
+    if (!trouble.next.empty()) std::fprintf(stderr, "  next: %s\n", trouble.next.c_str());
+}
+
+}  // namespace florin

@@ -13,7 +13,7 @@ ghost use Rattle.records.specs.Handed.{handedBytes};
 ghost use Rattle.florinwick.specs.Words.{Replied, extentOf};
 
 // Inserts the n records that `records::lay` has seen at the front of the scratch.
-pub fn insert_laid(
+fn insert_laid(
     store: &mut [u8],
     size: u64,
     count: u64,

@@ -1,9 +1,9 @@
 -- A record that is read has words of 64 bits, and so has each record of an array. Assumes nothing.
-use Prim.Native.Nat.{ℕ, zero, suc, _<_}
+use Prim.Native.Nat.{ℕ, zero, suc}
 use native.Mathlib.Nat.{not-suc-le-zero, le-of-suc-le-suc}
 use mathlib.Core.List.{List, [], _∷_}
-use mathlib.Core.Path.{_≡_, sym, subst}
-use lib.ListN.{length, getD}
+use mathlib.Core.Path.{subst}
+use lib.ListN.{length}
 use mir.Val.{Val}
 use denote.Array.{Array, each}
 use denote.Laws.{Is}
@@ -11,7 +11,7 @@ use denote.Shadow.{shadow}
 use denote.Struct.Laws as LL
 use Rattle.datom.specs.declared.Datom.{Datom}
 use Rattle.datom.specs.Datom.{Words}
-use Rattle.records.specs.Laid.{blank, WordsTo}
+use Rattle.records.specs.Laid.{WordsTo}
 use Rattle.datom.proofs.Datom as T
 use Rattle.datom.proofs.Datom.Laws as T′
 use Rattle.datom.proofs.Eid as E

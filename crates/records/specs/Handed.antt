@@ -1,13 +1,13 @@
 -- What the byte entry is handed for records, and that it answers as the rules do of the records themselves.
-use Prim.Native.Nat.{ℕ, _+_, _*_, _/_, _%_, _≤_, _<_}
+use Prim.Native.Nat.{ℕ, _*_, _/_, _%_, _≤_, _<_}
 use native.Mathlib.Omega.{arith}
-use mathlib.Core.Bool.{Bool, true, false, _||_, not, cond}
+use mathlib.Core.Bool.{Bool, true, false, cond}
 use mathlib.Core.List.{List, []}
 use mathlib.Core.Path.{_≡_, refl, sym, _∙_, ap}
 use borrow.Author.Tests.{ltb-true, ltb-false, lt-ltb, le-ltb, eq-eqb}
-use lib.Dec.{ltb, eqb}
-use lib.ListN.{length, take, drop, length-replicate, length-take}
-use lib.Seq.{length-take-le, take-length, take-at, take-take, take-all}
+use lib.Dec.{ltb}
+use lib.ListN.{length, take, length-replicate}
+use lib.Seq.{length-take-le, take-length, take-at}
 use Rattle.store.specs.declared.PageId.{PageId}
 use Rattle.store.specs.declared.Extent.{Extent}
 use Rattle.store.specs.Words.{zeros, patch}
@@ -15,7 +15,7 @@ use Rattle.store.specs.Size.{capacity, roomFor, scratchNeed}
 use Rattle.store.specs.Cells.{patch-length, cells-front}
 use Rattle.store.specs.Laws.{apart, cells-length}
 use Rattle.datom.specs.declared.Datom.{Datom}
-use Rattle.datom.specs.Datom.{datomOf, datomsOf}
+use Rattle.datom.specs.Datom.{datomOf}
 use Rattle.index.specs.Order.{DatomOrd}
 use Rattle.answer.specs.declared.Refusal.the-variants.{BadStore, TooMany}
 use Rattle.rules.specs.Lookup.{Finding, clear, found}

@@ -1,6 +1,6 @@
 -- Records laid as bytes at the front of an area, and what is laid of a batch.
 use Prim.Native.Nat.{ℕ, zero, suc, _+_, _-_, _*_, _<_, _≤_}
-use native.Mathlib.Nat.{mul-suc, lt-trans, lt-suc-self}
+use native.Mathlib.Nat.{lt-trans, lt-suc-self}
 use native.Mathlib.Decide.{decLe}
 use native.Mathlib.Omega.{arith}
 use native.Mathlib.Numerals.{add-one}

@@ -1,4 +1,5 @@
-// The record entry: a batch as a slice of datom records.
+// The record entry: a batch as a slice of datom records, which are laid as bytes for the byte entry. What has a reference to a record
+// is proved by a walk of its code, by hand: it only passes the slice on, or reads one record and gives it on by value.
 use answer::Answer;
 use datom::Datom;
 use store::Extent;
@@ -15,7 +16,7 @@ ghost use Rattle.records.specs.Laid.{laidCount, Laid, firstOf};
 ghost use Rattle.records.specs.Handed.{handedLength, handedArea, handedBytes};
 
 // How many of n records are laid into so many bytes: all of them, or none of a batch that is refused without a look at it.
-pub fn laid_count(n: usize, room: usize) -> usize
+fn laid_count(n: usize, room: usize) -> usize
     ensures { λ r. ⌜ r ≡ laidCount n room ⌝ }
 {
     if 128 < n {
@@ -28,7 +29,7 @@ pub fn laid_count(n: usize, room: usize) -> usize
 }
 
 // A datom's bytes, as number i of an area of datoms.
-pub fn put_datom(area: &mut [u8], i: usize, d: Datom)
+fn put_datom(area: &mut [u8], i: usize, d: Datom)
     requires { ⌜ 32 * i + 32 ≤ length (now area) ⌝ }
     ensures { λ _. ⌜ now (area .exit) ≡ patch (now (area .entry)) (32 * i) (datomBytes d) ⌝ }
 {
@@ -39,7 +40,7 @@ pub fn put_datom(area: &mut [u8], i: usize, d: Datom)
     store::put_word(area, at + 24, d.transaction_operation.0);
 }
 
-// The records of a batch, in order, from the front of the area on.
+// The records of a batch, in order, from the front of the area on. Nothing is said of the rest of the area: it is scratch.
 pub fn lay(batch: &[Datom], area: &mut [u8])
     ensures { λ _. ⌜ Laid (now (batch .entry)) (now (area .exit)) ⌝ }
 {
@@ -95,7 +96,7 @@ pub fn insert(
 }
 
 // Makes a new tree of the n records that `lay` has seen at the front of the scratch.
-pub fn initialise_laid(store: &mut [u8], extent: Extent, n: usize, s: &mut [u8]) -> Answer
+fn initialise_laid(store: &mut [u8], extent: Extent, n: usize, s: &mut [u8]) -> Answer
     ensures { λ r. ⌜ Replies extent (now (store .entry)) (now (store .exit)) r (initialiseBytes eavt extent (now (store .entry)) (length (now (s .entry))) (handedBytes n (now (s .entry)))) ⌝ }
 {
     let b = handed(n, s);

@@ -1,5 +1,4 @@
 -- `insert_laid` meets its contract: the byte entry's, at the bytes that are handed on. Assumes nothing.
-use native.Mathlib.Omega.{arith}
 use mathlib.Core.Path.{sym}
 use lib.Seq.{length-take-le}
 use borrow.Author.Needs.{needs}

@@ -41,7 +41,7 @@ use Rattle.datom.specs.declared.Datom.{Datom}
 use Rattle.index.specs.Order.{eavt}
 use Rattle.store.specs.Page.{page}
 use Rattle.rules.specs.Entry.{Reply, insertReply, reply}
-use Rattle.rules.specs.Insert.{Outcome, insert, insertBytes}
+use Rattle.rules.specs.Insert.{Outcome, insert}
 use Rattle.records.specs.Laid.{Laid}
 use Rattle.records.specs.Handed.{handedBytes, insert-handed}
 use Rattle.florinwick.specs.Words.{Replied, extentOf}

@@ -3,7 +3,6 @@ use Rattle.records.specs.Laid.{datom-words}
 use borrow.Author.Needs.{needs}
 use Rattle.records.proofs.put_datom.Statement.{statement}
 use Rattle.records.proofs.put_datom.Tie as tie
-use Rattle.store.proofs.put_word.Reads as put-word-reads
 
 mul-at : tie.Need-mul-at
 mul-at c = search needs

@@ -6,7 +6,7 @@
  * holds (page size, page count, root) and the bytes holds the tree. After a call that is Done the caller adds the pages written
  * to its page count and keeps the new root. Older roots go on listing what they listed, as pages are only ever appended.
  *
- * A byte slice is a pointer and then a length. No pointer needs an alignment. Slices that one call may write must not overlap any
+ * A byte slice is a pointer and then a length. No pointer to bytes needs an alignment. Slices that one call may write must not overlap any
  * other slice of that call. A slice of length 0 is still given by a pointer that is not null. Calls on one store that only read may
  * run at the same time; a call that writes must be alone with its store.
  *
@@ -86,6 +86,22 @@ uint64_t florinwick_initialise(uint8_t *store, size_t store_len, uint64_t page_s
 uint64_t florinwick_insert(uint8_t *store, size_t store_len, uint64_t page_size, uint64_t page_count, uint64_t root,
                            const uint8_t *batch, size_t batch_len, uint8_t *scratch, size_t scratch_len,
                            uint8_t *answer, size_t answer_len);
+
+/* A datom as a record: its four words as the machine has them, which on a little-endian machine are the 32 bytes. */
+struct florinwick_datom {
+    uint64_t entity;
+    uint64_t attribute;
+    uint64_t value;
+    uint64_t transaction_operation;
+};
+
+/*
+ * The same insert, of an array of records: `batch_count` of them, at the alignment of a uint64_t. It answers as florinwick_insert does
+ * of their bytes, and leaves the store so. Numbers: 1 to 9.
+ */
+uint64_t florinwick_insert_records(uint8_t *store, size_t store_len, uint64_t page_size, uint64_t page_count, uint64_t root,
+                                   const struct florinwick_datom *batch, size_t batch_count, uint8_t *scratch, size_t scratch_len,
+                                   uint8_t *answer, size_t answer_len);
 
 /*
  * Why a page cannot be fetched, or 0: the page is then the part of the store at page * page_size, page_size bytes long. It says

@@ -8,6 +8,7 @@ ghost use Rattle.datom.specs.Datom.{datomAt, storedDatom, boundDatom};
 ghost use Rattle.datom.specs.Word.{lastWord, transactionOf, operationOf};
 
 // Entity id.
+#[repr(C)]
 pub struct Eid(pub u64);
 
 impl Eid {
@@ -25,6 +26,7 @@ impl Eid {
 }
 
 // Attribute id.
+#[repr(C)]
 pub struct Aid(pub u64);
 
 impl Aid {
@@ -65,6 +67,7 @@ pub enum Operation {
 }
 
 // Transaction number and operation in one word.
+#[repr(C)]
 pub struct TidOp(pub u64);
 
 impl TidOp {
@@ -99,6 +102,7 @@ impl TidOp {
 }
 
 // An integer or a byte string of up to seven bytes in one word, or max.
+#[repr(C)]
 pub struct Value(pub u64);
 
 // A value that was to stand in the word itself.
@@ -228,7 +232,8 @@ fn past(n: u64) -> u64
     1 << (8 * n)
 }
 
-// A fact about an entity, with the transaction that asserted or retracted it.
+// A fact about an entity, with the transaction that asserted or retracted it. It lies in memory as a C struct of four words.
+#[repr(C)]
 pub struct Datom {
     pub entity: Eid,
     pub attribute: Aid,

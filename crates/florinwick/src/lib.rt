@@ -1,6 +1,7 @@
 // The library as a C or C++ program calls it: numbers and byte slices, and an area of 32 bytes for the answer's four words.
 pub mod cursor;
 pub mod list;
+pub mod record;
 pub mod words;
 
 use answer::Check;

@@ -1,0 +1,49 @@
+-- `initialise_laid` meets its contract: the byte entry's, at the bytes that are handed on. Assumes nothing.
+use mathlib.Core.Path.{sym}
+use lib.Seq.{length-take-le}
+use borrow.Author.Needs.{needs}
+use Rattle.records.specs.Handed.{handedBytes, handed-fits}
+use Rattle.records.proofs.initialise_laid.Statement.{statement}
+use Rattle.records.proofs.initialise_laid.Tie as tie
+
+handed-requires : tie.Need-handed-requires
+handed-requires c κs = search needs
+
+handed-length-requires : tie.Need-handed-length-requires
+handed-length-requires c κs = search needs
+
+array-share-prefix-b : tie.Need-array-share-prefix-b
+array-share-prefix-b c =
+    let a = c .before .before .before .before .before .before .args in
+    handed-fits (a .n) (a .s .now) _ _ (c .before .handed-length .ensures) (c .before .before .handed .ensures)
+
+slice-aggregate-initialise : tie.Need-slice-aggregate-initialise
+slice-aggregate-initialise c =
+    let a = c .before .before .before .before .before .before .before .args in
+    sym (length-take-le _ _ (handed-fits (a .n) (a .s .now) _ _ (c .before .before .handed-length .ensures) (c .before .before .before .handed .ensures)))
+
+initialise-requires : tie.Need-initialise-requires
+initialise-requires c κs = search needs
+
+same-length : tie.Need-same-length
+same-length c = search needs
+
+same-length-2 : tie.Need-same-length-2
+same-length-2 c = search needs
+
+returns : tie.Need-returns
+unfolding handedBytes
+returns c = rw (← c .before .before .before .before .before .before .before .before .handed-length .ensures, ← c .before .before .before .before .before .before .before .before .before .handed .ensures) (c .before .before .before .before .initialise .ensures)
+
+pub initialise-laid-spec : {M : Type 1} → statement M
+initialise-laid-spec =
+    tie.close
+    (tie.spec
+    handed-requires
+    handed-length-requires
+    array-share-prefix-b
+    slice-aggregate-initialise
+    initialise-requires
+    same-length
+    same-length-2
+    returns)

@@ -1,0 +1,82 @@
+// Document 01's examples c, e, f, g and h with an array of records, as a C++ program has them: each call also with the bytes of the
+// same datoms, on a store of its own. Says nothing if all is as it should be.
+#include "florinwick.h"
+
+#include <array>
+#include <cstddef>
+#include <cstdint>
+#include <cstdio>
+#include <vector>
+
+namespace {
+
+static_assert(sizeof(florinwick_datom) == FLORINWICK_DATOM_BYTES, "a record is four words");
+
+constexpr std::uint64_t page_size = 256;
+
+int failures = 0;
+
+void expect(const char *name, bool holds) {
+    if (holds) return;
+    std::printf("%s\n", name);
+    ++failures;
+}
+
+florinwick_datom d(std::uint64_t k) { return {k, 1, k, 3}; }
+
+std::vector<florinwick_datom> run(std::uint64_t from, std::uint64_t count) {
+    std::vector<florinwick_datom> records;
+    for (std::uint64_t k = from; k < from + count; ++k) records.push_back(d(k));
+    return records;
+}
+
+std::vector<std::uint8_t> bytes_of(const std::vector<florinwick_datom> &records) {
+    std::vector<std::uint8_t> bytes;
+    for (const florinwick_datom &record : records) {
+        for (std::uint64_t word : {record.entity, record.attribute, record.value, record.transaction_operation}) {
+            for (int i = 0; i < 8; ++i) bytes.push_back(static_cast<std::uint8_t>(word >> (8 * i)));
+        }
+    }
+    return bytes;
+}
+
+struct Stores {
+    std::vector<std::uint8_t> by_records = std::vector<std::uint8_t>(64 * page_size);
+    std::vector<std::uint8_t> by_bytes = by_records;
+    std::vector<std::uint8_t> scratch = std::vector<std::uint8_t>(florinwick_scratch_need(page_size));
+    std::uint64_t count = 0;
+    std::uint64_t root = FLORINWICK_NONE;
+
+    // The number, root, pages and index of a call that both entries must answer alike.
+    void insert(const char *name, const std::vector<florinwick_datom> &records, std::array<std::uint8_t, 4> expected) {
+        std::array<std::uint8_t, 32> told{}, told_of_bytes{};
+        const std::vector<std::uint8_t> bytes = bytes_of(records);
+        const std::uint64_t number =
+            florinwick_insert_records(by_records.data(), by_records.size(), page_size, count, root, records.data(), records.size(),
+                                      scratch.data(), scratch.size(), told.data(), told.size());
+        florinwick_insert(by_bytes.data(), by_bytes.size(), page_size, count, root, bytes.data(), bytes.size(),
+                          scratch.data(), scratch.size(), told_of_bytes.data(), told_of_bytes.size());
+        expect(name, told == told_of_bytes && by_records == by_bytes && number == expected[0]);
+        for (std::size_t i = 0; i < 4; ++i) expect(name, told[8 * i] == expected[i]);
+        if (number == FLORINWICK_DONE) {
+            root = told[8];
+            count += told[16];
+        }
+    }
+};
+
+}  // namespace
+
+int main() {
+    Stores stores;
+    stores.insert("c", run(0, 7), {0, 2, 3, 0});
+    stores.insert("e", run(7, 5), {0, 3, 1, 0});
+    stores.insert("f", run(12, 1), {0, 6, 3, 0});
+    stores.insert("g", run(12, 1), {FLORINWICK_REPEATED, 6, 0, 0});
+    stores.insert("129 records", run(1000, 129), {FLORINWICK_TOO_MANY, 6, 0, 0});
+    // An empty array is still at an address.
+    std::vector<florinwick_datom> none(1);
+    none.pop_back();
+    stores.insert("h", none, {0, 7, 1, 0});
+    return failures == 0 ? 0 : 1;
+}

@@ -1,0 +1,184 @@
+//! The record entry against the byte entry, on every batch of the recorded answers and on calls that are refused.
+
+mod entries;
+#[allow(dead_code)]
+#[path = "../differential/library.rs"]
+mod library;
+#[allow(dead_code)]
+#[path = "../oracle/driver/recording.rs"]
+mod recording;
+
+use std::{env, fs, process};
+
+use entries::{insert, Given};
+use harness::{Datom, Random, MAX_VALUE, NONE};
+use library::{bytes_of, call, scratch_need, Answer, Call, Entry, Lent};
+use recording::{Record, Written};
+
+const SEED: u64 = 20190607;
+
+/// How many failures are told in words.
+const TOLD: usize = 20;
+
+fn main() {
+    let file = env::args().nth(1).expect("the file of recorded answers");
+    let bytes = fs::read(&file).unwrap_or_else(|error| panic!("{}: {}", file, error));
+    let mut rest = &bytes[..];
+    let mut random = Random::new(SEED);
+    let mut tally = Tally::default();
+    let mut history = None;
+    while !rest.is_empty() {
+        match Record::decode(&mut rest).expect("a record") {
+            Record::Begin { page_size, room, .. } => history = Some(History::new(page_size, room, &mut random)),
+            record => history.as_mut().expect("a history").step(&record, &mut tally, &mut random),
+        }
+    }
+    println!("calls by the number that they gave: {:?}", tally.numbers);
+    for number in [0, 1, 2, 3, 4, 5, 6, 9] {
+        if tally.numbers[number] == 0 {
+            tally.fail(format!("no call gave {}", number));
+        }
+    }
+    println!("{} passed, {} failed", tally.passed, tally.failed);
+    process::exit(if tally.failed == 0 { 0 } else { 1 });
+}
+
+#[derive(Default)]
+struct Tally {
+    passed: usize,
+    failed: usize,
+    /// How many calls gave each number of document 01's table.
+    numbers: [usize; 11],
+}
+
+impl Tally {
+    fn count(&mut self, outcome: Result<Answer, String>) {
+        match outcome {
+            Ok(answer) => {
+                self.passed += 1;
+                self.numbers[answer.number as usize] += 1;
+            }
+            Err(problem) => self.fail(problem),
+        }
+    }
+
+    fn fail(&mut self, problem: String) {
+        self.failed += 1;
+        if self.failed <= TOLD {
+            println!("FAILED  {}", problem);
+        }
+    }
+}
+
+/// A recorded history, replayed on a store for each entry.
+struct History {
+    page_size: u64,
+    count: u64,
+    by_bytes: Vec<u8>,
+    by_records: Vec<u8>,
+    scratch: Lent,
+}
+
+impl History {
+    fn new(page_size: u64, room: u64, random: &mut Random) -> History {
+        let store = vec![0; (page_size * room) as usize];
+        let scratch = Lent::of_length(scratch_need(page_size as usize), random);
+        History { page_size, count: 0, by_bytes: store.clone(), by_records: store, scratch }
+    }
+
+    fn given(&self, root: u64, batch: &[Datom]) -> Given {
+        let (page_size, page_count) = (self.page_size, self.count);
+        Given { page_size, page_count, root, batch: batch.to_vec(), scratch: self.scratch.length(), area: 32 }
+    }
+
+    fn step(&mut self, record: &Record, tally: &mut Tally, random: &mut Random) {
+        match record {
+            Record::Insert { root, batch, written, .. } => {
+                self.refusals(*root, batch, tally, random);
+                tally.count(self.insert(*root, batch, written, random));
+                self.count += written.count;
+            }
+            // The record entry is an insert: both stores get what the byte entry makes of the batch.
+            Record::Initialise { batch, written, .. } => {
+                let bytes = bytes_of(batch);
+                let (page_size, page_count) = (self.page_size, self.count);
+                let entry = Entry::Initialise;
+                let given = Call { entry, page_size, page_count, batch: &bytes, scratch: self.scratch.length(), area: 32 };
+                call(&mut self.by_bytes, &given, &mut self.scratch, random).expect("an initialise");
+                self.by_records.copy_from_slice(&self.by_bytes);
+                self.count += written.count;
+            }
+            Record::Poke { page, bytes } => {
+                let at = (page * self.page_size) as usize;
+                self.by_bytes[at..at + bytes.len()].copy_from_slice(bytes);
+                self.by_records[at..at + bytes.len()].copy_from_slice(bytes);
+            }
+            Record::Begin { .. } | Record::List { .. } | Record::Check { .. } | Record::End { .. } => {}
+        }
+    }
+
+    /// A recorded insert gives the recorded answer.
+    fn insert(&mut self, root: u64, batch: &[Datom], written: &Written, random: &mut Random) -> Result<Answer, String> {
+        let given = self.given(root, batch);
+        let answer = insert(&given, &mut self.by_bytes, &mut self.by_records, &mut self.scratch, random)?;
+        if (answer.number, answer.root, answer.pages) != (0, written.root, written.count) {
+            return Err(format!("{:?} and not the recorded answer {:?}", answer, written));
+        }
+        Ok(answer)
+    }
+
+    /// Calls that differ from a recorded one in what a refusal is given for, each on copies of the pages in use and a few more.
+    fn refusals(&mut self, root: u64, batch: &[Datom], tally: &mut Tally, random: &mut Random) {
+        let used = (self.count * self.page_size) as usize;
+        let end = self.by_bytes.len().min(used + 4 * self.page_size as usize);
+        for (given, length) in self.changed(root, batch, used, end) {
+            let mut by_bytes = self.by_bytes[..length].to_vec();
+            let mut by_records = by_bytes.clone();
+            tally.count(insert(&given, &mut by_bytes, &mut by_records, &mut self.scratch, random));
+        }
+    }
+
+    /// Each with the length of the store that is lent.
+    fn changed(&self, root: u64, batch: &[Datom], used: usize, end: usize) -> Vec<(Given, usize)> {
+        let plain = self.given(root, batch);
+        let with = |change: &dyn Fn(&mut Given)| {
+            let mut given = plain.clone();
+            change(&mut given);
+            (given, end)
+        };
+        let mut calls = vec![
+            with(&|given| given.page_size += 1),
+            with(&|given| given.page_count = u64::MAX),
+            with(&|given| given.scratch -= 1),
+            with(&|given| given.scratch = 4095),
+            with(&|given| given.scratch = 0),
+            with(&|given| given.area = 31),
+            with(&|given| given.batch = ascending(129)),
+            // 1 goes before 2.
+            with(&|given| (given.batch, given.scratch) = (ascending(129), 4096)),
+            with(&|given| given.batch = ascending(1000)),
+            with(&|given| given.batch.reverse()),
+            with(&|given| given.batch.extend_from_slice(batch.last().map(std::slice::from_ref).unwrap_or(&[]))),
+            with(&|given| given.root = given.page_count),
+            with(&|given| (given.root, given.batch) = (NONE, ascending(128))),
+            (plain.clone(), used),
+        ];
+        if let Some(last) = batch.len().checked_sub(1) {
+            calls.push(with(&|given| given.batch[last][2] = 1 << 62));
+            calls.push(with(&|given| given.batch[last][2] = MAX_VALUE));
+        }
+        // A datom that a page in use already has: the first of the root's, if it has one.
+        if root < self.count {
+            let at = (root * self.page_size) as usize;
+            let words: Vec<u64> =
+                self.by_bytes[at..at + 32].chunks_exact(8).map(|word| u64::from_le_bytes(word.try_into().expect("a word has 8 bytes"))).collect();
+            calls.push(with(&|given| given.batch = vec![[words[0], words[1], words[2], words[3]]]));
+        }
+        calls
+    }
+}
+
+/// Datoms of new entities, in order.
+fn ascending(n: u64) -> Vec<Datom> {
+    (0..n).map(|k| [u64::MAX - 1000 + k, 1, k, 3]).collect()
+}

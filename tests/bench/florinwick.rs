@@ -41,13 +41,13 @@ impl Florinwick {
         Florinwick { slab, root, scratch: vec![0; need as usize] }
     }
 
-    fn send(&mut self, batch: &[u8]) -> [u64; 4] {
+    fn send(&mut self, root: u64, batch: &[u8]) -> [u64; 4] {
         let mut answer = [0u64; 4];
         let count = self.slab.count;
         let store = self.slab.bytes_mut();
         unsafe {
             archive::florinwick_insert(
-                store.as_mut_ptr(), store.len(), PAGE as u64, count, self.root, batch.as_ptr(), batch.len(),
+                store.as_mut_ptr(), store.len(), PAGE as u64, count, root, batch.as_ptr(), batch.len(),
                 self.scratch.as_mut_ptr(), self.scratch.len(), answer.as_mut_ptr() as *mut u8, 32,
             );
         }
@@ -55,15 +55,15 @@ impl Florinwick {
     }
 
     pub fn insert(&mut self, batch: &[u8]) {
-        let [number, root, pages, _] = self.send(batch);
+        let [number, root, pages, _] = self.send(self.root, batch);
         assert_eq!(number, 0, "a batch of the feed is refused");
         self.root = root;
         self.slab.count += pages;
     }
 
-    /// The last batch again: the receipt is a refusal.
-    pub fn resend(&mut self, batch: &[u8]) {
-        assert_eq!(self.send(batch)[0], REPEATED, "a batch that was resent is not refused");
+    /// A batch again at the root that it led to: the receipt is a refusal.
+    pub fn resend(&mut self, batch: &[u8], root: u64) {
+        assert_eq!(self.send(root, batch)[0], REPEATED, "a batch that was resent is not refused");
     }
 
     /// How many datoms a listing of everything hands out, step by step, and the sum of their entities.

@@ -7,7 +7,6 @@ mod noblit;
 mod slab;
 mod sqlite;
 
-use std::time::Instant;
 use std::{env, fs};
 
 use feed::{bytes_of, Datom, Feed, Keys};
@@ -60,11 +59,9 @@ impl Bench {
 
     fn tree(&mut self, keys: Keys, tree: usize) {
         let mut feed = Feed::new(keys, 1);
-        let base = grown(&mut feed, tree);
-        let mut ours = Florinwick::new(Slab::copy_of(&base.slab, MORE_PAGES), base.root);
-        let mut theirs = Noblit { slab: Slab::copy_of(&base.slab, MORE_PAGES), root: base.root };
-        eprintln!("{:?}, {} datoms: {} pages", keys, tree, base.slab.count);
-        drop(base);
+        let mut ours = grown(&mut feed, keys, tree);
+        let mut theirs = Noblit { slab: Slab::copy_of(&ours.slab, MORE_PAGES), root: ours.root };
+        eprintln!("{:?}, {} datoms: {} pages", keys, tree, ours.slab.count);
         for round in 0..self.rounds {
             let mut branch = feed.branch(2 + round as u64);
             let batches: Vec<Vec<Datom>> = (0..BATCHES_A_ROUND).map(|_| branch.batch(BATCH)).collect();
@@ -105,15 +102,16 @@ impl Bench {
         theirs.slab.rewind(count);
     }
 
-    /// Each batch, and then the same batch again.
+    /// Each batch again, at the root that it led to.
     fn receipts(&mut self, what: &'static str, keys: Keys, tree: usize, batches: &[Vec<Datom>], ours: &mut Florinwick) {
         let (count, root) = (ours.slab.count, ours.root);
-        let mut time = 0.0;
+        let mut sent = Vec::new();
         for batch in batches {
             let bytes = bytes_of(batch);
             ours.insert(&bytes);
-            time += timed(|| ours.resend(&bytes));
+            sent.push((bytes, ours.root));
         }
+        let time = timed(|| sent.iter().for_each(|(batch, root)| ours.resend(batch, *root)));
         self.note(what, keys, tree, "Florinwick", time / batches.len() as f64);
         ours.root = root;
         ours.slab.rewind(count);
@@ -160,10 +158,10 @@ impl Bench {
                 ("insert of 1", "receipt for 1", 1, SINGLES_A_ROUND / 8),
             ] {
                 let batches: Vec<Vec<Datom>> = (0..amount).map(|_| feed.batch(size)).collect();
-                let times = in_turns(&batches, |batch| lmdb.insert(batch));
+                let times = twice(&batches, |batch| lmdb.insert(batch));
                 self.note(what, keys, tree, "LMDB", times.0);
                 self.note(receipt, keys, tree, "LMDB", times.1);
-                let times = in_turns(&batches, |batch| sqlite.insert(batch));
+                let times = twice(&batches, |batch| sqlite.insert(batch));
                 self.note(what, keys, tree, "SQLite", times.0);
                 self.note(receipt, keys, tree, "SQLite", times.1);
             }
@@ -186,31 +184,38 @@ fn readings(rounds: usize, tree: usize) -> usize {
     (rounds * 10_000 / tree).clamp(3, rounds)
 }
 
-fn timed(work: impl FnOnce()) -> f64 {
-    let started = Instant::now();
-    work();
-    started.elapsed().as_nanos() as f64
+extern "C" {
+    fn clock_gettime(clock: i32, time: *mut [i64; 2]) -> i32;
 }
 
-/// The time of a batch that goes in, and of the same batch again.
-fn in_turns(batches: &[Vec<Datom>], mut insert: impl FnMut(&[Datom]) -> bool) -> (f64, f64) {
-    let (mut first, mut again) = (0.0, 0.0);
-    for batch in batches {
-        first += timed(|| assert!(insert(batch)));
-        again += timed(|| assert!(!insert(batch)));
-    }
+const THREAD_CPU_TIME: i32 = 3;
+
+/// The processor time of this thread: it does not count what others do on the same machine.
+fn now() -> f64 {
+    let mut time = [0; 2];
+    assert_eq!(unsafe { clock_gettime(THREAD_CPU_TIME, &mut time) }, 0, "no clock");
+    time[0] as f64 * 1e9 + time[1] as f64
+}
+
+fn timed(work: impl FnOnce()) -> f64 {
+    let started = now();
+    work();
+    now() - started
+}
+
+/// The time of a batch that goes in, and of a batch that is there already.
+fn twice(batches: &[Vec<Datom>], mut insert: impl FnMut(&[Datom]) -> bool) -> (f64, f64) {
+    let first = timed(|| batches.iter().for_each(|batch| assert!(insert(batch))));
+    let again = timed(|| batches.iter().for_each(|batch| assert!(!insert(batch))));
     (first / batches.len() as f64, again / batches.len() as f64)
 }
 
-/// A tree of so many datoms, by batches of 128, and little room past it.
-fn grown(feed: &mut Feed, datoms: usize) -> Florinwick {
-    let mut tree = Florinwick::new(Slab::new(MORE_PAGES), NONE);
+/// A tree of so many datoms, by batches of 128, and room past it.
+fn grown(feed: &mut Feed, keys: Keys, datoms: usize) -> Florinwick {
+    let pages = if keys == Keys::Ascending { datoms / 16 } else { datoms };
+    let mut tree = Florinwick::new(Slab::new(pages + MORE_PAGES), NONE);
     let mut left = datoms;
     while left > 0 {
-        if tree.slab.bytes().len() / slab::PAGE - (tree.slab.count as usize) < MORE_PAGES / 2 {
-            let pages = tree.slab.count as usize;
-            tree = Florinwick::new(Slab::copy_of(&tree.slab, MORE_PAGES + pages), tree.root);
-        }
         let size = left.min(BATCH);
         tree.insert(&bytes_of(&feed.batch(size)));
         left -= size;

@@ -22,7 +22,8 @@ fi
 # The file of a fault, in its copy.
 file_of() {
     case $1 in
-        history | library | store) echo "$out/differential/$1.rs" ;;
+        history | library | store | model | reader) echo "$out/differential/$1.rs" ;;
+        damage | wrong) echo "$out/differential/history/$1.rs" ;;
         *) rust_file "$1" ;;
     esac
 }
@@ -38,7 +39,7 @@ while IFS='|' read -r file name script; do
             build_noblit patched
             build_harness "$out/harness" ;;
     esac
-    rustc --edition 2021 --crate-name differential -o "$out/program" "${flags[@]}" -L "$out" --extern harness -L target/staticlib -l static=florinwick \
+    rustc --edition 2021 --crate-name differential --cap-lints allow -o "$out/program" "${flags[@]}" -L "$out" --extern harness -L target/staticlib -l static=florinwick \
         "$out/differential/main.rs"
     if "$out/program" 2000 1 > "$out/found" 2>&1; then
         missed=$((missed + 1))

@@ -1,13 +1,17 @@
 //! One random history: a store, the trees in it, and every call made on it answered by both sides.
 
+mod damage;
+mod reading;
+mod wrong;
+
 use harness::{capacity, compare, Datom, Held, Kind, Node, Oracle, Order, Pages, Panic, Plan, Random, Supply, Which, MAX_VALUE, NONE};
 
-use crate::library::{bytes_of, call, scratch_need, Answer, Call, Entry, Lent};
+use crate::library::{bytes_of, call, datoms_of, scratch_need, Answer, Call, Entry, Lent};
+use crate::reader::Fault;
 use crate::store::Store;
 use crate::tally::Tally;
-
-/// A difference, in words.
-pub type Fault = String;
+use damage::Damage;
+use reading::Reading;
 
 /// Among how many batches one is sought on which both builds of the Rust agree.
 const CANDIDATES: usize = 30;
@@ -61,6 +65,9 @@ pub struct History<'a> {
     /// The calls that wrote, for the report of a difference, and then the last call.
     written: Vec<(Entry, Vec<Datom>)>,
     last: Option<Last>,
+    /// The call that reads, if that is the last one, and the page that is not as it was written.
+    reading: Option<Reading>,
+    damage: Option<Damage>,
 }
 
 /// A call to the library.
@@ -88,6 +95,8 @@ impl<'a> History<'a> {
             tally,
             written: Vec::new(),
             last: None,
+            reading: None,
+            damage: None,
             random,
         }
     }
@@ -102,6 +111,7 @@ impl<'a> History<'a> {
             let is_new = i == 0 || self.trees.is_empty() || self.random.one_in(self.shape.restarting);
             if is_new { self.start()? } else { self.grow()? }
             self.refusals()?;
+            self.readings()?;
         }
         self.compare_whole()
     }
@@ -112,7 +122,12 @@ impl<'a> History<'a> {
         for (entry, batch) in &self.written {
             text.push_str(&command(*entry, batch));
         }
-        if let Some(last) = &self.last {
+        if let Some(damage) = &self.damage {
+            text.push_str(&damage.commands());
+        }
+        if let Some(reading) = &self.reading {
+            text.push_str(&reading.command());
+        } else if let Some(last) = &self.last {
             let [size, count, more, rest, scratch, area] = last.beside;
             text.push_str(&command(last.entry, &datoms_of(&last.batch)));
             text.push_str(&format!(
@@ -444,10 +459,10 @@ impl<'a> History<'a> {
             _ if old[header + 1] > 0 => new[16..24].copy_from_slice(&MAX_VALUE.to_le_bytes()),
             _ => new[header] = 255,
         }
-        self.store.poke(page, &new);
+        self.damage(page, new);
         self.refuse(Entry::Insert(root), &datoms, 7, page)?;
         self.compare_whole()?;
-        self.store.poke(page, &old);
+        self.repair();
         Ok(())
     }
 
@@ -458,6 +473,7 @@ impl<'a> History<'a> {
     }
 
     fn call_with(&mut self, given: &Call, more: usize, rest: usize) -> Result<Answer, Fault> {
+        self.reading = None;
         self.last = Some(Last {
             entry: given.entry,
             batch: given.batch.to_vec(),
@@ -517,9 +533,4 @@ pub fn command(entry: Entry, batch: &[Datom]) -> String {
         text.push_str(&format!(" {},{},{:#x},{}", datom[0], datom[1], datom[2], datom[3]));
     }
     text + "\n"
-}
-
-fn datoms_of(bytes: &[u8]) -> Vec<Datom> {
-    let word = |chunk: &[u8]| u64::from_le_bytes(chunk.try_into().expect("a word has 8 bytes"));
-    bytes.chunks_exact(32).map(|datom| [word(&datom[..8]), word(&datom[8..16]), word(&datom[16..24]), word(&datom[24..])]).collect()
 }

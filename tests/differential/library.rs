@@ -15,6 +15,24 @@ mod archive {
             batch: *const u8, batch_length: usize, scratch: *mut u8, scratch_length: usize,
             answer: *mut u8, answer_length: usize,
         ) -> u64;
+        pub fn florinwick_fetch(
+            store: *const u8, store_length: usize, page_size: u64, page_count: u64, page: u64,
+            answer: *mut u8, answer_length: usize,
+        ) -> u64;
+        pub fn florinwick_check(
+            store: *const u8, store_length: usize, page_size: u64, page_count: u64, root: u64,
+            answer: *mut u8, answer_length: usize,
+        ) -> u64;
+        pub fn florinwick_list_start(
+            store: *const u8, store_length: usize, page_size: u64, page_count: u64, root: u64,
+            lower: *const u8, lower_length: usize, upper: *const u8, upper_length: usize,
+            cursor: *mut u8, cursor_length: usize, answer: *mut u8, answer_length: usize,
+        ) -> u64;
+        pub fn florinwick_list_step(
+            store: *const u8, store_length: usize, page_size: u64, page_count: u64,
+            cursor: *mut u8, cursor_length: usize, datom: *mut u8, datom_length: usize,
+            answer: *mut u8, answer_length: usize,
+        ) -> u64;
     }
 }
 
@@ -30,6 +48,11 @@ pub struct Answer {
 impl Answer {
     pub fn done(root: u64, pages: u64) -> Answer {
         Answer { number: 0, root, pages, detail: 0 }
+    }
+
+    /// The answer of a call that reads: a number, and an index or page.
+    pub fn told(number: u64, detail: u64) -> Answer {
+        Answer { number, root: 0, pages: 0, detail }
     }
 }
 
@@ -62,6 +85,7 @@ const GUARD: usize = 64;
 pub struct Lent {
     bytes: Vec<u8>,
     before: usize,
+    front: Vec<u8>,
     after: Vec<u8>,
 }
 
@@ -69,11 +93,10 @@ impl Lent {
     /// The slice starts at any alignment. Its guards are noise.
     pub fn new(content: &[u8], random: &mut Random) -> Lent {
         let before = GUARD + random.below(16);
-        let mut bytes = noise(before, random);
-        bytes.extend_from_slice(content);
+        let front = noise(before, random);
         let after = noise(GUARD, random);
-        bytes.extend_from_slice(&after);
-        Lent { bytes, before, after }
+        let bytes = [&front[..], content, &after[..]].concat();
+        Lent { bytes, before, front, after }
     }
 
     pub fn of_length(length: usize, random: &mut Random) -> Lent {
@@ -98,6 +121,11 @@ impl Lent {
     pub fn all(&self) -> &[u8] {
         &self.bytes
     }
+
+    /// Whether the guards are as they were made.
+    pub fn is_guarded(&self) -> bool {
+        self.bytes.starts_with(&self.front) && self.bytes.ends_with(&self.after)
+    }
 }
 
 /// Bytes that no call would write by accident.
@@ -112,6 +140,11 @@ pub fn noise(length: usize, random: &mut Random) -> Vec<u8> {
 
 pub fn bytes_of(batch: &[Datom]) -> Vec<u8> {
     batch.iter().flatten().flat_map(|word| word.to_le_bytes()).collect()
+}
+
+pub fn datoms_of(bytes: &[u8]) -> Vec<Datom> {
+    let word = |chunk: &[u8]| u64::from_le_bytes(chunk.try_into().expect("a word has 8 bytes"));
+    bytes.chunks_exact(32).map(|datom| [word(&datom[..8]), word(&datom[8..16]), word(&datom[16..24]), word(&datom[24..])]).collect()
 }
 
 /// What one call is given besides the store.
@@ -153,15 +186,19 @@ pub fn call(store: &mut [u8], call: &Call, scratch: &mut Lent, random: &mut Rand
     if guards(scratch, call.scratch) != scratch_before {
         return Err("bytes beside the scratch were changed".to_string());
     }
-    let (start, end) = (area.before, area.before + call.area);
-    if area.all()[..start] != area_before[..start] || area.all()[end..] != area_before[end..] {
+    told(&area, &area_before, returned, call.entry.refused(returned, 0))
+}
+
+/// The answer that was written to an area, or this one where the area is not 32 bytes long: it must then be as before.
+fn told(area: &Lent, before: &[u8], returned: u64, unwritten: Answer) -> Result<Answer, String> {
+    if !area.is_guarded() {
         return Err("bytes beside the answer area were changed".to_string());
     }
-    if call.area != 32 {
-        if area.all() != &area_before[..] {
-            return Err(format!("an answer area of {} bytes was changed", call.area));
+    if area.length() != 32 {
+        if area.all() != before {
+            return Err(format!("an answer area of {} bytes was changed", area.length()));
         }
-        return Ok(call.entry.refused(returned, 0));
+        return Ok(unwritten);
     }
     let word = |i: usize| u64::from_le_bytes(area.content()[8 * i..8 * i + 8].try_into().expect("a word has 8 bytes"));
     if returned != word(0) {
@@ -174,4 +211,73 @@ pub fn call(store: &mut [u8], call: &Call, scratch: &mut Lent, random: &mut Rand
 fn guards(scratch: &Lent, lent: usize) -> Vec<u8> {
     let end = scratch.before + lent;
     [&scratch.all()[..scratch.before], &scratch.all()[end..]].concat()
+}
+
+/// What a call that only reads is given besides its own arguments.
+#[derive(Clone, Copy)]
+pub struct Asked<'a> {
+    pub store: &'a [u8],
+    pub page_size: u64,
+    pub page_count: u64,
+    /// How long the answer area is.
+    pub area: usize,
+}
+
+impl Asked<'_> {
+    /// Lends an answer area to a call that reads.
+    fn answered(&self, random: &mut Random, call: impl FnOnce(&mut [u8]) -> u64) -> Result<Answer, String> {
+        let mut area = Lent::of_length(self.area, random);
+        let before = area.all().to_vec();
+        let returned = call(area.content_mut());
+        told(&area, &before, returned, Answer::told(returned, 0))
+    }
+
+    pub fn fetch(&self, page: u64, random: &mut Random) -> Result<Answer, String> {
+        self.answered(random, |area| unsafe {
+            archive::florinwick_fetch(
+                self.store.as_ptr(), self.store.len(), self.page_size, self.page_count, page, area.as_mut_ptr(), area.len(),
+            )
+        })
+    }
+
+    pub fn check(&self, root: u64, random: &mut Random) -> Result<Answer, String> {
+        self.answered(random, |area| unsafe {
+            archive::florinwick_check(
+                self.store.as_ptr(), self.store.len(), self.page_size, self.page_count, root, area.as_mut_ptr(), area.len(),
+            )
+        })
+    }
+
+    /// The bounds are bytes of any length. The cursor is the caller's to compare, its guards are not.
+    pub fn list_start(
+        &self, root: u64, lower: &[u8], upper: &[u8], cursor: &mut Lent, random: &mut Random,
+    ) -> Result<Answer, String> {
+        let (lower, upper) = (Lent::new(lower, random), Lent::new(upper, random));
+        let bounds_before = [lower.all(), upper.all()].concat();
+        let kept = cursor.content_mut();
+        let answer = self.answered(random, |area| unsafe {
+            archive::florinwick_list_start(
+                self.store.as_ptr(), self.store.len(), self.page_size, self.page_count, root,
+                lower.content().as_ptr(), lower.length(), upper.content().as_ptr(), upper.length(),
+                kept.as_mut_ptr(), kept.len(), area.as_mut_ptr(), area.len(),
+            )
+        })?;
+        if [lower.all(), upper.all()].concat() != bounds_before {
+            return Err("a bound or its guards were changed".to_string());
+        }
+        if cursor.is_guarded() { Ok(answer) } else { Err("bytes beside the cursor were changed".to_string()) }
+    }
+
+    /// The cursor and the datom are the caller's to compare, their guards are not.
+    pub fn list_step(&self, cursor: &mut Lent, datom: &mut Lent, random: &mut Random) -> Result<Answer, String> {
+        let (kept, given) = (cursor.content_mut(), datom.content_mut());
+        let answer = self.answered(random, |area| unsafe {
+            archive::florinwick_list_step(
+                self.store.as_ptr(), self.store.len(), self.page_size, self.page_count,
+                kept.as_mut_ptr(), kept.len(), given.as_mut_ptr(), given.len(), area.as_mut_ptr(), area.len(),
+            )
+        })?;
+        let is_guarded = cursor.is_guarded() && datom.is_guarded();
+        if is_guarded { Ok(answer) } else { Err("bytes beside the cursor or the datom were changed".to_string()) }
+    }
 }

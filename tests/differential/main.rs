@@ -3,11 +3,13 @@
 mod examples;
 mod history;
 mod library;
+mod model;
+mod reader;
 mod store;
 mod tally;
 mod tall;
 
-use std::time::Instant;
+use std::time::{Duration, Instant};
 use std::{env, fs, process};
 
 use harness::{Kind, Order, Plan, Random, PAGE_SIZES};
@@ -16,6 +18,10 @@ use tally::Tally;
 
 /// Where the calls that show a difference go.
 const TRANSCRIPT: &str = "build/differential/difference.txt";
+
+/// How many histories of each small shape are tried for a smaller input, and for how long at most.
+const SMALLER_SEEDS: u64 = 60;
+const SMALLER_FOR: Duration = Duration::from_secs(20);
 
 /// From so many batches on the tallest tree is built, too.
 const TALL_FROM: u64 = 50_000;
@@ -50,9 +56,9 @@ fn main() {
     }
     let sum = |of: fn(&Tally) -> u64| tallies.iter().map(of).sum::<u64>();
     println!(
-        "no difference: {} batches, {} datoms, {} pages, {} refusals; seed {}, {:.0} s",
-        sum(|t| t.batches), sum(|t| t.datoms), sum(|t| t.pages), sum(|t| t.answers[1..].iter().sum()), seed,
-        started.elapsed().as_secs_f64(),
+        "no difference: {} batches, {} datoms, {} pages, {} refusals, {} listings, {} checks; seed {}, {:.0} s",
+        sum(|t| t.batches), sum(|t| t.datoms), sum(|t| t.pages), sum(|t| t.answers[1..].iter().sum()), sum(|t| t.listings),
+        sum(|t| t.sound + t.unsound), seed, started.elapsed().as_secs_f64(),
     );
 }
 
@@ -70,18 +76,43 @@ fn tell(outcome: Result<String, String>, name: &str) {
 fn run(shape: Shape, seed: u64, tally: &mut Tally) {
     let mut history = History::new(shape, seed, tally);
     if let Err(fault) = history.run() {
-        let transcript = history.transcript();
         println!("DIFFERENCE: {}", fault);
-        println!("in {:?}", shape);
+        println!("in {:?}, seed {}", shape, seed);
+        let transcript = match smaller(shape) {
+            Some((fault, transcript)) => {
+                println!("a smaller input that shows one: {}", fault);
+                transcript
+            }
+            None => history.transcript(),
+        };
         let lines: Vec<&str> = transcript.lines().collect();
         // The whole if it is short, else its end.
         for line in &lines[lines.len().saturating_sub(12)..] {
             println!("{}", line);
         }
         fs::write(TRANSCRIPT, &transcript).unwrap_or_else(|error| panic!("{}: {}", TRANSCRIPT, error));
-        println!("all {} calls that wrote, as commands of build/oracle/oracle run: {}", lines.len() - 3, TRANSCRIPT);
+        println!("all {} lines, as commands of build/oracle/oracle run: {}", lines.len(), TRANSCRIPT);
         process::exit(1);
     }
+}
+
+/// The first difference in histories of few and small batches, the smallest first: what it is, and the input that shows it.
+fn smaller(shape: Shape) -> Option<(String, String)> {
+    let started = Instant::now();
+    for (batches, largest) in [(1, 1), (1, 8), (2, 8), (1, 32), (3, 8), (4, 16), (2, 128), (6, 16), (10, 32)] {
+        for seed in 0..SMALLER_SEEDS {
+            if started.elapsed() > SMALLER_FOR {
+                return None;
+            }
+            let smaller = Shape { batches, largest, supply: 40 + 2 * batches * largest, cutting: 1, ..shape };
+            let mut tally = Tally::default();
+            let mut history = History::new(smaller, seed, &mut tally);
+            if let Err(fault) = history.run() {
+                return Some((fault, history.transcript()));
+            }
+        }
+    }
+    None
 }
 
 fn shape(page_size: usize, turn: usize, random: &mut Random) -> Shape {

@@ -45,6 +45,11 @@ impl Store {
         &mut self.bytes[self.before..end]
     }
 
+    /// The slice to lend to a call that reads: the pages in use, and some bytes.
+    pub fn shown(&self, bytes: usize) -> &[u8] {
+        &self.bytes[self.before..self.place(self.count) + bytes]
+    }
+
     /// The bytes that a call left, from the first free page on, if they differ from these pages with the old bytes past
     /// them: the number of the first byte, what it is and what it must be.
     pub fn fault_past(&self, pages: &[u8]) -> Option<String> {
@@ -78,6 +83,7 @@ impl Store {
         self.bytes[start..start + content.len()].copy_from_slice(content);
         self.image[start..start + content.len()].copy_from_slice(content);
     }
+
     fn difference(&self, from: usize, found: &[u8], expected: &[u8]) -> Option<String> {
         if found == expected {
             return None;

@@ -1,10 +1,12 @@
 //! The tallest tree: ascending batches of four until the next one would need a page of level 8.
 
-use harness::{Datom, Node, Oracle, Order, Pages, Random, Which};
+use harness::{Datom, Node, Oracle, Order, Pages, Random, Verdict, Which, MAX_VALUE};
 
 use crate::history::ask;
 use crate::library::{bytes_of, call, scratch_need, Answer, Call, Entry, Lent};
+use crate::reader::Reader;
 use crate::store::Store;
+use crate::tally::Tally;
 
 const PAGE_SIZE: usize = 256;
 
@@ -13,6 +15,9 @@ const WHOLE_EVERY: u64 = 2048;
 
 /// By then the tree must have been too tall.
 const MOST_BATCHES: u64 = 50_000;
+
+/// How often the tallest tree is listed; the first time whole.
+const LISTINGS: usize = 200;
 
 /// What was compared, or the first difference.
 pub fn run(random: &mut Random) -> Result<String, String> {
@@ -59,10 +64,15 @@ pub fn run(random: &mut Random) -> Result<String, String> {
                 }
                 store.restore();
             }
+            pages.truncate(before);
+            let Entry::Insert(root) = entry else {
+                return Err("a first batch that is too tall".to_string());
+            };
+            let read = read(&pages, &store, root, 4 * batch, random)?;
             return match store.fault() {
                 None => Ok(format!(
-                    "the tallest tree: {} batches of four, {} pages of 256 bytes, height 8; the next one TooTall after {} pages",
-                    batch, before, at,
+                    "the tallest tree: {} batches of four, {} pages of 256 bytes, height 8; the next one TooTall after {} pages; {}",
+                    batch, before, at, read,
                 )),
                 Some(fault) => Err(fault),
             };
@@ -76,4 +86,28 @@ pub fn run(random: &mut Random) -> Result<String, String> {
         entry = Entry::Insert(root);
     }
     Err(format!("{} batches, and no page of level 8", MOST_BATCHES))
+}
+
+/// Listings and the check of the tallest tree, of so many datoms, by the Rust and by the library.
+fn read(pages: &Pages, store: &Store, root: u64, amount: u64, random: &mut Random) -> Result<String, String> {
+    let oracle = Oracle { which: Which::Patched, order: Order::Eavt };
+    let mut tally = Tally::default();
+    for i in 0..LISTINGS {
+        let (from, to) = (random.below(amount as usize) as u64, random.below(amount as usize) as u64);
+        let (lower, upper) = match i {
+            0 => ([0; 4], [u64::MAX, u64::MAX, MAX_VALUE, u64::MAX]),
+            _ => ([from, 1, from, 3], [from + to % 1000, 1, from, 3]),
+        };
+        let mut listed = Vec::new();
+        oracle.list(pages, root, &lower, &upper, &mut listed).map_err(|panic| panic.message)?;
+        let found = Reader { store: store.shown(0), pages, random, tally: &mut tally }.list(root, &lower, &upper, usize::MAX)?;
+        if found != listed || i == 0 && listed.len() as u64 != amount {
+            return Err(format!("{} datoms are listed from {:?} to {:?}, and {} by the Rust", found.len(), lower, upper, listed.len()));
+        }
+    }
+    let found = Reader { store: store.shown(0), pages, random, tally: &mut tally }.check(root)?;
+    if found.is_some() || oracle.check(pages, root) != Verdict::Sound {
+        return Err(format!("the check finds a fault at {:?}", found));
+    }
+    Ok(format!("{} listings with {} datoms, and sound", tally.listings, tally.listed))
 }

@@ -2,8 +2,10 @@
 
 use std::fmt;
 
-/// How many of the refusals 1 to 9 there are, and Done as 0.
-const NUMBERS: usize = 10;
+use crate::model::{Step, Why};
+
+/// How many of the refusals 1 to 10 there are, and Done as 0.
+const NUMBERS: usize = 11;
 
 #[derive(Default)]
 pub struct Tally {
@@ -28,6 +30,60 @@ pub struct Tally {
     /// Stores cut at a page of a batch.
     pub cuts: u64,
     pub answers: [u64; NUMBERS],
+    /// Listings, the datoms that they gave, how many of them the Rust gave too, and how many starts were refused.
+    pub listings: u64,
+    pub listed: u64,
+    pub listed_by_rust: u64,
+    pub starts_refused: u64,
+    /// Steps that were compared with the rules, cursor and all: yielding, ended, and by why they are Damaged; how many of all these
+    /// were from made-up cursors.
+    pub yielded: u64,
+    pub ended: u64,
+    pub damaged: [u64; 5],
+    pub made_up: u64,
+    pub sound: u64,
+    pub unsound: u64,
+    pub fetches: u64,
+    pub damaged_readable: u64,
+    pub damaged_unreadable: u64,
+    /// Inserts that met a page which cannot be read, or an equal datom, when writing had begun; and the pages written until then.
+    pub lost_while_writing: u64,
+    pub equal_while_writing: u64,
+    pub pages_before_damage: u64,
+}
+
+impl Tally {
+    pub fn judge(&mut self, step: &Step) {
+        match step {
+            Step::Yields(..) => self.yielded += 1,
+            Step::Ended => self.ended += 1,
+            Step::Damaged(_, Why::TooHigh) => self.damaged[0] += 1,
+            Step::Damaged(_, Why::NotOpen) => self.damaged[1] += 1,
+            Step::Damaged(_, Why::NothingLeft) => self.damaged[2] += 1,
+            Step::Damaged(_, Why::Twice) => self.damaged[3] += 1,
+            Step::Damaged(_, Why::Lost) => self.damaged[4] += 1,
+        }
+    }
+
+    fn readings(&self, out: &mut fmt::Formatter) -> fmt::Result {
+        writeln!(
+            out, "  listings: {} ({} by the Rust too, {} refused at the start), {} datoms; {} fetches",
+            self.listings, self.listed_by_rust, self.starts_refused, self.listed, self.fetches,
+        )?;
+        let [high, open, left, twice, lost] = self.damaged;
+        writeln!(
+            out, "  steps by the rules: {} yield, {} ended, Damaged {}: height {}, begin page {}, nothing left {}, equal pair {}, advancing {}; {} from made-up cursors",
+            self.yielded, self.ended, self.damaged.iter().sum::<u64>(), high, open, left, twice, lost, self.made_up,
+        )?;
+        writeln!(
+            out, "  checks: {} sound, {} unsound; damaged pages: {} readable, {} not",
+            self.sound, self.unsound, self.damaged_readable, self.damaged_unreadable,
+        )?;
+        writeln!(
+            out, "  inserts refused while writing, after {} pages: {} by a page that cannot be read, {} by an equal datom",
+            self.pages_before_damage, self.lost_while_writing, self.equal_while_writing,
+        )
+    }
 }
 
 impl fmt::Display for Tally {
@@ -47,6 +103,7 @@ impl fmt::Display for Tally {
             out, "  sent again: {} at the root they led to, {} at later roots; {} with a shared datom; {} cuts of the store",
             self.resent_there, self.resent_later, self.shared, self.cuts,
         )?;
+        self.readings(out)?;
         write!(out, "  refusals by number: {}", refusals.join(", "))
     }
 }

@@ -1,6 +1,5 @@
 -- "Numbers the caller may get": for every case of every answer its number and its four words.
 use Prim.Native.Nat.{ℕ}
-use mathlib.Core.List.{List, [], _∷_}
 use Rattle.store.specs.declared.PageId.{PageId}
 use Rattle.answer.specs.declared.Refusal.{Refusal}
 use Rattle.answer.specs.declared.Refusal.the-variants.{BadStore, TooMany, BadDatom, OutOfOrder, NoPage, Repeated, Damaged, TooTall, NoRoom, BadBound}

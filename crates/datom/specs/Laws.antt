@@ -2,9 +2,9 @@
 use Prim.Native.Nat.{ℕ, zero, suc, _+_, _-_, _*_, _/_, _%_, _^_, _≤_, _<_}
 use native.Mathlib.Nat.{div-div-eq-div-mul, mod-add-div, add-zero}
 use native.Mathlib.Omega.{arith}
-use mathlib.Core.Bool.{Bool, true, false, _&&_, _||_}
+use mathlib.Core.Bool.{Bool, true, false}
 use mathlib.Core.Path.{_≡_, refl, sym, _∙_, ap, ap₂}
-use mathlib.Core.List.{List, [], _∷_, _++_, append-assoc}
+use mathlib.Core.List.{List, _∷_, _++_}
 use borrow.Author.Tests.{ltb-true, leb-true, eqb-true}
 use lib.Dec.{leb, ltb, eqb}
 use lib.ListN.{length, take, drop, getD}
@@ -14,7 +14,7 @@ use Rattle.store.specs.Cells.{drop-take-le, cells-at, cells-from}
 use Rattle.store.specs.Laws.{apart, both, bytes-length, little-bytes, low-bytes, word-back, word-small}
 use Rattle.datom.specs.declared.Datom.{Datom}
 use Rattle.datom.specs.declared.Value.{Value}
-use Rattle.datom.specs.Value.{isInt, strLen, isStr, isMax, storedValue, boundValue, Content, int, str, top, content}
+use Rattle.datom.specs.Value.{isInt, strLen, isStr, isMax, storedValue, boundValue, int, str, top, content}
 use Rattle.datom.specs.Datom.{datomAt, datomOf, datomBytes, datomsOf, Words}
 
 pub datom-length : (d : Datom) → length (datomBytes d) ≡ 32

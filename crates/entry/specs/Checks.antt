@@ -17,7 +17,7 @@ use Rattle.datom.specs.Datom.{datomsOf, storedDatom}
 use Rattle.index.specs.Order.{cmpEavt, eavt}
 use Rattle.answer.specs.declared.Refusal.{Refusal}
 use Rattle.answer.specs.declared.Refusal.the-variants.{BadStore, NoPage}
-use Rattle.rules.specs.Tree.{Fetched, Env}
+use Rattle.rules.specs.Tree.{Env}
 use Rattle.rules.specs.Lookup.{Finding, clear, found}
 use Rattle.rules.specs.Store.{orElse, badStore, badScratch, badRoot, fetchPage, envOf}
 use Rattle.rules.specs.Insert.{Outcome, refuse, outcome, storeFault, countFault, formFault, orderFault, twinFault, rootFault, sort, writeFresh, insertUnder, insert, initialise, bytesFault, batchOf, insertBytes, initialiseBytes}

@@ -1,11 +1,11 @@
 -- What the three functions of the cycle keep and promise: the loop of flushes, one flush, and insert into a page.
-use Prim.Native.Nat.{ℕ, zero, suc, pred, _+_, _-_, _*_, _≤_, _<_}
+use Prim.Native.Nat.{ℕ, suc, _+_, _-_, _*_, _≤_, _<_}
 use native.Mathlib.Nat.{add-mul, one-mul}
 use native.Mathlib.Omega.{arith}
-use mathlib.Core.Bool.{Bool, true, false}
-use mathlib.Core.List.{List, [], _∷_, _++_}
-use mathlib.Core.Path.{_≡_, refl, sym, _∙_, ap, ap₂}
-use lib.ListN.{length, take, drop, replicate, length-replicate, length-drop, length-take}
+use mathlib.Core.Bool.{true, false}
+use mathlib.Core.List.{List, _++_}
+use mathlib.Core.Path.{_≡_, refl, _∙_}
+use lib.ListN.{length, take, drop}
 use lib.Seq.{drop-drop}
 use Rattle.store.specs.declared.PageId.{PageId}
 use Rattle.store.specs.declared.Extent.{Extent}
@@ -29,10 +29,10 @@ use Rattle.node.specs.Frames.{node-framed, node-kept, lent, given-back, span-se
 use Rattle.htree.specs.declared.place.Inserted.{Inserted}
 use Rattle.htree.specs.declared.place.Inserted.the-variants as inserted
 use Rattle.htree.specs.declared.insert.Loaded.the-variants as loaded
-use Rattle.htree.specs.Wrote.{Wrote, wrote-length}
+use Rattle.htree.specs.Wrote.{wrote-length}
 use Rattle.htree.specs.Told.{Ready, Told, Tells, Went, Stopped, went, stopped, tell-went, tell-stopped}
 use Rattle.htree.specs.Split.{blanks, blanks-length, ready-after}
-use Rattle.htree.specs.Load.{batchAt, Loads, loads-node, loads-bad}
+use Rattle.htree.specs.Load.{batchAt, Loads, loads-node}
 use Rattle.htree.specs.Flush.{below, flush-stops, flush-goes, comes-back, no-bigger, Draining, draining-start, drained, drained-count, draining-on, draining-stop, all-small, all-sent, all-none, is-not-over, node-children, insert-damaged, insert-leaf, inner-stops, on-count, inner-goes, inner-fails}
 
 -- an area and what is behind it

@@ -1,13 +1,11 @@
 -- Flush, insert into a page, and the loop between them, in the rules' words.
-use Prim.Native.Nat.{ℕ, zero, suc, pred, _+_, _-_, _*_, _≤_, _<_}
-use native.Mathlib.Nat.{sub-zero}
+use Prim.Native.Nat.{ℕ, zero, suc, _+_, _-_, _*_, _≤_, _<_}
 use native.Mathlib.Decide.{decLe}
 use native.Mathlib.Omega.{arith}
 use mathlib.Core.Bool.{Bool, true, false, _&&_}
-use mathlib.Core.List.{List, [], _∷_, _++_, append-assoc, append-nil}
+use mathlib.Core.List.{List, [], _++_, append-assoc, append-nil}
 use mathlib.Core.Path.{_≡_, refl, sym, _∙_, ap, ap₂}
 use borrow.Author.Tests.{lt-ltb, le-ltb}
-use lib.Dec.{ltb}
 use lib.ListN.{length, take, drop, getD, length-append}
 use Rattle.store.specs.declared.PageId.{PageId}
 use Rattle.store.specs.declared.Extent.{Extent}
@@ -27,13 +25,12 @@ use Rattle.rules.specs.Tree.{Env, Stage, stop, go, then, fetchAt, isOver, settl
 use Rattle.rules.specs.Store.{envOf}
 use Rattle.rules.specs.Reads.{env-capped}
 use Rattle.rules.specs.Sizes.{Capped, Few, flush-no-bigger, insert-gives-few}
-use Rattle.memory_store.specs.FetchLaws.{InOrder, in-order}
+use Rattle.memory_store.specs.FetchLaws.{InOrder}
 use Rattle.node.specs.declared.Span.{Span}
 use Rattle.node.specs.Area.{childrenOf, childAt}
 use Rattle.node.specs.Spans.{Spans}
-use Rattle.htree.specs.declared.place.Inserted.the-variants as inserted
 use Rattle.htree.specs.Wrote.{Wrote, wrote-none, wrote-more, wrote-env}
-use Rattle.htree.specs.Told.{Ready, Told, Tells, Went, Stopped, went, stopped, tell-went, tell-stopped}
+use Rattle.htree.specs.Told.{Ready, Went, Stopped}
 use Rattle.htree.specs.declared.insert.Loaded.the-variants as loaded
 use Rattle.htree.specs.Load.{batchAt, Loads, loads-node, loads-bad}
 

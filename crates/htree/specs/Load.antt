@@ -1,25 +1,23 @@
 -- What loading a page with a batch leaves for the insert into it.
-use Prim.Native.Nat.{ℕ, zero, suc, _+_, _*_, _≤_, _<_}
+use Prim.Native.Nat.{ℕ, _+_, _*_, _≤_, _<_}
 use native.Mathlib.Omega.{arith}
-use mathlib.Core.Bool.{Bool, true, false}
-use mathlib.Core.List.{List, []}
-use mathlib.Core.Path.{_≡_, refl, sym, _∙_, ap}
+use mathlib.Core.Bool.{true, false}
+use mathlib.Core.List.{List}
+use mathlib.Core.Path.{_≡_, refl, sym}
 use borrow.Author.Tests.{eq-eqb, ne-eqb}
-use lib.Dec.{eqb}
 use lib.ListN.{length, drop}
 use Rattle.store.specs.declared.PageId.{PageId}
 use Rattle.store.specs.declared.Extent.{Extent}
 use Rattle.store.specs.Size.{capacity}
-use Rattle.store.specs.Laws.{apart, cells-length}
+use Rattle.store.specs.Laws.{cells-length}
 use Rattle.datom.specs.declared.Datom.{Datom}
 use Rattle.datom.specs.Datom.{datomOf, datomsOf}
 use Rattle.index.specs.Order.{cmpEavt, eavt}
 use Rattle.answer.specs.declared.Fault.{Fault}
-use Rattle.answer.specs.declared.Fault.the-variants.{WrongLevel}
 use Rattle.answer.specs.declared.Refusal.the-variants.{Damaged}
 use Rattle.rules.specs.Page.{Node, nodeOf}
 use Rattle.rules.specs.Node.{meets, mergeNode}
-use Rattle.rules.specs.Tree.{Fetched, faulty, fine, Env, Stage, stop, go, then, atLevel, fetchAt, settle, insertMerged}
+use Rattle.rules.specs.Tree.{fine, Env, Stage, stop, then, atLevel, fetchAt, settle, insertMerged}
 use Rattle.rules.specs.Store.{pageAt, fetchPage, envOf}
 use Rattle.rules.specs.Reads.{Readable, fetch-tells, read-count}
 use Rattle.memory_store.specs.Reading.{told}

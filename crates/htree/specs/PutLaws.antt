@@ -1,17 +1,16 @@
 -- One page written, or the refusal to write it.
 use Prim.Native.Nat.{ℕ, suc, _+_, _-_, _*_, _/_, _^_, _≤_, _<_}
-use native.Mathlib.Nat.{add-mul, le-div-iff-mul-le}
+use native.Mathlib.Nat.{le-div-iff-mul-le}
 use native.Mathlib.Omega.{arith}
 use mathlib.Core.List.{List, [], _∷_, _++_, append-assoc, append-nil}
-use mathlib.Core.Path.{_≡_, refl, sym, _∙_, ap}
+use mathlib.Core.Path.{_≡_, refl, ap}
 use borrow.Author.Tests.{le-leb, lt-leb, lt-ltb, le-ltb}
 use lib.ListN.{length, take, drop, length-append, length-drop, drop-of-length-le}
 use lib.Seq.{take-add, take-all, drop-drop, length-take-le}
 use Rattle.store.specs.declared.PageId.{PageId}
 use Rattle.store.specs.declared.Extent.{Extent}
-use Rattle.store.specs.Words.{spread, pad, patch}
+use Rattle.store.specs.Words.{spread, patch}
 use Rattle.store.specs.Page.{page, pageOf, pageBytes}
-use Rattle.store.specs.Size.{capacity}
 use Rattle.store.specs.Laws.{pad-length, spread-length, page-length, cells-length}
 use Rattle.datom.specs.Datom.{datomsBytes, datomOf}
 use Rattle.index.specs.Order.{eavt}
@@ -22,7 +21,7 @@ use Rattle.rules.specs.Store.{envOf}
 use Rattle.rules.specs.Round.{datoms-length}
 use Rattle.memory_store.specs.Layout.{partOf}
 use Rattle.htree.specs.declared.place.Put.the-variants.{Placed, Failed}
-use Rattle.htree.specs.Wrote.{Wrote, wrote-one}
+use Rattle.htree.specs.Wrote.{Wrote}
 use Rattle.htree.specs.Told.{PutTold, put-placed, put-failed}
 
 -- a store into the part from `base` on

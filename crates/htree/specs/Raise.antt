@@ -19,11 +19,11 @@ use Rattle.rules.specs.Sizes.{level-is}
 use Rattle.htree.specs.declared.place.Inserted.the-variants as inserted
 use Rattle.htree.specs.declared.root.Rooted.{Rooted}
 use Rattle.htree.specs.declared.root.Rooted.the-variants as rooted
-use Rattle.htree.specs.Wrote.{Wrote, wrote-env}
+use Rattle.htree.specs.Wrote.{wrote-env}
 use Rattle.htree.specs.Told.{Ready, Tells, Went, Stopped, went, stopped}
 use Rattle.htree.specs.Split.{blanks, blanks-length, ready-after}
 use Rattle.htree.specs.Flush.{node-count, flush-all-level}
-use Rattle.htree.specs.Root.{RootTold, Roots, tell-no-root, root-after, split-gives}
+use Rattle.htree.specs.Root.{Roots, tell-no-root, root-after, split-gives}
 
 -- what comes back stands one level higher
 settle-level : (e : Env) (n : Node) (o : List Node) (k : Node) (o₁ : List Node) → settle e n o ≡ go k o₁ → k .level ≡ suc (n .level)

@@ -2,7 +2,7 @@
 use Prim.Native.Nat.{ℕ, zero, suc, _+_, _-_, _*_, _≤_, _<_}
 use native.Mathlib.Nat.{add-zero}
 use native.Mathlib.Omega.{arith}
-use mathlib.Core.Bool.{Bool, true, false}
+use mathlib.Core.Bool.{true, false}
 use mathlib.Core.List.{List, [], _∷_, _++_, append-assoc, append-nil}
 use mathlib.Core.Path.{_≡_, refl, sym, _∙_, ap, ap₂}
 use lib.ListN.{length, take, drop, length-append}
@@ -26,7 +26,7 @@ use Rattle.htree.specs.declared.place.Inserted.the-variants as inserted
 use Rattle.htree.specs.declared.root.Rooted.{Rooted}
 use Rattle.htree.specs.declared.root.Rooted.the-variants as rooted
 use Rattle.htree.specs.Wrote.{Wrote, wrote-none, wrote-more, wrote-length, wrote-env}
-use Rattle.htree.specs.Told.{Ready, PutTold, put-is, put-is-not, Told, Tells, Went, Stopped, went, stopped}
+use Rattle.htree.specs.Told.{Ready, PutTold, put-is, put-is-not, Tells, Went, Stopped, went, stopped}
 use Rattle.htree.specs.Split.{blanks, blanks-length, ready-after}
 use Rattle.htree.specs.Flush.{node-count, node-level, node-children, is-over, is-not-over}
 

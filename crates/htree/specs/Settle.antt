@@ -1,11 +1,11 @@
 -- What insert does with a node once nothing more is flushed: it is split, or becomes one page.
-use Prim.Native.Nat.{ℕ, zero, suc, _+_, _*_, _≤_, _<_}
-use native.Mathlib.Nat.{mul-zero, add-zero, le-mul-of-pos-right}
+use Prim.Native.Nat.{ℕ, suc, _+_, _*_, _≤_, _<_}
+use native.Mathlib.Nat.{le-mul-of-pos-right}
 use native.Mathlib.Omega.{arith}
-use mathlib.Core.List.{List, [], _∷_, _++_, append-nil}
-use mathlib.Core.Path.{_≡_, refl, sym, _∙_, ap}
+use mathlib.Core.List.{List, [], _∷_, append-nil}
+use mathlib.Core.Path.{_≡_, _∙_}
 use borrow.Author.Tests.{lt-ltb, le-ltb}
-use lib.ListN.{length, take, drop}
+use lib.ListN.{length, drop}
 use lib.Seq.{take-all}
 use Rattle.store.specs.declared.PageId.{PageId}
 use Rattle.store.specs.declared.Extent.{Extent}
@@ -17,13 +17,13 @@ use Rattle.datom.specs.Datom.{datomOf}
 use Rattle.index.specs.Order.{eavt}
 use Rattle.answer.specs.declared.Refusal.{Refusal}
 use Rattle.rules.specs.Page.{Node, nodeOf}
-use Rattle.rules.specs.Tree.{Env, Stage, stop, go, then, put, split, isOver, settle}
+use Rattle.rules.specs.Tree.{Env, go, then, put, split, isOver, settle}
 use Rattle.rules.specs.Store.{envOf}
 use Rattle.memory_store.specs.Layout.{partOf}
 use Rattle.memory_store.specs.FetchLaws.{InOrder, in-order}
 use Rattle.node.specs.Parts.{splitting-start, splitting-end}
 use Rattle.htree.specs.declared.place.Put.the-variants as put
-use Rattle.htree.specs.Told.{Ready, PutTold, Puts, put-is, put-is-not, Told, Tells, Went, Stopped}
+use Rattle.htree.specs.Told.{Ready, PutTold, put-is, put-is-not, Went, Stopped}
 use Rattle.htree.specs.Wrote.{Wrote, wrote-none}
 
 -- all of a node is a part of it

@@ -1,10 +1,10 @@
 -- A split in place: what stands in the store and in the area when p parts are written, and what is left to do.
-use Prim.Native.Nat.{ℕ, zero, suc, pred, _+_, _-_, _*_, _/_, _%_, _^_, _≤_, _<_}
+use Prim.Native.Nat.{ℕ, zero, suc, pred, _+_, _-_, _*_, _/_, _%_, _≤_, _<_}
 use native.Mathlib.Nat.{sub-zero, zero-add, zero-mul, add-assoc, div-add-mod, mod-lt, le-mul-of-pos-right}
 use native.Mathlib.Numerals.{add-one}
 use native.Mathlib.Omega.{arith}
 use mathlib.Core.List.{List, [], _∷_, _++_, append-assoc, append-nil}
-use mathlib.Core.Path.{_≡_, refl, sym, _∙_, ap, ap₂}
+use mathlib.Core.Path.{_≡_, refl, sym, _∙_, ap}
 use lib.ListN.{length, take, drop, replicate, length-append, length-take, length-replicate}
 use Rattle.store.specs.declared.PageId.{PageId}
 use Rattle.store.specs.declared.Extent.{Extent}
@@ -14,7 +14,7 @@ use Rattle.store.specs.Size.{capacity}
 use Rattle.store.specs.Laws.{Known, page-length}
 use Rattle.store.specs.Cells.{patch-length}
 use Rattle.datom.specs.declared.Datom.{Datom}
-use Rattle.datom.specs.Datom.{datomAt, datomOf, datomsOf}
+use Rattle.datom.specs.Datom.{datomAt, datomsOf}
 use Rattle.index.specs.Order.{eavt}
 use Rattle.answer.specs.declared.Refusal.{Refusal}
 use Rattle.rules.specs.Page.{Node, nodeOf}
@@ -28,8 +28,6 @@ use Rattle.node.specs.Area.{childrenOf, partOf}
 use Rattle.node.specs.Parts.{Splitting, part-is, parts-step, between-step, splitting-on, splitting-end, splitting-start, parts-start, between-start, share-some, share-left, share-inner, share-next}
 use Rattle.htree.specs.declared.place.Put.{Put}
 use Rattle.htree.specs.declared.place.Put.the-variants as put
-use Rattle.htree.specs.declared.place.Inserted.{Inserted}
-use Rattle.htree.specs.declared.place.Inserted.the-variants as inserted
 use Rattle.htree.specs.Wrote.{Wrote, wrote-none, wrote-more, wrote-length, wrote-bad, wrote-env}
 use Rattle.htree.specs.Told.{Ready, PutTold, Puts, put-is, put-is-not, Went, Stopped}
 

@@ -1,14 +1,13 @@
 -- Pages written past the count: what they leave of the store, one after another, and that a call still reads what it read.
-use Prim.Native.Nat.{ℕ, zero, suc, _+_, _-_, _*_, _/_, _≤_, _<_}
+use Prim.Native.Nat.{ℕ, _+_, _*_, _≤_, _<_}
 use native.Mathlib.Nat.{add-mul, add-zero, add-assoc, mul-le-mul-right, one-mul, zero-mul}
 use native.Mathlib.Omega.{arith}
-use mathlib.Core.Bool.{Bool, true, false, _||_, cond}
+use mathlib.Core.Bool.{Bool, true, false}
 use mathlib.Core.List.{List, [], _∷_, _++_, append-assoc, append-nil}
 use mathlib.Core.Path.{_≡_, refl, sym, _∙_, ap, ap₂, fun-ext}
 use borrow.Author.Tests.{ltb-true}
-use lib.Dec.{ltb, eqb}
-use lib.ListN.{length, take, drop, length-append, length-take, length-drop, take-append-drop}
-use lib.Seq.{take-at, drop-at, drop-drop, take-take, length-take-le, drop-append-le}
+use lib.Dec.{ltb}
+use lib.ListN.{length, length-append}
 use Rattle.store.specs.declared.PageId.{PageId}
 use Rattle.store.specs.declared.Extent.{Extent}
 use Rattle.store.specs.Words.{spread, patch}

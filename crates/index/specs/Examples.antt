@@ -1,5 +1,5 @@
 -- The order of values, by example: what document 01 expects people to get wrong.
-use Prim.Native.Nat.{ℕ, compare, Ordering, Ordering·lt, Ordering·gt}
+use Prim.Native.Nat.{ℕ, Ordering, Ordering·lt, Ordering·gt}
 use mathlib.Core.Path.{_≡_, refl}
 use Rattle.store.specs.Words as Words
 use Rattle.datom.specs.Value as Value

@@ -1,5 +1,5 @@
 -- The keys of values are in the values' order.
-use Prim.Native.Nat.{ℕ, zero, suc, _+_, _*_, _/_, _%_, _^_, _<_, _≤_, compare, Ordering·lt, Ordering·gt, compare·suc-suc}
+use Prim.Native.Nat.{ℕ, zero, suc, _+_, _*_, _/_, _%_, _^_, _<_, _≤_, compare, compare·suc-suc}
 use native.Mathlib.Nat.{mul-le-mul-right, pow-zero, pow-suc, div-div-eq-div-mul}
 use native.Mathlib.Omega.{arith}
 use mathlib.Core.Bool.{Bool, true, false}

@@ -1,11 +1,9 @@
 -- The smallest datom of the rules is the one that the code keeps, and taking it gives the cursor that the code writes.
-use Prim.Native.Nat.{ℕ, zero, suc, _+_, _<_, _≤_, Ordering, Ordering·lt, Ordering·eq, Ordering·gt}
-use native.Mathlib.Decide.{decLe}
-use native.Mathlib.Numerals.{add-one}
+use Prim.Native.Nat.{ℕ, zero, suc, _<_, Ordering, Ordering·lt, Ordering·eq, Ordering·gt}
 use native.Mathlib.Omega.{arith}
-use mathlib.Core.Bool.{Bool, true, false}
+use mathlib.Core.Bool.{true, false}
 use mathlib.Core.List.{List, [], _∷_, map}
-use mathlib.Core.Path.{_≡_, refl, sym, ap, _∙_}
+use mathlib.Core.Path.{_≡_, refl, ap, _∙_}
 use borrow.Author.Tests.{eq-eqb, ne-eqb, le-leb}
 use lib.Dec.{eqb}
 use lib.ListN.{length, drop, getD}
@@ -15,9 +13,9 @@ use Rattle.store.specs.Laws.{apart}
 use Rattle.datom.specs.declared.Datom.{Datom}
 use Rattle.index.specs.Order.{cmpEavt}
 use Rattle.rules.specs.Page.{Node}
-use Rattle.rules.specs.Tree.{Fetched, faulty, fine, atLevel}
+use Rattle.rules.specs.Tree.{Fetched, atLevel}
 use Rattle.rules.specs.Listing as rules
-use Rattle.rules.specs.Listing.{Frame, framesFrom, frameOf, opened, openOne, openFrames, Path, lostAt, path, longer, after, Least, noneLeft, least, twice, keeping, taking, choose, leastOf}
+use Rattle.rules.specs.Listing.{Frame, framesFrom, frameOf, opened, openOne, openFrames, Path, path, longer, after, Least, noneLeft, least, twice, keeping, taking, choose, leastOf}
 use Rattle.listing.specs.declared.candidate.Candidate.{Candidate}
 use Rattle.listing.specs.declared.candidate.Candidate.the-variants.{Nothing, At, Twice}
 use Rattle.listing.specs.declared.opening.Opening.the-variants.{Open}

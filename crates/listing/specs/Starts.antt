@@ -1,7 +1,6 @@
 -- The ways a start can end.
 use Prim.Native.Nat.{ℕ, suc, _+_, _≤_}
 use native.Mathlib.Numerals.{add-one}
-use native.Mathlib.Omega.{arith}
 use mathlib.Core.List.{List, []}
 use mathlib.Core.Path.{_≡_, refl, sym, ap, _∙_}
 use lib.ListN.{length}
@@ -11,14 +10,13 @@ use Rattle.answer.specs.declared.Refusal.the-variants.{Damaged}
 use Rattle.answer.specs.declared.Cursor.{Cursor}
 use Rattle.answer.specs.declared.Start.the-variants as start
 use Rattle.answer.specs.declared.Started.{Started}
-use Rattle.rules.specs.Listing.{Frame, Path, lostAt, path, cursorOf, framesFrom, eight, refuseStart, joinPaths}
+use Rattle.rules.specs.Listing.{Frame, Path, lostAt, path, cursorOf, eight, refuseStart, joinPaths}
 use Rattle.listing.specs.declared.way.Way.{Way}
-use Rattle.listing.specs.declared.descent.End.{End}
 use Rattle.listing.specs.declared.descent.End.the-variants.{Bottom, Lost}
 use Rattle.listing.specs.declared.descent.Descent.{Descent}
 use Rattle.listing.specs.Way.{framesOf, wayOf}
 use Rattle.listing.specs.WayLaws.{Full, frames-count}
-use Rattle.listing.specs.Descent.{fill, descentOf}
+use Rattle.listing.specs.Descent.{descentOf}
 use Rattle.listing.specs.Fill.{filled}
 
 -- a way that was lost, and one that came down

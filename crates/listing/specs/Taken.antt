@@ -5,9 +5,9 @@ use native.Mathlib.Nat.{le-refl}
 use native.Mathlib.Numerals.{add-one}
 use native.Mathlib.Omega.{arith}
 use mathlib.Core.Bool.{Bool, true, false}
-use mathlib.Core.List.{List, [], _∷_, map}
+use mathlib.Core.List.{List, _∷_, map}
 use mathlib.Core.Path.{_≡_, refl, sym, ap, _∙_}
-use lib.ListN.{length, drop, getD, set, length-set}
+use lib.ListN.{length, getD, set, length-set}
 use lib.Seq.{getD-set-same, getD-set-other}
 use Rattle.store.specs.declared.PageId.{PageId}
 use Rattle.store.specs.declared.Extent.{Extent}
@@ -20,9 +20,9 @@ use Rattle.answer.specs.declared.Refusal.the-variants.{Damaged}
 use Rattle.answer.specs.declared.Cursor.{Cursor}
 use Rattle.answer.specs.declared.Stepped.{Stepped}
 use Rattle.rules.specs.Node.{isMidpoint}
-use Rattle.rules.specs.Tree.{Fetched, atLevel}
+use Rattle.rules.specs.Tree.{Fetched}
 use Rattle.rules.specs.Store.{fetchPage}
-use Rattle.rules.specs.Listing.{Frame, framesFrom, frameOf, beginFrames, Opens, notOpen, opened, openFrames, Path, lostAt, path, longer, pathBy, never, after, least, moved, onward, leastOf, refuseStep}
+use Rattle.rules.specs.Listing.{Frame, framesFrom, frameOf, beginFrames, Opens, notOpen, opened, openFrames, Path, lostAt, path, never, after, least, moved, onward, refuseStep}
 use Rattle.listing.specs.declared.way.Way.{Way}
 use Rattle.listing.specs.declared.descent.Descent.{Descent}
 use Rattle.listing.specs.declared.descent.End.the-variants.{Bottom, Lost}
@@ -31,14 +31,14 @@ use Rattle.listing.specs.declared.candidate.Candidate.{Candidate}
 use Rattle.listing.specs.declared.candidate.Candidate.the-variants.{Nothing, At, Twice}
 use Rattle.listing.specs.Way.{framesOf}
 use Rattle.listing.specs.WayLaws.{Full}
-use Rattle.listing.specs.Descent.{childFrom, fill, descentOf, downOf}
+use Rattle.listing.specs.Descent.{childFrom, descentOf, downOf}
 use Rattle.listing.specs.Fill.{fill-index, fill-page, filled, down-long}
 use Rattle.listing.specs.Opening.{openingOf, openBelow, OpenAt}
 use Rattle.listing.specs.Candidate.{nodeIn, picked}
 use Rattle.listing.specs.CandidateLaws.{fine-in}
 use Rattle.listing.specs.Advance.{Within, beginOf, stays, taken, advanced, yieldOf}
 use Rattle.listing.specs.AdvanceLaws.{childrenAt, adv-bottom, pending-at, midpoint-at, yield-lost, yield-bottom}
-use Rattle.listing.specs.Least.{openAt, opensOf, all-opened, frames-of, opens-count, takenFrom, taken-here, taken-above, frameAt, leastAs, least-is, picked-under}
+use Rattle.listing.specs.Least.{openAt, opensOf, all-opened, frames-of, opens-count, takenFrom, taken-here, taken-above, leastAs, least-is, picked-under}
 
 -- what an advance gives beside what the rules give for the levels below m; from m on only the index of m has changed
 pub data Outcome (w : Way) (m : ℕ) (a : Descent) (o : Path) : Type 0 where

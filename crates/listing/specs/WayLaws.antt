@@ -7,7 +7,7 @@ use mathlib.Core.List.{List, [], _∷_, _++_, map, reverse, reverseAux, append-a
 use mathlib.Core.Path.{_≡_, refl, sym, ap, _∙_}
 use borrow.Author.Tests.{eq-eqb, ne-eqb}
 use lib.Dec.{eqb}
-use lib.ListN.{length, take, getD, set, replicate, length-reverse}
+use lib.ListN.{length, take, getD, set, replicate}
 use lib.Seq.{take-all, take-suc, take-suc-set, length-take-le}
 use Rattle.store.specs.declared.PageId.{PageId}
 use Rattle.store.specs.Page.{page}

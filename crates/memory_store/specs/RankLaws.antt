@@ -14,7 +14,7 @@ use Rattle.index.specs.Order.{isLess, cmpEavt}
 use Rattle.index.specs.Laws.{Preorder, eavt-preorder}
 use Rattle.rules.specs.Page.{rising}
 use Rattle.rules.specs.Node.{rankBy, below, rank}
-use Rattle.rules.specs.Lists.{In, in-getD, Rising, less, rising-in}
+use Rattle.rules.specs.Lists.{in-getD, Rising, less, rising-in}
 
 module _ (p : Datom → Bool) where
   pub rank-most : (xs : List Datom) → rankBy p xs ≤ length xs

@@ -6,8 +6,7 @@ use mathlib.Core.List.{List, [], _∷_, _++_, append-assoc}
 use mathlib.Core.Path.{_≡_, refl, sym, ap, _∙_}
 use lib.ListN.{length, take, drop, getD, length-append, length-replicate, replicate-append-replicate, length-drop}
 use lib.Seq.{drop-drop, take-at, drop-at, length-take-le, take-add, getD-drop}
-use Rattle.store.specs.declared.PageId.{PageId}
-use Rattle.store.specs.Words.{bytesOf, cells, spread, zeros, pad, patch}
+use Rattle.store.specs.Words.{cells, spread, zeros, pad, patch}
 use Rattle.store.specs.Page.{pageOf, pageBytes}
 use Rattle.store.specs.Laws.{bytes-little, pad-length, cells-length}
 use Rattle.store.specs.Cells.{cells-more}

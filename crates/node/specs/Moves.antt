@@ -6,8 +6,8 @@ use native.Mathlib.Numerals.{add-one}
 use native.Mathlib.Omega.{arith}
 use mathlib.Core.List.{List, _++_, append-assoc, append-nil}
 use mathlib.Core.Path.{_≡_, sym, ap, _∙_}
-use lib.ListN.{length, take, drop, length-drop, length-append, drop-of-length-le, take-append-drop}
-use lib.Seq.{length-take-le, take-length, take-add, take-take, take-at, drop-at, drop-drop}
+use lib.ListN.{length, take, drop, length-drop, take-append-drop}
+use lib.Seq.{length-take-le, take-add, take-at, drop-at, drop-drop}
 use Rattle.store.specs.Words.{cells, patch}
 use Rattle.store.specs.Laws.{cells-length}
 use Rattle.store.specs.Cells.{patch-length, patch-patch, patch-before, drop-patch-le, cut, cells-more, cells-front, cells-put}

@@ -1,7 +1,6 @@
 -- More cases that the rules compute: listings between bounds at new and old roots, the reader's rules one by one, the checks, and the
 -- four words. Each stands for a sentence of document 01 that no starred example shows.
 use Prim.Native.Nat.{ℕ}
-use mathlib.Core.Bool.{true, false}
 use mathlib.Core.List.{List, [], _∷_, _++_}
 use mathlib.Core.Path.{_≡_, refl}
 use lib.ListN.{replicate, set}
@@ -13,7 +12,6 @@ use Rattle.index.specs.Order.{eavt}
 use Rattle.answer.specs.declared.Rule.the-variants.{Level, Count, Form, Order, LeafChild, LastChild, ChildId}
 use Rattle.answer.specs.declared.Refusal.the-variants.{BadStore, NoPage, Damaged}
 use Rattle.answer.specs.declared.Answer.the-variants.{Refused}
-use Rattle.answer.specs.declared.Check.{Check}
 use Rattle.answer.specs.declared.Check.the-variants.{Sound, Unsound}
 use Rattle.rules.specs.Page.{Read, broken, good, readPage, encodePage}
 use Rattle.rules.specs.Insert.{insert, insertBytes}

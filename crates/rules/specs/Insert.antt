@@ -1,6 +1,6 @@
 -- Insert and initialise: the answer, with the pages written in order.
 use Prim.Native.Nat.{ℕ, suc, _/_, _%_, Ordering}
-use mathlib.Core.Bool.{Bool, true, false, _||_, not, cond}
+use mathlib.Core.Bool.{Bool, false, _||_, not, cond}
 use mathlib.Core.List.{List, [], _∷_}
 use lib.Dec.{ltb, eqb}
 use lib.ListN.{length, replicate}

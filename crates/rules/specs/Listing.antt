@@ -1,6 +1,6 @@
 -- "Listing": the start of a cursor, and a step. Frames stand from the root down; a cursor's eight places are written from them.
 use Prim.Native.Nat.{ℕ, zero, suc, _-_, Ordering, Ordering·lt, Ordering·eq, Ordering·gt}
-use mathlib.Core.Bool.{Bool, true, false, _&&_, _||_, not, cond}
+use mathlib.Core.Bool.{Bool, true, false, _&&_, not, cond}
 use mathlib.Core.List.{List, [], _∷_, _++_, map, reverse}
 use lib.Dec.{leb, ltb, eqb}
 use lib.ListN.{length, drop, getD, replicate}
@@ -21,7 +21,7 @@ use Rattle.answer.specs.declared.Step.the-variants as step
 use Rattle.rules.specs.Page.{Node}
 use Rattle.rules.specs.Node.{rankBy, below, isMidpoint, nextMidpoint}
 use Rattle.rules.specs.Tree.{Fetched, faulty, fine, atLevel}
-use Rattle.rules.specs.Lookup.{childOf, Finding}
+use Rattle.rules.specs.Lookup.{childOf}
 use Rattle.rules.specs.Store.{refuseIf, orElse, badStore, badRoot, fetchPage}
 
 -- one level of one end: an index and a page

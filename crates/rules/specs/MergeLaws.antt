@@ -1,12 +1,12 @@
 -- Merge is the increasing union: it has the datoms of both lists and no others, as many as both have, and rises where both rise and
 -- no two datoms met are equal.
-use Prim.Native.Nat.{ℕ, zero, suc, _+_, Ordering, Ordering·lt, Ordering·eq, Ordering·gt}
+use Prim.Native.Nat.{suc, _+_, Ordering, Ordering·lt, Ordering·eq, Ordering·gt}
 use native.Mathlib.Omega.{arith}
 use mathlib.Core.Bool.{Bool, true, false}
-use mathlib.Core.List.{List, [], _∷_, _++_}
+use mathlib.Core.List.{List, [], _∷_}
 use mathlib.Core.Logic.{_⊎_, inl, inr}
 use mathlib.Core.Path.{_≡_, refl}
-use lib.ListN.{length, drop, getD, length-append, length-replicate}
+use lib.ListN.{length, length-append, length-replicate}
 use Rattle.store.specs.declared.PageId.{PageId}
 use Rattle.store.specs.Laws.{apart}
 use Rattle.datom.specs.declared.Datom.{Datom}

@@ -1,6 +1,6 @@
 -- "Page and node": what a page's bytes say, when a page is readable, and the bytes that a node is written as.
 use Prim.Native.Nat.{ℕ, suc, _+_, _*_, Ordering}
-use mathlib.Core.Bool.{Bool, true, false, _&&_, _||_, not, cond}
+use mathlib.Core.Bool.{Bool, true, _&&_, _||_, not, cond}
 use mathlib.Core.List.{List, [], _∷_, _++_}
 use lib.Dec.{leb, ltb, eqb}
 use lib.ListN.{length, drop, getD}

@@ -1,7 +1,7 @@
 -- What a page that is read is known to be.
-use Prim.Native.Nat.{ℕ, zero, suc, _*_, _≤_, _<_}
+use Prim.Native.Nat.{ℕ, suc, _*_, _≤_, _<_}
 use native.Mathlib.Omega.{arith}
-use mathlib.Core.Bool.{Bool, true, false, not, cond}
+use mathlib.Core.Bool.{Bool, true, false, not}
 use mathlib.Core.List.{List}
 use mathlib.Core.Path.{_≡_, refl, sym, _∙_, ap}
 use borrow.Author.Tests.{leb-true, ltb-true}
@@ -9,7 +9,6 @@ use lib.Dec.{leb, ltb, eqb}
 use lib.ListN.{length, drop, getD}
 use Rattle.store.specs.declared.PageId.{PageId}
 use Rattle.store.specs.declared.Extent.{Extent}
-use Rattle.store.specs.Words.{cells}
 use Rattle.store.specs.Page.{none, isNone, pageOf}
 use Rattle.store.specs.Size.{capacity}
 use Rattle.store.specs.Laws.{apart, cells-length}
@@ -18,7 +17,7 @@ use Rattle.index.specs.Order.{DatomOrd}
 use Rattle.answer.specs.declared.Rule.{Rule}
 use Rattle.answer.specs.declared.Fault.the-variants.{Missing}
 use Rattle.rules.specs.Page.{Node, Read, broken, good, unless, nodeOf, levelOf, countOf, all, rising, older, childRules, nodeRules, readPage}
-use Rattle.rules.specs.Tree.{Fetched, faulty, fine, Env}
+use Rattle.rules.specs.Tree.{faulty, fine, Env}
 use Rattle.rules.specs.Store.{pageAt, readAs, fetchPage, envOf}
 use Rattle.rules.specs.Sizes.{Capped}
 

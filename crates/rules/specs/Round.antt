@@ -9,7 +9,7 @@ use lib.ListN.{length, drop, getD, length-append}
 use lib.Seq.{drop-at, getD-at}
 use Rattle.store.specs.declared.PageId.{PageId}
 use Rattle.store.specs.Words.{cells, spread, zeros, pad}
-use Rattle.store.specs.Page.{none, pageOf, pageBytes}
+use Rattle.store.specs.Page.{pageOf, pageBytes}
 use Rattle.store.specs.Laws.{pad-length, spread-length, cells-spread, page-length, page-back}
 use Rattle.datom.specs.declared.Datom.{Datom}
 use Rattle.datom.specs.Datom.{datomOf, datomBytes, datomsOf, datomsBytes, Words}

@@ -1,18 +1,17 @@
 -- How large nodes get: a flush makes no node bigger, what goes up from an insert is at most the batch, and the node at depth d has at
 -- most (d+1)C+128 datoms.
-use Prim.Native.Nat.{ℕ, zero, suc, pred, _+_, _-_, _*_, _≤_, _<_, zero-le, suc-le-suc}
+use Prim.Native.Nat.{ℕ, zero, suc, _+_, _-_, _≤_, _<_, zero-le}
 use native.Mathlib.Omega.{arith}
 use mathlib.Core.Bool.{Bool, true, false, _&&_, cond}
-use mathlib.Core.List.{List, [], _∷_, _++_}
+use mathlib.Core.List.{List, [], _∷_}
 use mathlib.Core.Path.{_≡_, refl, sym, _∙_, ap}
-use borrow.Author.Tests.{eqb-true, ltb-true, ltb-false, le-leb}
+use borrow.Author.Tests.{eqb-true, ltb-true, le-leb}
 use lib.Dec.{leb, ltb, eqb}
 use lib.ListN.{length, take, drop, getD, length-append, length-take, length-drop}
 use Rattle.store.specs.declared.PageId.{PageId}
 use Rattle.store.specs.Page.{none, isNone}
 use Rattle.store.specs.Laws.{apart}
 use Rattle.datom.specs.declared.Datom.{Datom}
-use Rattle.answer.specs.declared.Refusal.{Refusal}
 use Rattle.answer.specs.declared.Refusal.the-variants.{BadStore}
 use Rattle.rules.specs.Page.{Node}
 use Rattle.rules.specs.Node.{meets, mergeNode, Span, spanFrom, longestSpan, anyPending, splitParts, splitUp, splice}

@@ -1,5 +1,5 @@
 -- The lent store: its pages, what a call works in, and the bytes after it.
-use Prim.Native.Nat.{ℕ, _+_, _-_, _*_, _/_}
+use Prim.Native.Nat.{ℕ, _-_, _*_, _/_}
 use mathlib.Core.Bool.{Bool, _||_, not, cond}
 use mathlib.Core.List.{List, []}
 use lib.Dec.{ltb, eqb}

@@ -5,7 +5,7 @@ use native.Mathlib.Numerals.{add-one}
 use native.Mathlib.Omega.{arith}
 use mathlib.Core.List.{List, [], _∷_, _++_, append-assoc, append-nil}
 use mathlib.Core.Path.{_≡_, refl, sym, ap, _∙_}
-use lib.ListN.{length, take, drop, getD, length-take, length-drop, length-append, drop-of-length-le, take-append-drop}
+use lib.ListN.{length, take, drop, getD, length-drop, length-append, drop-of-length-le, take-append-drop}
 use lib.Seq.{drop-drop, drop-cons, take-at, drop-at, take-take, length-take-le, take-length, take-all, take-nil, drop-append-le, drop-append-add}
 use Rattle.store.specs.declared.PageId.{PageId}
 use Rattle.store.specs.Words.{little, cells, wordAt, wordOf, patch}

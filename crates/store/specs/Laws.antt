@@ -1,5 +1,5 @@
 -- Words and their bytes, both ways round; things laid out one after the other, and read back.
-use Prim.Native.Nat.{ℕ, zero, suc, _+_, _-_, _*_, _/_, _%_, _^_, _≤_, _<_, zero-le, suc-le-suc}
+use Prim.Native.Nat.{ℕ, zero, suc, _+_, _*_, _/_, _%_, _^_, _≤_, _<_, zero-le, suc-le-suc}
 use native.Mathlib.Nat.{mod-add-div, pow-suc, suc-add, mul-suc, mul-assoc, mul-comm, add-mul-mod-self-left}
 use native.Mathlib.Decide.{decLe}
 use native.Mathlib.Omega.{arith}

@@ -14,12 +14,13 @@ pub struct Pages {
     page_size: usize,
     words: Vec<u64>,
     last_read: Cell<u64>,
+    lost: Cell<u64>,
 }
 
 impl Pages {
     pub fn new(page_size: usize) -> Pages {
         assert_eq!(page_size % 8, 0, "a page is a whole number of words");
-        Pages { page_size, words: Vec::new(), last_read: Cell::new(NONE) }
+        Pages { page_size, words: Vec::new(), last_read: Cell::new(NONE), lost: Cell::new(NONE) }
     }
 
     pub fn page_size(&self) -> usize {
@@ -50,6 +51,7 @@ impl Pages {
     pub fn read(&self, page: u64) -> &[u8] {
         self.last_read.set(page);
         assert!(page != NONE, "Should never get() PageId::max().");
+        assert!(page != self.lost.get(), "Page {} is lost.", page);
         self.page(page).unwrap_or_else(|| panic!("The store has no page {}.", page))
     }
 
@@ -60,6 +62,11 @@ impl Pages {
 
     pub fn forget_last_read(&self) {
         self.last_read.set(NONE);
+    }
+
+    /// From here on it is a panic to read this page; none is lost with NONE.
+    pub fn lose(&self, page: u64) {
+        self.lost.set(page);
     }
 
     /// Appends one page or several, and returns the id of the first.

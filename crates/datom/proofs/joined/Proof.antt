@@ -1,8 +1,7 @@
 -- `joined` meets its contract: the bytes from the last one on, as a number. Assumes nothing.
-use borrow.Author.Needs.{needs}
-use Prim.Native.Nat.{_+_, _-_, _≤_}
+use Prim.Native.Nat.{_-_, _≤_}
 use native.Mathlib.Omega.{arith}
-use mathlib.Core.Path.{_≡_, sym, _∙_}
+use mathlib.Core.Path.{_≡_}
 use lib.ListN.{length, drop}
 use Rattle.store.specs.Words.{little}
 use Rattle.datom.specs.Bytes.{little-rest, little-none, little-step}

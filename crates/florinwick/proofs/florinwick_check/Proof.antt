@@ -1,6 +1,6 @@
 -- `florinwick_check` meets its contract on every input. Assumes nothing.
 use mathlib.Core.Path.{refl}
-use Rattle.florinwick.specs.Words.{Tells, Answered, not-answered, answered}
+use Rattle.florinwick.specs.Words.{not-answered, answered}
 use borrow.Author.Needs.{needs}
 use Rattle.florinwick.proofs.florinwick_check.Statement.{statement}
 use Rattle.florinwick.proofs.florinwick_check.Tie as tie

@@ -1,6 +1,6 @@
 -- `florinwick_fetch` meets its contract on every input. Assumes nothing.
 use mathlib.Core.Path.{refl}
-use Rattle.florinwick.specs.Words.{Tells, Answered, not-answered, answered}
+use Rattle.florinwick.specs.Words.{not-answered, answered}
 use borrow.Author.Needs.{needs}
 use Rattle.florinwick.proofs.florinwick_fetch.Statement.{statement}
 use Rattle.florinwick.proofs.florinwick_fetch.Tie as tie

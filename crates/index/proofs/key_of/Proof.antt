@@ -1,6 +1,6 @@
 -- `key_of` meets its contract: an integer, a byte string, or above both. Assumes nothing.
 use native.Mathlib.Omega.{arith}
-use mathlib.Core.Path.{_≡_, sym, _∙_}
+use mathlib.Core.Path.{sym, _∙_}
 use Rattle.datom.specs.Value.{strLen}
 use Rattle.index.specs.Key.{key}
 use Rattle.index.specs.Keys.{turned-below}

@@ -1,6 +1,5 @@
 -- `is_bad` meets its contract: dividing the length answers what the product asks. Assumes nothing.
 use lib.ListN.{length}
-use native.Mathlib.Nat.{le-div-iff-mul-le, div-lt-iff-lt-mul}
 use native.Mathlib.Omega.{arith}
 use mathlib.Core.Path.{_≡_, sym, _∙_}
 use borrow.Author.Tests.{eq-eqb, ne-eqb}

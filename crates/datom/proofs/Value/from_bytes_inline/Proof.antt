@@ -1,6 +1,5 @@
 -- `Value::from_bytes_inline` meets its contract, by the length. Assumes nothing.
 use native.Mathlib.Omega.{arith}
-use lib.ListN.{length}
 use Rattle.datom.specs.Bytes.{little-below, too-long, is-short}
 use borrow.Author.Needs.{needs}
 use Rattle.datom.proofs.Value.from_bytes_inline.Statement.{statement}

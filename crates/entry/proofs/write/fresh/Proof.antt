@@ -2,7 +2,7 @@
 use mathlib.Core.Path.{refl, _∙_, ap}
 use native.Mathlib.Omega.{arith}
 use Rattle.datom.specs.Datom.{datomsOf}
-use Rattle.entry.specs.Checks.{Roomy, Passed}
+use Rattle.entry.specs.Checks.{Passed}
 use Rattle.entry.specs.Scratch.{roomy-area, roomy-small}
 use Rattle.entry.specs.Leaf.{batch-put}
 use borrow.Author.Needs.{needs}

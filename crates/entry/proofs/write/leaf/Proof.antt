@@ -1,7 +1,7 @@
 -- `leaf` meets its contract: the area holds a leaf, and its top is the root. Assumes nothing.
 use native.Mathlib.Omega.{arith}
 use Rattle.entry.specs.Scratch.{roomy-few, roomy-ready, roomy-small, roomy-area}
-use Rattle.entry.specs.Leaf.{Cleared, fresh-front, cleared-leaf}
+use Rattle.entry.specs.Leaf.{fresh-front, cleared-leaf}
 use borrow.Author.Needs.{needs}
 use Rattle.entry.proofs.write.leaf.Statement.{statement}
 use Rattle.entry.proofs.write.leaf.Tie as tie

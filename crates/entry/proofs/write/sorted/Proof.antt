@@ -5,7 +5,7 @@ use Rattle.datom.specs.Datom.{datomsOf}
 use Rattle.index.specs.Order.{cmpEavt}
 use Rattle.rules.specs.Insert.{sort}
 use Rattle.batch.specs.Sorting.{Sorted}
-use Rattle.entry.specs.Checks.{Roomy, Passed}
+use Rattle.entry.specs.Checks.{Passed}
 use Rattle.entry.specs.Scratch.{roomy-area, roomy-small}
 use Rattle.entry.specs.Leaf.{batch-put}
 use borrow.Author.Needs.{needs}

@@ -6,9 +6,8 @@ use Rattle.store.specs.Laws.{Known}
 use Rattle.datom.specs.Datom.{datomsOf}
 use Rattle.memory_store.specs.Reading.{told}
 use Rattle.memory_store.specs.FetchLaws.{InOrder}
-use Rattle.htree.specs.Told.{Ready}
 use Rattle.htree.specs.Raise.{raise-stops, raise-ready, raise-few, raise-goes}
-use Rattle.entry.specs.Checks.{Roomy, Passed}
+use Rattle.entry.specs.Checks.{Passed}
 use Rattle.entry.specs.Scratch.{roomy-known, roomy-few, roomy-ready, roomy-small, roomy-area, roomy-node, roomy-areas}
 use Rattle.entry.specs.Leaf.{batch-put}
 use Rattle.entry.specs.Under.{under-bad, under-low, under-fine}

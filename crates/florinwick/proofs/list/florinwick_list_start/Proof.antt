@@ -1,5 +1,5 @@
 -- `florinwick_list_start` meets its contract on every input. Assumes nothing.
-use Rattle.florinwick.specs.Listing.{Begins, start-unanswered, start-unkept, start-kept}
+use Rattle.florinwick.specs.Listing.{start-unanswered, start-unkept, start-kept}
 use borrow.Author.Needs.{needs}
 use Rattle.florinwick.proofs.list.florinwick_list_start.Statement.{statement}
 use Rattle.florinwick.proofs.list.florinwick_list_start.Tie as tie

@@ -1,6 +1,5 @@
 -- `florinwick_list_step` meets its contract on every input. Assumes nothing.
-use mathlib.Core.Path.{_∙_, ap}
-use Rattle.florinwick.specs.Listing.{Steps, step-unanswered, step-no-cursor, step-no-datom, step-kept}
+use Rattle.florinwick.specs.Listing.{step-unanswered, step-no-cursor, step-no-datom, step-kept}
 use borrow.Author.Needs.{needs}
 use Rattle.florinwick.proofs.list.florinwick_list_step.Statement.{statement}
 use Rattle.florinwick.proofs.list.florinwick_list_step.Tie as tie

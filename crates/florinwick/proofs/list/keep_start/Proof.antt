@@ -1,6 +1,5 @@
 -- `keep_start` meets its contract. Assumes nothing.
 use mathlib.Core.Path.{refl}
-use Rattle.florinwick.specs.Words.{Tells}
 use Rattle.florinwick.specs.Listing.{cursorStarted}
 use borrow.Author.Needs.{needs}
 use Rattle.florinwick.proofs.list.keep_start.Statement.{statement}

@@ -1,6 +1,5 @@
 -- `keep_step` meets its contract. Assumes nothing.
 use mathlib.Core.Path.{refl}
-use Rattle.florinwick.specs.Words.{Tells}
 use Rattle.florinwick.specs.Listing.{cursorStepped, datomStepped, datom-told}
 use borrow.Author.Needs.{needs}
 use Rattle.florinwick.proofs.list.keep_step.Statement.{statement}

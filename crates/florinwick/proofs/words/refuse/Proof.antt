@@ -1,5 +1,4 @@
 -- `refuse` meets its contract: the words of document 01's table. Assumes nothing.
-use Rattle.florinwick.specs.Words.{Tells}
 use borrow.Author.Needs.{needs}
 use Rattle.florinwick.proofs.words.refuse.Statement.{statement}
 use Rattle.florinwick.proofs.words.refuse.Tie as tie

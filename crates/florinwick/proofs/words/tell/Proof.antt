@@ -1,7 +1,5 @@
 -- `tell` meets its contract: the words of document 01's table. Assumes nothing.
 use mathlib.Core.Path.{refl}
-use Rattle.answer.specs.declared.Answer.{Answer}
-use Rattle.florinwick.specs.Words.{Tells}
 use borrow.Author.Needs.{needs}
 use Rattle.florinwick.proofs.words.tell.Statement.{statement}
 use Rattle.florinwick.proofs.words.tell.Tie as tie

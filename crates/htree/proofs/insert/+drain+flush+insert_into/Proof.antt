@@ -1,15 +1,14 @@
 -- `insert_into`, `drain` and `flush` meet their contracts: the level falls at each round of the cycle. Assumes nothing.
-use Prim.Native.Nat.{_+_, _*_, _-_, _≤_}
+use Prim.Native.Nat.{_+_, _*_, _-_}
 use native.Mathlib.Nat.{add-mul, one-mul}
 use native.Mathlib.Omega.{arith}
-use mathlib.Core.Path.{_≡_, refl, sym, _∙_, ap}
+use mathlib.Core.Path.{sym, _∙_}
 use borrow.Author.Tests.{not-true, not-false}
 use borrow.Author.Needs.{needs}
-use lib.ListN.{length, take, drop, length-take, length-drop, length-append}
+use lib.ListN.{length, length-take, length-drop}
 use Rattle.node.specs.Spans.{Spans}
 use Rattle.node.specs.Splice.{Spliced}
-use Rattle.htree.specs.Told.{Ready, went, stopped, tell-went, tell-stopped}
-use Rattle.htree.specs.Load.{Loads}
+use Rattle.htree.specs.Told.{Ready}
 use Rattle.htree.specs.Cycle.{Drains, area-fits, areas-fit, lower, drains-start, drains-ready, drains-length, drains-small, drains-sent, drains-none, drains-on, drains-stop, flush-fails, flush-back, flush-done, insert-bad, loads-few, insert-flat, insert-stops, went-ready, went-few, insert-goes}
 use Prim.Native.Nat.{ℕ, _<_}
 use borrow.Fn.Kinds.{In}

@@ -1,10 +1,8 @@
 -- `load` meets its contract: what the page is read as, and what the merge leaves, in the rules' words. Assumes nothing.
-use Prim.Native.Nat.{_+_, _*_, _-_, _≤_}
 use native.Mathlib.Nat.{add-sub-cancel-left}
 use native.Mathlib.Omega.{arith}
-use mathlib.Core.Path.{_≡_, refl, sym, _∙_, ap}
-use mathlib.Core.Bool.{Bool, true, false}
-use lib.ListN.{length, take, drop, length-take, length-drop}
+use mathlib.Core.Path.{_≡_, sym, _∙_, ap}
+use lib.ListN.{length-take, length-drop}
 use Rattle.store.specs.Laws.{Known}
 use Rattle.index.specs.Order.{eavt}
 use Rattle.rules.specs.Store.{pageAt, fetchPage}
@@ -12,7 +10,7 @@ use Rattle.memory_store.specs.Reading.{told}
 use Rattle.memory_store.specs.declared.found.Found.the-variants.{Fine}
 use Rattle.memory_store.specs.FetchLaws.{InOrder, in-order, page-inside}
 use Rattle.node.specs.Merge.{Merges, is-whole, is-met}
-use Rattle.htree.specs.Load.{Loads, load-faulty, load-other, load-few, load-below, load-met, load-whole}
+use Rattle.htree.specs.Load.{load-faulty, load-other, load-few, load-below, load-met, load-whole}
 use borrow.Author.Needs.{needs}
 use Rattle.htree.proofs.insert.load.Statement.{statement}
 use Rattle.htree.proofs.insert.load.Tie as tie

@@ -1,15 +1,11 @@
 -- `put_part` meets its contract: too tall, then no room, then one page past those written. Assumes nothing.
-use mathlib.Core.Path.{subst}
 use native.Mathlib.Nat.{div-le-self}
-use Rattle.store.specs.Words.{patch}
 use Rattle.rules.specs.Page.{encodePage, Node}
-use Rattle.rules.specs.Tree.{put}
 use Rattle.htree.specs.Wrote.{Wrote}
-use Prim.Native.Nat.{ℕ, suc, _+_, _*_, _-_, _≤_}
+use Prim.Native.Nat.{suc, _+_, _*_, _-_, _≤_}
 use native.Mathlib.Nat.{add-mul, one-mul, le-div-iff-mul-le}
 use native.Mathlib.Omega.{arith}
-use mathlib.Core.List.{List}
-use mathlib.Core.Path.{_≡_, refl, sym, _∙_, ap}
+use mathlib.Core.Path.{sym, _∙_, ap}
 use lib.ListN.{length, length-take, length-drop}
 use Rattle.store.specs.Laws.{Known}
 use Rattle.rules.specs.Page.{nodeOf}

@@ -1,7 +1,5 @@
 -- `settle` meets its contract: a split, or one page whose id goes up. Assumes nothing.
 use native.Mathlib.Omega.{arith}
-use mathlib.Core.Path.{_≡_, sym}
-use Prim.Native.Nat.{_+_, _*_}
 use Rattle.htree.specs.Told.{Ready, tell-went, tell-stopped}
 use Rattle.htree.specs.Settle.{whole-part, ready-next, settle-split, settle-put, settle-refused}
 use borrow.Author.Needs.{needs}

@@ -1,17 +1,13 @@
 -- `split` meets its contract: the loop stands halfway, whatever was written before, and the last part ends it. Assumes nothing.
 use Rattle.htree.specs.Split.{looping-length, looping-next, looping-on, looping-end, looping-stop, looping-refused}
-use Rattle.node.specs.Area.{partOf}
 use borrow.Author.Needs.{needs}
-use Prim.Native.Nat.{ℕ, suc, _+_, _*_, _-_, _≤_, _<_}
-use native.Mathlib.Nat.{le-mul-of-pos-right, div-le-self}
+use Prim.Native.Nat.{_-_}
 use native.Mathlib.Omega.{arith}
-use mathlib.Core.Path.{_≡_, refl, sym, _∙_, ap}
-use lib.ListN.{length}
+use mathlib.Core.Path.{refl}
 use Rattle.store.specs.Laws.{Known}
-use Rattle.rules.specs.Node.{share}
 use Rattle.memory_store.specs.FetchLaws.{InOrder, in-order}
 use Rattle.htree.specs.Told.{Ready, tell-went, tell-stopped}
-use Rattle.htree.specs.Split.{Halfway, Divided, divided, Looping, Parted, part-same, halfway-start, halfway-stop, halfway-on, halfway-end, looping-ready, looping-same, looping-few, looping-share, looping-inner, looping-last}
+use Rattle.htree.specs.Split.{Divided, divided, Looping, part-same, halfway-start, looping-ready, looping-same, looping-few, looping-share, looping-inner, looping-last}
 use Rattle.htree.proofs.place.split.Statement.{statement}
 use Rattle.htree.proofs.place.split.Tie as tie
 

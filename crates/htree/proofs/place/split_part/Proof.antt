@@ -1,7 +1,7 @@
 -- `split_part` meets its contract: the page as `put_part` leaves it, then two stores into the area. Assumes nothing.
 use Prim.Native.Nat.{_-_}
 use native.Mathlib.Omega.{arith}
-use mathlib.Core.Path.{_≡_, ap}
+use mathlib.Core.Path.{_≡_}
 use Rattle.store.specs.Laws.{apart}
 use Rattle.htree.specs.Split.{Parted, part-same}
 use borrow.Author.Needs.{needs}

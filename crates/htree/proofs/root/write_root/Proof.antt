@@ -1,8 +1,6 @@
 -- `write_root` meets its contract: the loop rises, whatever was written before, and the top ends it. Assumes nothing.
 use borrow.Author.Needs.{needs}
 use native.Mathlib.Omega.{arith}
-use Prim.Native.Nat.{ℕ}
-use Rattle.memory_store.specs.FetchLaws.{InOrder}
 use Rattle.htree.specs.Told.{Ready}
 use Rattle.htree.specs.Root.{Rises, rises-start, rises-ready, rises-length, rises-end, rises-stop, rises-fewer, rises-on}
 use Rattle.htree.proofs.root.write_root.Statement.{statement}

@@ -1,5 +1,4 @@
 -- `nothing` meets its contract: no frames. Assumes nothing.
-use borrow.Author.Needs.{needs}
 use mathlib.Core.Path.{refl}
 use Rattle.rules.specs.Listing.{cursorOf, eight}
 use Rattle.listing.proofs.begin.nothing.Statement.{statement}

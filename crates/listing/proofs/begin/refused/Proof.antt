@@ -1,5 +1,4 @@
 -- `refused` meets its contract. Assumes nothing.
-use mathlib.Core.Path.{refl}
 use borrow.Author.Needs.{needs}
 use Rattle.listing.proofs.begin.refused.Statement.{statement}
 use Rattle.listing.proofs.begin.refused.Tie as tie

@@ -5,7 +5,7 @@ use Rattle.memory_store.specs.Readable.{opens}
 use Rattle.memory_store.specs.FetchLaws.{in-order}
 use Rattle.rules.specs.Page.{countOf}
 use native.Mathlib.Omega.{arith}
-use mathlib.Core.Path.{sym, _∙_, ap, _≡_}
+use mathlib.Core.Path.{_∙_}
 use borrow.Author.Needs.{needs}
 use Rattle.listing.proofs.candidate.chosen.Statement.{statement}
 use Rattle.listing.proofs.candidate.chosen.Tie as tie

@@ -1,8 +1,8 @@
 -- `descend` meets its contract: the way from the page at hand ends as the whole way ends. Assumes nothing.
 use borrow.Author.Needs.{needs}
-use Prim.Native.Nat.{_≤_, _-_}
+use Prim.Native.Nat.{_≤_}
 use native.Mathlib.Omega.{arith}
-use mathlib.Core.Path.{_≡_, refl, sym, _∙_, ap}
+use mathlib.Core.Path.{_≡_, refl, sym, _∙_}
 use Rattle.listing.specs.Descent.{testOf, descentOf, downOf, lost-is, down-lost, down-ends, down-on}
 use Rattle.listing.proofs.descent.descend.Statement.{statement}
 use Rattle.listing.proofs.descent.descend.Tie as tie

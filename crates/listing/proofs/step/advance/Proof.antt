@@ -1,7 +1,7 @@
 -- `advance` meets its contract: beside a pending datom the levels below stay, behind a midpoint they are filled anew. Assumes nothing.
 use Prim.Native.Nat.{_+_, _*_}
 use native.Mathlib.Omega.{arith}
-use mathlib.Core.Path.{_≡_, refl, sym, ap, _∙_}
+use mathlib.Core.Path.{sym, ap, _∙_}
 use borrow.Author.Tests.{not-true, not-false}
 use lib.ListN.{getD}
 use Rattle.store.specs.Page.{page}
@@ -10,7 +10,7 @@ use Rattle.rules.specs.Node.{isMidpoint}
 use Rattle.memory_store.specs.FetchLaws.{in-order}
 use Rattle.memory_store.specs.Readable.{opens}
 use Rattle.listing.specs.CandidateLaws.{read-node, read-most}
-use Rattle.listing.specs.AdvanceLaws.{read-children, childrenAt, adv-bottom, adv-pending, adv-midpoint}
+use Rattle.listing.specs.AdvanceLaws.{read-children, adv-bottom, adv-pending, adv-midpoint}
 use borrow.Author.Needs.{needs}
 use Rattle.listing.proofs.step.advance.Statement.{statement}
 use Rattle.listing.proofs.step.advance.Tie as tie

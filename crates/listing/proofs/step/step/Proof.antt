@@ -1,5 +1,5 @@
 -- `step` meets its contract: the checks in their order, then the pages. Assumes nothing.
-use mathlib.Core.Path.{_≡_, sym, _∙_}
+use mathlib.Core.Path.{sym, _∙_}
 use Rattle.listing.specs.StepLaws.{step-bad, step-tall, step-ended, step-goes}
 use borrow.Author.Needs.{needs}
 use Rattle.listing.proofs.step.step.Statement.{statement}

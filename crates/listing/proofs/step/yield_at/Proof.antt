@@ -1,6 +1,5 @@
 -- `yield_at` meets its contract: a page that is lost while the cursor advances refuses the step. Assumes nothing.
-use native.Mathlib.Omega.{arith}
-use mathlib.Core.Path.{_≡_, refl, sym, ap, _∙_}
+use mathlib.Core.Path.{_∙_}
 use Rattle.listing.specs.AdvanceLaws.{yield-lost, yield-bottom}
 use borrow.Author.Needs.{needs}
 use Rattle.listing.proofs.step.yield_at.Statement.{statement}

@@ -2,7 +2,6 @@
 use Rattle.listing.specs.Way.{wayOf}
 use Rattle.rules.specs.Listing.{eight}
 use mathlib.Core.Path.{refl}
-use borrow.Author.Needs.{needs}
 use Rattle.listing.proofs.way.empty.Statement.{statement}
 use Rattle.listing.proofs.way.empty.Tie as tie
 

@@ -2,7 +2,7 @@
 use native.Mathlib.Omega.{arith}
 use borrow.Author.Needs.{needs}
 use Prim.Native.Nat.{_≤_}
-use mathlib.Core.Path.{_≡_, refl, sym, _∙_}
+use mathlib.Core.Path.{_≡_, _∙_}
 use Rattle.listing.specs.WayLaws.{sameBelow, same-none, same-on, same-stops}
 use Rattle.listing.proofs.way.is_at_end.Statement.{statement}
 use Rattle.listing.proofs.way.is_at_end.Tie as tie

@@ -3,7 +3,7 @@ use native.Mathlib.Omega.{arith}
 use borrow.Author.Needs.{needs}
 use Prim.Native.Nat.{_≤_, _-_}
 use lib.ListN.{length, length-set}
-use mathlib.Core.Path.{_≡_, refl, sym, _∙_}
+use mathlib.Core.Path.{_≡_, refl, _∙_}
 use Rattle.store.specs.Page.{page}
 use Rattle.listing.specs.WayLaws.{mapped-length, Full, cleared, clear-on, used-is}
 use Rattle.listing.proofs.way.only_used.Statement.{statement}

@@ -1,6 +1,6 @@
 -- `first_not_below` meets its contract: the index sought lies between the two ends. Assumes nothing.
 use borrow.Author.Needs.{needs}
-use Prim.Native.Nat.{ℕ, _+_, _*_, _-_, _/_, _<_, _≤_, zero-le}
+use Prim.Native.Nat.{_+_, _*_, _-_, _/_, _≤_, zero-le}
 use native.Mathlib.Omega.{arith}
 use mathlib.Core.Path.{_≡_}
 use Rattle.datom.specs.Datom.{datomAt, datomsOf}

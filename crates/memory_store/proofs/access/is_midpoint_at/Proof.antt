@@ -1,6 +1,5 @@
 -- `is_midpoint_at` meets its contract: the child there is not none. Assumes nothing.
 use Prim.Native.Nat.{suc, _*_}
-use mathlib.Core.Path.{ap}
 use native.Mathlib.Omega.{arith}
 use Rattle.store.specs.Page.{none}
 use Rattle.store.specs.Cells.{pages-at}

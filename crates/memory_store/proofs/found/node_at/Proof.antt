@@ -2,8 +2,8 @@
 use Prim.Native.Nat.{_+_, _*_, _-_}
 use native.Mathlib.Nat.{add-sub-cancel-left}
 use native.Mathlib.Omega.{arith}
-use mathlib.Core.Path.{_≡_, sym, _∙_, ap}
-use lib.ListN.{length, take, drop, length-take, length-drop}
+use mathlib.Core.Path.{sym, _∙_, ap}
+use lib.ListN.{take, drop, length-take, length-drop}
 use Rattle.store.specs.Laws.{Known}
 use Rattle.rules.specs.Store.{pageAt}
 use Rattle.memory_store.specs.Reading.{said}

@@ -1,12 +1,12 @@
 -- `all_older` meets its contract: the test on the rest of the list is the test on the whole. Assumes nothing.
 use borrow.Author.Needs.{needs}
-use Prim.Native.Nat.{ℕ, _+_, _*_, _-_, _<_, _≤_}
+use Prim.Native.Nat.{_-_, _≤_}
 use native.Mathlib.Omega.{arith}
 use mathlib.Core.Bool.{true, false}
 use mathlib.Core.Path.{_≡_, refl, sym, _∙_}
 use lib.ListN.{drop}
 use mathlib.Core.Logic.{⊎-elim}
-use Rattle.store.specs.Words.{cells, wordAt}
+use Rattle.store.specs.Words.{cells}
 use Rattle.store.specs.Page.{page, pageOf}
 use Rattle.store.specs.Cells.{pages-from}
 use Rattle.rules.specs.Page.{all, older}

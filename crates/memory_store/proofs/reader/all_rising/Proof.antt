@@ -1,9 +1,8 @@
 -- `all_rising` meets its contract: the rest rises above the last datom passed as the whole rises. Assumes nothing.
 use borrow.Author.Needs.{needs}
-use Prim.Native.Nat.{ℕ, _+_, _*_, _-_, _<_, _≤_}
+use Prim.Native.Nat.{_*_, _-_, _≤_}
 use native.Mathlib.Omega.{arith}
-use mathlib.Core.Bool.{true, false}
-use mathlib.Core.Path.{_≡_, refl, sym, _∙_}
+use mathlib.Core.Path.{_≡_, sym, _∙_}
 use lib.ListN.{drop}
 use Rattle.datom.specs.Datom.{datomAt, datomsOf}
 use Rattle.datom.specs.Laws.{datoms-from}

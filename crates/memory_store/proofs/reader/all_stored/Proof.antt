@@ -1,6 +1,6 @@
 -- `all_stored` meets its contract: the test on the rest of the list is the test on the whole. Assumes nothing.
 use borrow.Author.Needs.{needs}
-use Prim.Native.Nat.{ℕ, _+_, _*_, _-_, _<_, _≤_}
+use Prim.Native.Nat.{_+_, _*_, _-_, _≤_}
 use native.Mathlib.Omega.{arith}
 use mathlib.Core.Bool.{true, false}
 use mathlib.Core.Path.{_≡_, refl, sym, _∙_}
@@ -8,7 +8,7 @@ use lib.ListN.{drop}
 use borrow.Author.Tests.{not-true, not-false}
 use Rattle.store.specs.Words.{wordAt}
 use Rattle.datom.specs.Value.{storedValue}
-use Rattle.datom.specs.Datom.{datomAt, datomOf, datomsOf, storedDatom}
+use Rattle.datom.specs.Datom.{datomOf, datomsOf, storedDatom}
 use Rattle.datom.specs.Laws.{datoms-from}
 use Rattle.rules.specs.Page.{all}
 use Rattle.memory_store.specs.Steps.{all-on, all-stop, all-end, stored-word}

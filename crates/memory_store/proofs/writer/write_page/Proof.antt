@@ -1,9 +1,8 @@
 -- `write_page` meets its contract: what three stores lay into zeros is the encoding, and the fourth copies it. Assumes nothing.
-use Prim.Native.Nat.{_+_, _*_, _≤_}
 use native.Mathlib.Nat.{add-sub-cancel-left}
 use native.Mathlib.Omega.{arith}
-use mathlib.Core.Path.{_≡_, sym, _∙_, ap}
-use lib.ListN.{length, length-take}
+use mathlib.Core.Path.{sym, _∙_, ap}
+use lib.ListN.{length-take}
 use lib.Seq.{length-take-le}
 use Rattle.store.specs.Words.{patch}
 use Rattle.memory_store.specs.WriterLaws.{page-made}

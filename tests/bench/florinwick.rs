@@ -1,0 +1,102 @@
+//! The library, over its C interface.
+
+use crate::slab::{Slab, PAGE};
+
+mod archive {
+    extern "C" {
+        pub fn florinwick_scratch_need(page_size: u64) -> u64;
+        pub fn florinwick_insert(
+            store: *mut u8, store_length: usize, page_size: u64, page_count: u64, root: u64,
+            batch: *const u8, batch_length: usize, scratch: *mut u8, scratch_length: usize,
+            answer: *mut u8, answer_length: usize,
+        ) -> u64;
+        pub fn florinwick_check(
+            store: *const u8, store_length: usize, page_size: u64, page_count: u64, root: u64,
+            answer: *mut u8, answer_length: usize,
+        ) -> u64;
+        pub fn florinwick_list_start(
+            store: *const u8, store_length: usize, page_size: u64, page_count: u64, root: u64,
+            lower: *const u8, lower_length: usize, upper: *const u8, upper_length: usize,
+            cursor: *mut u8, cursor_length: usize, answer: *mut u8, answer_length: usize,
+        ) -> u64;
+        pub fn florinwick_list_step(
+            store: *const u8, store_length: usize, page_size: u64, page_count: u64,
+            cursor: *mut u8, cursor_length: usize, datom: *mut u8, datom_length: usize,
+            answer: *mut u8, answer_length: usize,
+        ) -> u64;
+    }
+}
+
+const REPEATED: u64 = 6;
+
+pub struct Florinwick {
+    pub slab: Slab,
+    pub root: u64,
+    scratch: Vec<u8>,
+}
+
+impl Florinwick {
+    pub fn new(slab: Slab, root: u64) -> Florinwick {
+        let need = unsafe { archive::florinwick_scratch_need(PAGE as u64) };
+        Florinwick { slab, root, scratch: vec![0; need as usize] }
+    }
+
+    fn send(&mut self, batch: &[u8]) -> [u64; 4] {
+        let mut answer = [0u64; 4];
+        let count = self.slab.count;
+        let store = self.slab.bytes_mut();
+        unsafe {
+            archive::florinwick_insert(
+                store.as_mut_ptr(), store.len(), PAGE as u64, count, self.root, batch.as_ptr(), batch.len(),
+                self.scratch.as_mut_ptr(), self.scratch.len(), answer.as_mut_ptr() as *mut u8, 32,
+            );
+        }
+        answer
+    }
+
+    pub fn insert(&mut self, batch: &[u8]) {
+        let [number, root, pages, _] = self.send(batch);
+        assert_eq!(number, 0, "a batch of the feed is refused");
+        self.root = root;
+        self.slab.count += pages;
+    }
+
+    /// The last batch again: the receipt is a refusal.
+    pub fn resend(&mut self, batch: &[u8]) {
+        assert_eq!(self.send(batch)[0], REPEATED, "a batch that was resent is not refused");
+    }
+
+    /// How many datoms a listing of everything hands out, step by step, and the sum of their entities.
+    pub fn list(&self) -> (u64, u64) {
+        let (store, size, count) = (self.slab.bytes(), PAGE as u64, self.slab.count);
+        let (mut cursor, mut datom, mut answer) = ([0u64; 33], [0u64; 4], [0u64; 4]);
+        let (lower, upper) = ([0u64; 4], [u64::MAX; 4]);
+        let (cursor, answer) = (cursor.as_mut_ptr() as *mut u8, answer.as_mut_ptr() as *mut u8);
+        let (mut listed, mut sum) = (0, 0u64);
+        unsafe {
+            archive::florinwick_list_start(
+                store.as_ptr(), store.len(), size, count, self.root, lower.as_ptr() as *const u8, 32, upper.as_ptr() as *const u8, 32,
+                cursor, 264, answer, 32,
+            );
+            while archive::florinwick_list_step(
+                store.as_ptr(), store.len(), size, count, cursor, 264, datom.as_mut_ptr() as *mut u8, 32, answer, 32,
+            ) == 0
+            {
+                listed += 1;
+                sum = sum.wrapping_add(datom[0]);
+            }
+        }
+        (listed, sum)
+    }
+
+    pub fn check(&self) {
+        let mut answer = [0u64; 4];
+        let store = self.slab.bytes();
+        let number = unsafe {
+            archive::florinwick_check(
+                store.as_ptr(), store.len(), PAGE as u64, self.slab.count, self.root, answer.as_mut_ptr() as *mut u8, 32,
+            )
+        };
+        assert_eq!(number, 0, "a tree of the feed is not sound");
+    }
+}

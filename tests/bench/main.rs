@@ -1,0 +1,234 @@
+//! Times of the library and of the Rust, in turns over the same inputs and the same memory; LMDB and SQLite beside them.
+
+mod feed;
+mod florinwick;
+mod lmdb;
+mod noblit;
+mod slab;
+mod sqlite;
+
+use std::time::Instant;
+use std::{env, fs};
+
+use feed::{bytes_of, Datom, Feed, Keys};
+use florinwick::Florinwick;
+use lmdb::Lmdb;
+use noblit::{fact, Noblit};
+use slab::Slab;
+use sqlite::Sqlite;
+
+const BATCH: usize = 128;
+const NONE: u64 = u64::MAX;
+
+/// A round is so many batches at the same tree, one after the other; then the tree is taken back to where it was.
+const BATCHES_A_ROUND: usize = 32;
+const SINGLES_A_ROUND: usize = 2048;
+
+/// The store has room for so many pages past the tree that a round starts with.
+const MORE_PAGES: usize = 16384;
+
+/// The times of one operation in every round, in nanoseconds.
+struct Times {
+    what: &'static str,
+    keys: Keys,
+    tree: usize,
+    side: &'static str,
+    rounds: Vec<f64>,
+}
+
+impl Times {
+    fn quartile(&self, quarter: usize) -> f64 {
+        let mut sorted = self.rounds.clone();
+        sorted.sort_by(f64::total_cmp);
+        sorted[(sorted.len() - 1) * quarter / 4]
+    }
+}
+
+struct Bench {
+    rounds: usize,
+    times: Vec<Times>,
+}
+
+impl Bench {
+    fn note(&mut self, what: &'static str, keys: Keys, tree: usize, side: &'static str, nanoseconds: f64) {
+        let is_it = |times: &&mut Times| times.what == what && times.keys == keys && times.tree == tree && times.side == side;
+        match self.times.iter_mut().find(is_it) {
+            Some(times) => times.rounds.push(nanoseconds),
+            None => self.times.push(Times { what, keys, tree, side, rounds: vec![nanoseconds] }),
+        }
+    }
+
+    fn tree(&mut self, keys: Keys, tree: usize) {
+        let mut feed = Feed::new(keys, 1);
+        let base = grown(&mut feed, tree);
+        let mut ours = Florinwick::new(Slab::copy_of(&base.slab, MORE_PAGES), base.root);
+        let mut theirs = Noblit { slab: Slab::copy_of(&base.slab, MORE_PAGES), root: base.root };
+        eprintln!("{:?}, {} datoms: {} pages", keys, tree, base.slab.count);
+        drop(base);
+        for round in 0..self.rounds {
+            let mut branch = feed.branch(2 + round as u64);
+            let batches: Vec<Vec<Datom>> = (0..BATCHES_A_ROUND).map(|_| branch.batch(BATCH)).collect();
+            self.inserts("insert of 128", keys, tree, round, &batches, &mut ours, &mut theirs);
+            self.receipts("receipt for 128", keys, tree, &batches, &mut ours);
+            let singles: Vec<Vec<Datom>> = (0..SINGLES_A_ROUND).map(|_| branch.batch(1)).collect();
+            self.inserts("insert of 1", keys, tree, round, &singles, &mut ours, &mut theirs);
+            self.receipts("receipt for 1", keys, tree, &singles, &mut ours);
+        }
+        for round in 0..readings(self.rounds, tree) {
+            self.reads(keys, tree, round, &ours, &theirs);
+        }
+    }
+
+    /// The same batches on both sides, which take turns at being first; both must write the same bytes.
+    #[allow(clippy::too_many_arguments)]
+    fn inserts(
+        &mut self, what: &'static str, keys: Keys, tree: usize, round: usize, batches: &[Vec<Datom>], ours: &mut Florinwick,
+        theirs: &mut Noblit,
+    ) {
+        let bytes: Vec<Vec<u8>> = batches.iter().map(|batch| bytes_of(batch)).collect();
+        let facts: Vec<Vec<_>> = batches.iter().map(|batch| batch.iter().map(fact).collect()).collect();
+        let (count, root) = (ours.slab.count, ours.root);
+        for turn in 0..2 {
+            if (round + turn) % 2 == 0 {
+                ours.slab.rewind(count);
+                let time = timed(|| bytes.iter().for_each(|batch| ours.insert(batch)));
+                self.note(what, keys, tree, "Florinwick", time / batches.len() as f64);
+            } else {
+                theirs.slab.rewind(count);
+                let time = timed(|| facts.iter().for_each(|batch| theirs.insert(batch)));
+                self.note(what, keys, tree, "Rust", time / batches.len() as f64);
+            }
+        }
+        assert!(ours.root == theirs.root && ours.slab.bytes_from(count) == theirs.slab.bytes_from(count), "both write the same pages");
+        (ours.root, theirs.root) = (root, root);
+        ours.slab.rewind(count);
+        theirs.slab.rewind(count);
+    }
+
+    /// Each batch, and then the same batch again.
+    fn receipts(&mut self, what: &'static str, keys: Keys, tree: usize, batches: &[Vec<Datom>], ours: &mut Florinwick) {
+        let (count, root) = (ours.slab.count, ours.root);
+        let mut time = 0.0;
+        for batch in batches {
+            let bytes = bytes_of(batch);
+            ours.insert(&bytes);
+            time += timed(|| ours.resend(&bytes));
+        }
+        self.note(what, keys, tree, "Florinwick", time / batches.len() as f64);
+        ours.root = root;
+        ours.slab.rewind(count);
+    }
+
+    fn reads(&mut self, keys: Keys, tree: usize, round: usize, ours: &Florinwick, theirs: &Noblit) {
+        let (mut listed, mut by_rust) = ((0, 0), (0, 0));
+        for turn in 0..2 {
+            if (round + turn) % 2 == 0 {
+                let time = timed(|| listed = ours.list());
+                self.note("listed datom", keys, tree, "Florinwick", time / tree as f64);
+                let time = timed(|| ours.check());
+                self.note("checked datom", keys, tree, "Florinwick", time / tree as f64);
+            } else {
+                let time = timed(|| by_rust = theirs.list());
+                self.note("listed datom", keys, tree, "Rust", time / tree as f64);
+                let time = timed(|| theirs.check());
+                self.note("checked datom", keys, tree, "Rust", time / tree as f64);
+            }
+        }
+        assert!(listed == by_rust && listed.0 == tree as u64, "{:?} and {:?} are listed", listed, by_rust);
+    }
+
+    /// LMDB and SQLite grow while they are timed.
+    fn others(&mut self, keys: Keys, tree: usize) {
+        let (mut lmdb, mut sqlite) = (Lmdb::new(), Sqlite::new());
+        let mut feed = Feed::new(keys, 1);
+        for _ in 0..tree / BATCH {
+            let batch = feed.batch(BATCH);
+            assert!(lmdb.insert(&batch) && sqlite.insert(&batch));
+        }
+        for _ in 0..readings(self.rounds, tree) {
+            let (mut one, mut other) = ((0, 0), (0, 0));
+            let listed = (tree / BATCH * BATCH) as f64;
+            let time = timed(|| one = lmdb.list());
+            self.note("listed datom", keys, tree, "LMDB", time / listed);
+            let time = timed(|| other = sqlite.list());
+            self.note("listed datom", keys, tree, "SQLite", time / listed);
+            assert_eq!(one, other, "LMDB and SQLite list different datoms");
+        }
+        for _ in 0..self.rounds.div_ceil(8) {
+            for (what, receipt, size, amount) in [
+                ("insert of 128", "receipt for 128", BATCH, BATCHES_A_ROUND),
+                ("insert of 1", "receipt for 1", 1, SINGLES_A_ROUND / 8),
+            ] {
+                let batches: Vec<Vec<Datom>> = (0..amount).map(|_| feed.batch(size)).collect();
+                let times = in_turns(&batches, |batch| lmdb.insert(batch));
+                self.note(what, keys, tree, "LMDB", times.0);
+                self.note(receipt, keys, tree, "LMDB", times.1);
+                let times = in_turns(&batches, |batch| sqlite.insert(batch));
+                self.note(what, keys, tree, "SQLite", times.0);
+                self.note(receipt, keys, tree, "SQLite", times.1);
+            }
+        }
+    }
+
+    fn report(&self) -> String {
+        let mut text = "what\tkeys\tdatoms\tside\tmedian\tquarter\tthree quarters\n".to_string();
+        for times in &self.times {
+            let [low, median, high] = [1, 2, 3].map(|quarter| times.quartile(quarter));
+            let keys = if times.keys == Keys::Ascending { "ascending" } else { "random" };
+            text += &format!("{}\t{}\t{}\t{}\t{:.1}\t{:.1}\t{:.1}\n", times.what, keys, times.tree, times.side, median, low, high);
+        }
+        text
+    }
+}
+
+/// How often a tree is read as a whole.
+fn readings(rounds: usize, tree: usize) -> usize {
+    (rounds * 10_000 / tree).clamp(3, rounds)
+}
+
+fn timed(work: impl FnOnce()) -> f64 {
+    let started = Instant::now();
+    work();
+    started.elapsed().as_nanos() as f64
+}
+
+/// The time of a batch that goes in, and of the same batch again.
+fn in_turns(batches: &[Vec<Datom>], mut insert: impl FnMut(&[Datom]) -> bool) -> (f64, f64) {
+    let (mut first, mut again) = (0.0, 0.0);
+    for batch in batches {
+        first += timed(|| assert!(insert(batch)));
+        again += timed(|| assert!(!insert(batch)));
+    }
+    (first / batches.len() as f64, again / batches.len() as f64)
+}
+
+/// A tree of so many datoms, by batches of 128, and little room past it.
+fn grown(feed: &mut Feed, datoms: usize) -> Florinwick {
+    let mut tree = Florinwick::new(Slab::new(MORE_PAGES), NONE);
+    let mut left = datoms;
+    while left > 0 {
+        if tree.slab.bytes().len() / slab::PAGE - (tree.slab.count as usize) < MORE_PAGES / 2 {
+            let pages = tree.slab.count as usize;
+            tree = Florinwick::new(Slab::copy_of(&tree.slab, MORE_PAGES + pages), tree.root);
+        }
+        let size = left.min(BATCH);
+        tree.insert(&bytes_of(&feed.batch(size)));
+        left -= size;
+    }
+    tree
+}
+
+fn main() {
+    let word = |i: usize| env::args().nth(i).unwrap_or_else(|| panic!("usage: bench ROUNDS LARGEST FILE"));
+    let number = |i: usize| word(i).parse::<usize>().unwrap_or_else(|_| panic!("{} is no number", word(i)));
+    let mut bench = Bench { rounds: number(1), times: Vec::new() };
+    for keys in [Keys::Ascending, Keys::Random] {
+        for tree in [10_000, 100_000, 1_000_000] {
+            if tree <= number(2) {
+                bench.tree(keys, tree);
+                bench.others(keys, tree);
+            }
+        }
+    }
+    fs::write(word(3), bench.report()).unwrap_or_else(|error| panic!("{}: {}", word(3), error));
+}

@@ -1,0 +1,280 @@
+//! Damaged stores: a page that is not as it was written, for the checks, listings and inserts that meet it.
+
+use std::collections::BTreeSet;
+
+use harness::{capacity, compare, readable_damage, Datom, Node, Oracle, Plan, Verdict, Which, MAX_VALUE, NONE};
+
+use super::reading::Reading;
+use super::{ask, node, path, History, MOST};
+use crate::library::{bytes_of, Answer, Entry};
+use crate::reader::Fault;
+
+/// How many pages beside the paths of a batch are tried until the Rust reads one.
+const BESIDE: usize = 12;
+
+/// A damaged tree is listed so far.
+const STEPS: usize = 200;
+
+/// A page as it was written, and as it is.
+pub struct Damage {
+    page: u64,
+    old: Vec<u8>,
+    new: Vec<u8>,
+}
+
+impl Damage {
+    /// As commands of the oracle's driver.
+    pub fn commands(&self) -> String {
+        let changed = self.old.iter().zip(&self.new).enumerate().filter(|(_, (old, new))| old != new);
+        changed.map(|(at, (_, new))| format!("poke {} {} {}\n", self.page, at, new)).collect()
+    }
+}
+
+impl History<'_> {
+    /// Damages a page on both sides.
+    pub(super) fn damage(&mut self, page: u64, new: Vec<u8>) {
+        let old = self.patched.page(page).expect("a page in use").to_vec();
+        self.patched.replace(page, &new);
+        self.store.poke(page, &new);
+        self.damage = Some(Damage { page, old, new });
+    }
+
+    pub(super) fn repair(&mut self) {
+        let damage = self.damage.take().expect("a damaged page");
+        self.patched.replace(damage.page, &damage.old);
+        self.store.poke(damage.page, &damage.old);
+    }
+
+    /// A page that stays readable: the check finds what the Rust's finds, and names the page that the Rust's panic names.
+    pub(super) fn readable_damage(&mut self) -> Result<(), Fault> {
+        let at = self.some_tree();
+        let root = self.trees[at].root;
+        let damage = match self.random.one_in(3) {
+            true => self.damage_at_bounds(root),
+            false => readable_damage(&self.patched, root, &self.supply, &mut self.random),
+        };
+        let Some((page, new)) = damage else {
+            return Ok(());
+        };
+        self.damage(page, new);
+        self.reading = Some(Reading::Check(root));
+        let oracle = Oracle { which: Which::Patched, order: self.shape.order };
+        let by_rust = match oracle.check(&self.patched, root) {
+            Verdict::Sound => None,
+            Verdict::Unsound(page, _) => Some(page),
+        };
+        let found = self.reader().check(root)?;
+        if found != by_rust {
+            return Err(format!("the check's page is {:?}, and the Rust's {:?}", found, by_rust));
+        }
+        self.tally.damaged_readable += 1;
+        self.read_damaged(at)
+    }
+
+    /// A page below the root whose first or last datom is equal to its bound, with a child below it that is outside its own bounds.
+    fn damage_at_bounds(&mut self, root: u64) -> Option<(u64, Vec<u8>)> {
+        let sought = self.supply.any(&mut self.random);
+        let way = path(&self.patched, root, &sought);
+        let at = 1 + self.random.below(way.len().max(2) - 1);
+        let &page = way.get(at)?;
+        let (parent, mut node) = (node(&self.patched, way[at - 1]), node(&self.patched, page));
+        let place = parent.children.iter().position(|&child| child == page)?;
+        let last = node.datoms.len().checked_sub(1)?;
+        if self.random.one_in(3) {
+            let before = (0..place).rev().find(|&i| parent.children[i] != NONE)?;
+            node.datoms[0] = parent.datoms[before];
+        } else {
+            node.datoms[last] = *parent.datoms.get(place)?;
+        }
+        let midpoint = (0..last).find(|&i| node.children[i] != NONE).filter(|_| self.random.one_in(2));
+        if let Some(i) = midpoint {
+            node.datoms[i] = *super::node(&self.patched, node.children[i]).datoms.last()?;
+        }
+        let mut new = self.patched.page(page)?.to_vec();
+        node.encode_over(&mut new);
+        if node.is_readable(page) { Some((page, new)) } else { None }
+    }
+
+    /// A page that breaks one of the rules of a readable one.
+    pub(super) fn unreadable_damage(&mut self) -> Result<(), Fault> {
+        let at = self.some_tree();
+        let root = self.trees[at].root;
+        let sought = self.supply.any(&mut self.random);
+        let way = path(&self.patched, root, &sought);
+        let page = self.random.pick(&way);
+        let new = self.unreadable(page);
+        self.damage(page, new);
+        self.reading = Some(Reading::Check(root));
+        if self.reader().check(root)?.is_none() {
+            return Err(format!("page {} cannot be read, and the tree is called sound", page));
+        }
+        self.tally.damaged_unreadable += 1;
+        self.read_damaged(at)
+    }
+
+    /// Listings and made-up cursors over the damaged page, by the rules; then it is repaired.
+    fn read_damaged(&mut self, at: usize) -> Result<(), Fault> {
+        let root = self.trees[at].root;
+        for _ in 0..3 {
+            let (lower, upper) = self.bounds(at);
+            self.reading = Some(Reading::List(root, lower, upper));
+            self.reader().list(root, &lower, &upper, STEPS)?;
+        }
+        self.made_up_cursors()?;
+        self.repair();
+        Ok(())
+    }
+
+    /// The page with one rule broken.
+    fn unreadable(&mut self, page: u64) -> Vec<u8> {
+        let old = self.patched.page(page).expect("a page in use").to_vec();
+        let capacity = capacity(old.len()).expect("a known page size");
+        let header = 40 * capacity + 8;
+        let rule = self.random.below(7);
+        let mut new = old;
+        match rule {
+            0 => new[header] = self.random.pick(&[8, 9, 255]),
+            1 => new[header + 1] = self.random.pick(&[capacity as u8 + 1, 255]),
+            _ => {
+                let mut node = node(&self.patched, page);
+                self.break_rule(&mut node, page, rule);
+                node.encode_over(&mut new);
+                if node.is_readable(page) {
+                    // The rule that was chosen asks nothing of this page.
+                    new[header] = 8;
+                }
+            }
+        }
+        new
+    }
+
+    fn break_rule(&mut self, node: &mut Node, page: u64, rule: usize) {
+        let count = node.datoms.len();
+        let place = self.random.below(count + 1);
+        match rule {
+            2 if count > 0 => {
+                let malformed = [MAX_VALUE, 1 << 62, 3 << 62, 0x8100_0000_0000_6161, 0x8800_0000_0000_0000];
+                node.datoms[place.min(count - 1)][2] = self.random.pick(&malformed);
+            }
+            3 if count > 1 => node.datoms.swap(0, place.clamp(1, count - 1)),
+            4 if count > 1 => node.datoms[place.clamp(1, count - 1)] = node.datoms[place.clamp(1, count - 1) - 1],
+            5 => node.children[count] = if node.level == 0 { page.saturating_sub(1) } else { NONE },
+            _ => node.children[place] = self.random.pick(&[page, page + 1, NONE - 1]),
+        }
+    }
+
+    /// A page that cannot be read, beside the paths of a batch: the insert is refused when it comes there, and has written what the
+    /// Rust writes until it reads that page.
+    pub(super) fn lost_while_writing(&mut self) -> Result<(), Fault> {
+        let at = self.some_tree();
+        let root = self.trees[at].root;
+        let Some(datoms) = self.some_batch(at) else {
+            return Ok(());
+        };
+        for page in self.pages_beside(root, &datoms) {
+            let before = self.patched.count();
+            self.patched.lose(page);
+            let oracle = Oracle { which: Which::Patched, order: self.shape.order };
+            let outcome = ask(oracle, &mut self.patched, Entry::Insert(root), &datoms);
+            self.patched.lose(NONE);
+            let written = self.patched.bytes_from(before).to_vec();
+            self.patched.truncate(before);
+            if outcome.is_err() {
+                let new = self.unreadable(page);
+                self.damage(page, new);
+                self.tally.lost_while_writing += 1;
+                return self.refuse_after(Entry::Insert(root), &datoms, page, &written);
+            }
+        }
+        Ok(())
+    }
+
+    /// Children of the pages on the paths of a batch which are on no path themselves.
+    fn pages_beside(&mut self, root: u64, datoms: &[Datom]) -> Vec<u64> {
+        let paths: BTreeSet<u64> = datoms.iter().flat_map(|datom| path(&self.patched, root, datom)).collect();
+        let children = paths.iter().flat_map(|&page| node(&self.patched, page).children);
+        let mut beside: Vec<u64> = children.filter(|child| *child != NONE && !paths.contains(child)).collect();
+        self.random.shuffle(&mut beside);
+        beside.truncate(BESIDE);
+        beside
+    }
+
+    /// A datom pending above is in the page that it will be sent to, too: a merge into that page is Damaged, as it is a panic of the
+    /// Rust, with the same pages written until then. A batch that merges elsewhere goes in on both sides.
+    pub(super) fn equal_while_writing(&mut self) -> Result<(), Fault> {
+        let at = self.some_tree();
+        let root = self.trees[at].root;
+        let Some(datoms) = self.some_batch(at) else {
+            return Ok(());
+        };
+        let Some((page, new)) = self.doubled(root, &datoms[0]) else {
+            return Ok(());
+        };
+        self.damage(page, new);
+        let before = self.patched.count();
+        let oracle = Oracle { which: Which::Patched, order: self.shape.order };
+        let outcome = ask(oracle, &mut self.patched, Entry::Insert(root), &datoms);
+        let written = self.patched.bytes_from(before).to_vec();
+        self.patched.truncate(before);
+        match outcome {
+            Err(panic) => {
+                self.tally.equal_while_writing += 1;
+                self.refuse_after(Entry::Insert(root), &datoms, panic.last_read, &written)
+            }
+            Ok(root_after) => {
+                let count = written.len() / self.shape.page_size;
+                self.store.make_room(count, &mut self.random);
+                let answer = self.call(Entry::Insert(root), &bytes_of(&datoms), count, 0)?;
+                self.expect(answer, Answer::done(root_after, count as u64), &written)?;
+                self.store.restore();
+                self.repair();
+                Ok(())
+            }
+        }
+    }
+
+    /// A page below a datom's path with a datom that is pending above it: the page and its new bytes.
+    fn doubled(&mut self, root: u64, datom: &Datom) -> Option<(u64, Vec<u8>)> {
+        let capacity = capacity(self.shape.page_size).expect("a known page size");
+        let above = path(&self.patched, root, datom).into_iter().map(|page| node(&self.patched, page));
+        let pending: Vec<(Datom, u64)> = above.filter(|node| node.level > 0).flat_map(|node| {
+            let child_from = |i: usize| node.children[i..].iter().copied().find(|&child| child != NONE).expect("a last child");
+            let is_pending = |&i: &usize| node.children[i] == NONE;
+            (0..node.datoms.len()).filter(is_pending).map(|i| (node.datoms[i], child_from(i))).collect::<Vec<_>>()
+        }).collect();
+        if pending.is_empty() {
+            return None;
+        }
+        let (datom, page) = self.random.pick(&pending);
+        let mut child = node(&self.patched, page);
+        if child.datoms.len() == capacity {
+            return None;
+        }
+        let at = child.datoms.iter().take_while(|held| compare(held, &datom).is_lt()).count();
+        child.datoms.insert(at, datom);
+        child.children.insert(at, NONE);
+        let mut new = self.patched.page(page).expect("a page in use").to_vec();
+        child.encode_over(&mut new);
+        Some((page, new))
+    }
+
+    /// Damaged with a page, after these pages were written.
+    fn refuse_after(&mut self, entry: Entry, datoms: &[Datom], page: u64, written: &[u8]) -> Result<(), Fault> {
+        let more = written.len() / self.shape.page_size + 1 + self.random.below(40);
+        self.store.make_room(more, &mut self.random);
+        let answer = self.call(entry, &bytes_of(datoms), more, 0)?;
+        self.expect(answer, entry.refused(7, page), written)?;
+        self.tally.pages_before_damage += (written.len() / self.shape.page_size) as u64;
+        self.store.restore();
+        self.repair();
+        Ok(())
+    }
+
+    /// A batch that a tree does not hold, rather a large one.
+    fn some_batch(&mut self, at: usize) -> Option<Vec<Datom>> {
+        let plan = self.random.pick(&[Plan::Scattered, Plan::Clustered]);
+        let size = 1 + self.random.below(MOST);
+        let batch = self.supply.batch(&self.trees[at].held, plan, size, &mut self.random);
+        if batch.is_empty() { None } else { Some(self.supply.datoms(&batch)) }
+    }
+}

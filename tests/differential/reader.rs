@@ -1,0 +1,114 @@
+//! The library's calls that only read, each compared with document 01's rules.
+
+use harness::{Datom, Pages, Random, NONE};
+
+use crate::library::{bytes_of, datoms_of, Answer, Asked, Lent};
+use crate::model::{Cursor, Model, Step, CURSOR_BYTES};
+use crate::tally::Tally;
+
+/// A difference, in words.
+pub type Fault = String;
+
+/// So many steps at the front of a listing are compared with the rules, cursor and all.
+const JUDGED: usize = 48;
+
+/// Later on one in so many steps is.
+const JUDGED_LATER: usize = 32;
+
+/// A store that is lent to calls that read, and the same pages for the rules.
+pub struct Reader<'a> {
+    pub store: &'a [u8],
+    pub pages: &'a Pages,
+    pub random: &'a mut Random,
+    pub tally: &'a mut Tally,
+}
+
+impl<'a> Reader<'a> {
+    pub fn asked(&self) -> Asked<'a> {
+        Asked { store: self.store, page_size: self.pages.page_size() as u64, page_count: self.pages.count(), area: 32 }
+    }
+
+    fn model(&self) -> Model<'a> {
+        Model { pages: self.pages }
+    }
+
+    /// What a listing by steps gives. It ends by itself, is refused, or is left after so many steps.
+    pub fn list(&mut self, root: u64, lower: &Datom, upper: &Datom, most: usize) -> Result<Vec<Datom>, Fault> {
+        self.tally.listings += 1;
+        let mut cursor = Lent::of_length(CURSOR_BYTES, self.random);
+        let mut datom = Lent::of_length(32, self.random);
+        let mut listed = Vec::new();
+        if !self.start(root, lower, upper, &mut cursor)? {
+            return Ok(listed);
+        }
+        while listed.len() < most {
+            let is_judged = listed.len() < JUDGED || self.random.one_in(JUDGED_LATER);
+            match self.step(&mut cursor, &mut datom, is_judged)? {
+                Some(datom) => listed.push(datom),
+                None => break,
+            }
+        }
+        self.tally.listed += listed.len() as u64;
+        Ok(listed)
+    }
+
+    /// Starts a listing; false if it is refused, and the cursor's bytes must then be as before.
+    fn start(&mut self, root: u64, lower: &Datom, upper: &Datom, cursor: &mut Lent) -> Result<bool, Fault> {
+        let before = cursor.content().to_vec();
+        let judged = self.model().start(root, lower, upper);
+        let answer = self.asked().list_start(root, &bytes_of(&[*lower]), &bytes_of(&[*upper]), cursor, self.random)?;
+        let (expected, kept) = match &judged {
+            Ok(begun) => (Answer::told(0, 0), begun.bytes()),
+            Err(page) => (Answer { root, ..Answer::told(7, *page) }, before),
+        };
+        same("the start's answer", &answer, &expected)?;
+        same("the start's cursor", &Cursor::of_bytes(cursor.content()), &Cursor::of_bytes(&kept))?;
+        self.tally.starts_refused += judged.is_err() as u64;
+        Ok(judged.is_ok())
+    }
+
+    /// A step with any cursor, and the datom that it yields. Where it ends or is refused, both areas must be as before.
+    pub fn step(&mut self, cursor: &mut Lent, datom: &mut Lent, is_judged: bool) -> Result<Option<Datom>, Fault> {
+        let given = Cursor::of_bytes(cursor.content());
+        let before = datom.content().to_vec();
+        let answer = self.asked().list_step(cursor, datom, self.random)?;
+        if is_judged {
+            let judged = self.model().step(&given);
+            self.tally.judge(&judged);
+            let (expected, next, yielded) = match judged {
+                Step::Yields(datom, next) => (Answer::told(0, 0), next, bytes_of(&[datom])),
+                Step::Ended => (Answer::told(32, 0), given, before),
+                Step::Damaged(page, _) => (Answer::told(7, page), given, before),
+            };
+            same("the step's answer", &answer, &expected)?;
+            same("the step's cursor", &Cursor::of_bytes(cursor.content()), &next)?;
+            same("the step's datom", &datom.content(), &&yielded[..])?;
+        }
+        Ok(if answer.number == 0 { datoms_of(datom.content()).pop() } else { None })
+    }
+
+    /// The page of the check's first fault, or none, as by the rules.
+    pub fn check(&mut self, root: u64) -> Result<Option<u64>, Fault> {
+        let judged = self.model().check(root);
+        let answer = self.asked().check(root, self.random)?;
+        let expected = judged.map_or(Answer::told(0, 0), |page| Answer::told(33, page));
+        same("the check's answer", &answer, &expected)?;
+        match judged {
+            None => self.tally.sound += 1,
+            Some(_) => self.tally.unsound += 1,
+        }
+        Ok(judged)
+    }
+
+    /// "A fetch checks 1, 5." "For a fetch, "none" is NoPage."
+    pub fn fetch(&mut self, page: u64) -> Result<(), Fault> {
+        let expected = if page != NONE && page < self.pages.count() { Answer::told(0, 0) } else { Answer::told(5, 0) };
+        let answer = self.asked().fetch(page, self.random)?;
+        self.tally.fetches += 1;
+        same("the fetch's answer", &answer, &expected)
+    }
+}
+
+pub fn same<T: std::fmt::Debug + PartialEq>(name: &str, found: &T, expected: &T) -> Result<(), Fault> {
+    if found == expected { Ok(()) } else { Err(format!("{} is {:?}, and must be {:?}", name, found, expected)) }
+}

@@ -1,0 +1,203 @@
+// One call on two copies of the same arguments: in one the guard pages are right before the slices, in the other right behind. The
+// answers must be equal, and no byte may change that the answer does not allow.
+#pragma once
+
+#include "entries.h"
+#include "lent.h"
+#include "page.h"
+
+constexpr size_t STORE_ROOM = 1 << 16;
+constexpr size_t SCRATCH_ROOM = 332352 + GUARD;
+constexpr size_t CURSOR = 264;
+
+enum class Entry { Initialise, Insert, Fetch, Check, Start, Step };
+
+struct Call {
+    Entry entry;
+    uint64_t page_size, page_count;
+    // Root or page.
+    uint64_t root = NONE;
+    // How much of the store is lent.
+    size_t store_length;
+    // The batch, or the lower and upper bound, or the cursor.
+    std::vector<uint8_t> batch, lower, upper, cursor;
+    size_t scratch_length = 0, datom_length = 32, answer_length = 32;
+
+    bool writes() const { return entry == Entry::Initialise || entry == Entry::Insert; }
+};
+
+// The four words; where the answer area has another length than 32, the number that was returned, and zeros.
+struct Answer {
+    uint64_t number = 0, root = 0, pages = 0, detail = 0;
+    std::vector<uint8_t> cursor, datom;
+};
+
+// All slices of a call, in one of the two placements.
+struct Slices {
+    Lent store, batch, scratch, lower, upper, cursor, datom, answer;
+
+    explicit Slices(End end)
+        : store(STORE_ROOM, end), batch(8192, end), scratch(SCRATCH_ROOM, end), lower(GUARD, end), upper(GUARD, end),
+          cursor(GUARD, end), datom(GUARD, end), answer(GUARD, end) {}
+
+    void lay(const Call &call) {
+        static const std::vector<uint8_t> unwritten(GUARD, 0x5a);
+        batch.lay(call.batch.data(), call.batch.size());
+        scratch.lay(call.scratch_length);
+        lower.lay(call.lower.data(), call.lower.size());
+        upper.lay(call.upper.data(), call.upper.size());
+        cursor.lay(call.cursor.data(), call.cursor.size());
+        datom.lay(unwritten.data(), call.datom_length);
+        answer.lay(unwritten.data(), call.answer_length);
+    }
+
+    void must_be_whole() const {
+        for (const Lent *lent : {&store, &batch, &scratch, &lower, &upper, &cursor, &datom, &answer}) {
+            lent->must_be_whole();
+        }
+    }
+
+    uint64_t make(const Call &call) {
+        uint8_t *out = answer.bytes();
+        const uint8_t *pages = store.for_reading();
+        size_t room = call.store_length, words = call.answer_length;
+        switch (call.entry) {
+        case Entry::Initialise:
+            return florinwick_initialise(store.bytes(), room, call.page_size, call.page_count, batch.for_reading(), batch.length(),
+                    scratch.bytes(), scratch.length(), out, words);
+        case Entry::Insert:
+            return florinwick_insert(store.bytes(), room, call.page_size, call.page_count, call.root, batch.for_reading(),
+                    batch.length(), scratch.bytes(), scratch.length(), out, words);
+        case Entry::Fetch:
+            return florinwick_fetch(pages, room, call.page_size, call.page_count, call.root, out, words);
+        case Entry::Check:
+            return florinwick_check(pages, room, call.page_size, call.page_count, call.root, out, words);
+        case Entry::Start:
+            return florinwick_list_start(pages, room, call.page_size, call.page_count, call.root, lower.for_reading(),
+                    lower.length(), upper.for_reading(), upper.length(), cursor.bytes(), cursor.length(), out, words);
+        case Entry::Step:
+            return florinwick_list_step(pages, room, call.page_size, call.page_count, cursor.bytes(), cursor.length(),
+                    datom.bytes(), datom.length(), out, words);
+        }
+        abort();
+    }
+
+    Answer call(const Call &call) {
+        lay(call);
+        Answer told;
+        told.number = make(call);
+#ifdef MEDDLE
+        MEDDLE;
+#endif
+        must_be_whole();
+        told.cursor.assign(cursor.bytes(), cursor.bytes() + cursor.length());
+        told.datom.assign(datom.bytes(), datom.bytes() + datom.length());
+        const uint8_t *words = answer.bytes();
+        if (call.answer_length == 32) {
+            must(told.number == word_at(words), "the number returned is not the answer's first word");
+            told.root = word_at(words + 8), told.pages = word_at(words + 16), told.detail = word_at(words + 24);
+        } else {
+            must(std::all_of(words, words + call.answer_length, [](uint8_t byte) { return byte == 0x5a; }),
+                    "an answer area of a wrong length was changed");
+        }
+        return told;
+    }
+};
+
+class Twice {
+public:
+    // The same store on both sides.
+    void store(const std::vector<uint8_t> &content) {
+        for (Slices *slices : {&front_, &back_}) {
+            slices->store.lay(content.data(), content.size());
+        }
+    }
+
+    const uint8_t *pages() const { return front_.store.bytes(); }
+
+    void poke(size_t at, uint8_t byte) { front_.store.bytes()[at] = back_.store.bytes()[at] = byte; }
+
+    // In a store that was never damaged every page that is written must be readable.
+    Answer call(const Call &call, bool is_sound) {
+        Answer answer = front_.call(call);
+        // The other copy of the store is still as before.
+        judge_words(call, answer);
+        uint64_t pages = call.writes() ? pages_changed(call, answer) : 0;
+        for (uint64_t id = call.page_count; is_sound && id < call.page_count + pages; id++) {
+            must(is_written_page(pages_at(id, call), call.page_size, id), "a page was written that is not as pages are");
+        }
+        Answer again = back_.call(call);
+        must(again.number == answer.number && again.root == answer.root && again.pages == answer.pages
+                && again.detail == answer.detail, "two calls with the same arguments differ in their answers");
+        must(again.cursor == answer.cursor && again.datom == answer.datom, "two calls with the same arguments differ in an area");
+        // A call that reads has its store in memory that cannot be written.
+        must(!call.writes() || memcmp(front_.store.bytes(), back_.store.bytes(), front_.store.length()) == 0,
+                "two calls with the same arguments leave different stores");
+        return answer;
+    }
+
+private:
+    Slices front_{End::Front}, back_{End::Back};
+
+    // Which numbers an entry may give, and what the other words then are.
+    static void judge_words(const Call &call, const Answer &answer) {
+        static const uint64_t may_give[] = {0x31f, 0x3ff, 0x23, 0x23 | uint64_t{1} << 33, 0x4a3, 0x83 | uint64_t{1} << 32};
+        uint64_t number = answer.number, batch = call.batch.size() / 32;
+        must(number < 64 && may_give[static_cast<int>(call.entry)] >> number & 1, "a number that this entry does not give");
+        if (call.answer_length != 32) {
+            must(number == 1, "an answer area of a wrong length is not answered by 1");
+            return;
+        }
+        bool is_refused = number != 0 && number < 32, keeps_root = call.entry != Entry::Fetch && call.entry != Entry::Step;
+        must(!is_refused || answer.root == (keeps_root ? call.root : 0), "a refused call does not give back its root");
+        must(!is_refused || answer.pages == 0, "a refused call has written pages");
+        must(call.writes() || (answer.pages == 0 && (is_refused || answer.root == 0)), "a word that is not used is not 0");
+        switch (number) {
+        case 3: case 4: case 6:
+            must(answer.detail < batch, "an index past the batch");
+            break;
+        case 7: case 33:
+            must(call.entry == Entry::Step || answer.detail < call.page_count, "a page past the count");
+            break;
+        default:
+            must(answer.detail == 0, "a word that is not used is not 0");
+        }
+        if (number != 0 || call.entry != Entry::Step) {
+            must(answer.datom == std::vector<uint8_t>(call.datom_length, 0x5a), "a datom area was changed where none is yielded");
+        }
+        if (number != 0 || (call.entry != Entry::Start && call.entry != Entry::Step)) {
+            must(answer.cursor == call.cursor, "a cursor was changed by a call that is refused or has ended");
+        }
+    }
+
+    const uint8_t *pages_at(uint64_t id, const Call &call) const { return pages() + id * call.page_size; }
+
+    // What changed in the one store against the other, which is as before, is whole pages behind the count: so many.
+    uint64_t pages_changed(const Call &call, const Answer &answer) const {
+        const uint8_t *now = front_.store.bytes(), *before = back_.store.bytes();
+        size_t all = front_.store.length();
+        bool may_write = answer.number == 0 || (answer.number >= 7 && answer.number <= 9);
+        if (!may_write) {
+            must(memcmp(now, before, all) == 0, "a refused call has changed the store");
+            return 0;
+        }
+        size_t size = call.page_size, start = call.page_count * size, lent = call.store_length;
+        must(memcmp(now, before, start) == 0, "a byte below the count was changed");
+        must(memcmp(now + lent, before + lent, all - lent) == 0, "a byte past the lent store was changed");
+        uint64_t pages = answer.pages;
+        if (answer.number == 0) {
+            must(pages <= (lent - start) / size, "more pages were written than fit");
+            must(answer.root == NONE ? pages == 0 : answer.root < call.page_count + pages, "a root that is no page");
+        } else {
+            size_t last = lent;
+            while (last > start && now[last - 1] == before[last - 1]) {
+                last--;
+            }
+            pages = (last - start + size - 1) / size;
+            must(start + pages * size <= lent, "a page was written that does not fit");
+        }
+        size_t end = start + pages * size;
+        must(memcmp(now + end, before + end, lent - end) == 0, "a byte past the pages written was changed");
+        return pages;
+    }
+};

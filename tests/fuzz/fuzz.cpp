@@ -1,0 +1,307 @@
+// A fuzzer over the C interface. An input is a script of calls on one store; what a call answers is the fuzzer's feedback, as the
+// archive itself has no counters.
+#include <cstdint>
+
+#include "calls.h"
+
+namespace {
+
+constexpr size_t MOST_CALLS = 24, MOST_STEPS = 24;
+
+// libFuzzer keeps an input that reaches a counter for the first time.
+constexpr size_t COUNTERS = 16384;
+__attribute__((section("__libfuzzer_extra_counters"))) uint8_t counters[COUNTERS];
+
+void note(std::initializer_list<uint64_t> what) {
+    uint64_t hash = 1469598103934665603u;
+    for (uint64_t word : what) {
+        hash = (hash ^ word) * 1099511628211u;
+        hash ^= hash >> 29;
+    }
+    counters[hash % COUNTERS] = 1;
+}
+
+// Small numbers as they are, others by magnitude.
+uint64_t about(uint64_t number) {
+    return number < 8 ? number : 8 + 64 - static_cast<uint64_t>(__builtin_clzll(number));
+}
+
+// The bytes of an input, then zeros.
+class Script {
+public:
+    Script(const uint8_t *at, size_t length) : at_(at), end_(at + length) {}
+    bool is_over() const { return at_ == end_; }
+    uint8_t byte() { return is_over() ? 0 : *at_++; }
+    uint64_t below(uint64_t limit) { return byte() % limit; }
+    uint64_t bytes(int count) {
+        uint64_t word = 0;
+        while (count-- > 0) {
+            word = word << 8 | byte();
+        }
+        return word;
+    }
+
+    // Mostly small; now and then any word, or one at an end of a range.
+    uint64_t number() {
+        uint8_t first = byte();
+        static const uint64_t ends[] = {UINT64_MAX, UINT64_MAX - 1, uint64_t{1} << 62, (uint64_t{1} << 62) - 1, uint64_t{1} << 63, 256};
+        return first < 224 ? first : first < 248 ? ends[first % 6] : bytes(8);
+    }
+
+    uint64_t value() {
+        uint8_t kind = byte();
+        if (kind < 128) {
+            return kind;
+        }
+        if (kind < 248) {
+            uint64_t length = kind % 8, word = (0x80 | length) << 56;
+            for (uint64_t i = 0; i < length; i++) {
+                word |= uint64_t{byte()} << (8 * i);
+            }
+            return word;
+        }
+        return number();
+    }
+
+    Datom datom() { return {number(), below(4), value(), number()}; }
+
+private:
+    const uint8_t *at_, *end_;
+};
+
+void put(std::vector<uint8_t> &bytes, const Datom &datom) {
+    bytes.resize(bytes.size() + 32);
+    memcpy(bytes.data() + bytes.size() - 32, datom.data(), 32);
+}
+
+struct World {
+    Script script;
+    Twice twice;
+    uint64_t size, count = 0;
+    size_t length;
+    std::vector<uint64_t> roots;
+    // No page was damaged.
+    bool is_sound = true;
+    uint64_t last_number = 0;
+    std::vector<uint8_t> cursor;
+
+    void begin(const uint8_t *data, size_t data_length) {
+        static const uint64_t sizes[] = {256, 256, 256, 568, 4096};
+        script = Script(data, data_length);
+        size = sizes[script.below(5)];
+        length = std::min(STORE_ROOM, script.below(8) * 32 * size + script.below(64));
+        count = 0, is_sound = true, last_number = 0;
+        roots.assign(1, NONE);
+        cursor.assign(CURSOR, 0);
+        twice.store(std::vector<uint8_t>(length, 0xc3));
+    }
+
+    Call good(Entry entry) {
+        Call call{entry, size, count, NONE, length, {}, {}, {}, cursor};
+        call.scratch_length = florinwick_scratch_need(size);
+        return call;
+    }
+
+    Answer make(const Call &call) {
+        Answer answer = twice.call(call, is_sound);
+        uint64_t entry = static_cast<uint64_t>(call.entry);
+        note({entry, answer.number, is_sound, call.page_size});
+        note({entry, answer.number, last_number, 1});
+        note({entry, answer.number, about(answer.detail), 2});
+        note({entry, answer.number, about(answer.pages), about(call.batch.size() / 32), 3});
+        last_number = answer.number;
+        return answer;
+    }
+
+    // The newest root or another one, or a number that may be no root.
+    uint64_t root() {
+        uint8_t which = script.byte();
+        return which < 128 ? roots.back() : which < 248 ? roots[which % roots.size()] : script.number();
+    }
+
+    std::vector<uint8_t> batch(bool is_sorted) {
+        std::vector<Datom> datoms;
+        uint8_t kind = script.byte();
+        uint64_t amount = kind % 132;
+        if (kind < 132) {
+            // A run of entities.
+            uint64_t first = script.bytes(2), by = 1 + script.below(5), value = script.value();
+            for (uint64_t i = 0; i < amount; i++) {
+                datoms.push_back({first + i * by, 1, value, 3});
+            }
+        } else {
+            for (uint64_t i = 0; i < amount % 12; i++) {
+                datoms.push_back(script.datom());
+            }
+        }
+        if (is_sorted) {
+            std::sort(datoms.begin(), datoms.end(), is_below);
+        }
+        std::vector<uint8_t> bytes;
+        for (const Datom &datom : datoms) {
+            put(bytes, datom);
+        }
+        return bytes;
+    }
+
+    // Lengths and numbers that a call may not have.
+    void spoil(Call &call) {
+        uint64_t off = script.byte();
+        switch (script.below(9)) {
+        case 0: call.answer_length = off % 48; break;
+        case 1: call.page_size = script.number(); break;
+        case 2: call.page_count = script.number(); break;
+        case 3: call.scratch_length -= std::min<size_t>(call.scratch_length, off * off); break;
+        case 4: call.store_length -= std::min<size_t>(call.store_length, off * off); break;
+        case 5: call.batch.resize(call.batch.size() - std::min<size_t>(call.batch.size(), off % 33)); break;
+        case 6: call.cursor.resize(off % 2 ? off : CURSOR + off % 9); break;
+        case 7: call.datom_length = off % 48; break;
+        default: (off % 2 ? call.lower : call.upper).resize(off % 40);
+        }
+    }
+
+    void write() {
+        bool is_insert = script.below(4) != 0;
+        Call call = good(is_insert ? Entry::Insert : Entry::Initialise);
+        call.root = is_insert ? root() : NONE;
+        call.batch = batch(script.below(16) != 0);
+        bool is_spoilt = script.below(16) == 0;
+        if (is_spoilt) {
+            spoil(call);
+        }
+        Answer answer = make(call);
+        if (answer.number != 0) {
+            return;
+        }
+        if (is_spoilt) {
+            // It may have written over pages in use.
+            is_sound = false;
+            return;
+        }
+        count += answer.pages;
+        if (answer.root == NONE) {
+            return;
+        }
+        roots.push_back(answer.root);
+        note({7, level_of(twice.pages() + answer.root * size, size), about(count)});
+        if (is_sound) {
+            must_hold(answer.root, call);
+        }
+    }
+
+    // A batch that went in is met again at its root, and the tree is sound.
+    void must_hold(uint64_t root, const Call &call) {
+        Call again = good(Entry::Insert);
+        again.root = root, again.batch = call.batch;
+        if (!call.batch.empty()) {
+            Answer answer = make(again);
+            bool is_repeated = answer.number == 6 && answer.detail == 0;
+            // The batch of an initialise need not rise.
+            must(is_repeated || (call.entry == Entry::Initialise && answer.number == 4), "a batch that went in is not met again");
+        }
+        Call check = good(Entry::Check);
+        check.root = root;
+        must(make(check).number == 0, "a tree that was built by these calls is not sound");
+    }
+
+    void read_one() {
+        Call call = good(script.below(2) ? Entry::Check : Entry::Fetch);
+        call.root = root();
+        if (script.below(8) == 0) {
+            spoil(call);
+        }
+        make(call);
+    }
+
+    void list() {
+        Call call = good(Entry::Start);
+        call.root = root();
+        put(call.lower, script.below(3) ? Datom{script.bytes(2), 0, 0, 0} : script.datom());
+        put(call.upper, script.below(3) ? Datom{NONE, NONE, NONE, NONE} : script.datom());
+        if (script.below(16) == 0) {
+            spoil(call);
+        }
+        Answer answer = make(call);
+        if (answer.number == 0) {
+            cursor = answer.cursor;
+            step(is_sound);
+        }
+    }
+
+    // Steps from the cursor that is there, whose datoms rise if it is one of a sound tree.
+    void step(bool must_rise) {
+        Datom last{};
+        bool is_first = true;
+        for (uint64_t left = std::min<uint64_t>(script.byte(), MOST_STEPS); left > 0; left--) {
+            Answer answer = make(good(Entry::Step));
+            note({8, answer.number, about(word_at(cursor.data())), changes(answer.cursor, 1), changes(answer.cursor, 9) != 0});
+            if (answer.number != 0) {
+                must(!must_rise || answer.number == 32, "a listing of a sound tree is refused");
+                return;
+            }
+            Datom datom = datom_at(answer.datom.data());
+            must(!must_rise || is_first || is_below(last, datom), "a listing does not rise");
+            last = datom, is_first = false;
+            cursor = answer.cursor;
+        }
+    }
+
+    // Which of eight words of the cursor a step has changed.
+    uint64_t changes(const std::vector<uint8_t> &next, size_t first) const {
+        uint64_t changed = 0;
+        for (size_t i = 0; i < 8; i++) {
+            size_t at = 8 * (first + i);
+            changed |= static_cast<uint64_t>(word_at(cursor.data() + at) != word_at(next.data() + at)) << i;
+        }
+        return changed;
+    }
+
+    // Some words of the cursor are made up: a height, small indices, pages.
+    void make_up() {
+        for (uint64_t changes = 1 + script.below(6); changes > 0; changes--) {
+            uint64_t place = script.below(CURSOR / 8), word = script.number();
+            bool is_page = place > 8 && (place < 17 || place > 24);
+            word = is_page && word < 224 && count > 0 ? word % (count + 1) : place == 0 ? word % 11 : word;
+            memcpy(cursor.data() + 8 * place, &word, 8);
+        }
+        Call call = good(Entry::Step);
+        if (script.below(8) == 0) {
+            spoil(call);
+        }
+        make(call);
+        step(false);
+    }
+
+    // A byte of a page in use, mostly of its header, its children or a value.
+    void damage() {
+        if (count == 0) {
+            return;
+        }
+        size_t room = capacity(size), page = script.bytes(2) % count, at = script.byte();
+        size_t places[] = {40 * room + 8, 40 * room + 9, 32 * room + 8 * (at % (room + 1)) + at / 64, 32 * (at % room) + 23, at};
+        is_sound = false;
+        twice.poke(page * size + places[script.below(5)] % size, script.byte());
+    }
+
+    void run() {
+        for (size_t calls = 0; calls < MOST_CALLS && !script.is_over(); calls++) {
+            switch (script.below(8)) {
+            case 0: case 1: case 2: write(); break;
+            case 3: list(); break;
+            case 4: read_one(); break;
+            case 5: make_up(); break;
+            case 6: list(); break;
+            default: damage();
+            }
+        }
+    }
+};
+
+}
+
+extern "C" int LLVMFuzzerTestOneInput(const uint8_t *data, size_t length) {
+    static World world{Script(nullptr, 0), {}, 256, 0, 0, {}, true, 0, {}};
+    world.begin(data, length);
+    world.run();
+    return 0;
+}

@@ -27,9 +27,12 @@ use Rattle.records.specs.Laid.{laidCount, Laid, laid-all, laid-fits, fir
 unfoldable pub handedLength : ℕ → ℕ
 handedLength n = cond (ltb 128 n) 4128 (32 * n)
 
--- the records that were laid, before zeros
+-- the records that were laid, at the front of an array; of zeros, where they are handed on
+unfoldable pub handedIn : ℕ → List ℕ → List ℕ → List ℕ
+handedIn n s b = patch b 0 (take (32 * laidCount n (length s)) s)
+
 unfoldable pub handedArea : ℕ → List ℕ → List ℕ
-handedArea n s = patch (zeros 4128) 0 (take (32 * laidCount n (length s)) s)
+handedArea n s = handedIn n s (zeros 4128)
 
 unfoldable pub handedBytes : ℕ → List ℕ → List ℕ
 handedBytes n s = take (handedLength n) (handedArea n s)
@@ -42,14 +45,17 @@ handed-most n = side (ltb 128 n) refl
     side true e = omega arith
     side false e = omega (arith, ltb-false 128 n e)
 
--- the part of them that is handed on, in a list of bytes whose length is shut
-part-length : (n m : ℕ) (s z : List ℕ) → length z ≡ m → 32 * laidCount n (length s) ≤ m → length (patch z 0 (take (32 * laidCount n (length s)) s)) ≡ m
-part-length n m s z e h =
-    patch-length z 0 (take (32 * laidCount n (length s)) s) (omega (arith, length-take-le (32 * laidCount n (length s)) s (laid-fits n (length s) .1))) ∙ e
+in-length : (n : ℕ) (s b : List ℕ) → 4096 ≤ length b → length (handedIn n s b) ≡ length b
+unfolding handedIn
+in-length n s b h =
+    let f = laid-fits n (length s) in
+    patch-length b 0 (take (32 * laidCount n (length s)) s) (omega (arith, length-take-le (32 * laidCount n (length s)) s (f .1), f .2))
 
 pub area-length : (n : ℕ) (s : List ℕ) → length (handedArea n s) ≡ 4128
 unfolding handedArea
-area-length n s = part-length n 4128 s (zeros 4128) (length-replicate {A = ℕ} 4128 0) (omega (arith, laid-fits n (length s) .2))
+area-length n s =
+    let zs : length (zeros 4128) ≡ 4128 = length-replicate {A = ℕ} 4128 0 in
+    in-length n s (zeros 4128) (omega (arith, zs)) ∙ zs
 
 pub handed-fits : (n : ℕ) (s : List ℕ) (m : ℕ) (b : List ℕ) → m ≡ handedLength n → b ≡ handedArea n s → m ≤ length b
 handed-fits n s m b e f = rw (e, f, area-length n s) (handed-most n)
@@ -71,7 +77,7 @@ many-length n s h = rw (lt-ltb 128 n h) (length-take-le 4128 (handedArea n s) (o
 
 -- a batch that may be laid is handed on as it was laid
 few-handed : (n : ℕ) (s : List ℕ) → n ≤ 128 → 32 * n ≤ length s → handedBytes n s ≡ take (32 * n) s
-unfolding handedBytes handedLength handedArea patch
+unfolding handedBytes handedLength handedArea handedIn patch
 few-handed n s h f =
     rw (le-ltb 128 n h, laid-all n (length s) h f) (take-at (take (32 * n) s) _ (32 * n) (length-take-le (32 * n) s f))
 

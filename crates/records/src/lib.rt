@@ -13,7 +13,7 @@ ghost use Rattle.index.specs.Order.{eavt};
 ghost use Rattle.rules.specs.Insert.{insertBytes, initialiseBytes, insert as rulesInsert, initialise as rulesInitialise};
 ghost use Rattle.entry.specs.Reply.{Replies};
 ghost use Rattle.records.specs.Laid.{laidCount, Laid, firstOf};
-ghost use Rattle.records.specs.Handed.{handedLength, handedArea, handedBytes};
+ghost use Rattle.records.specs.Handed.{handedLength, handedIn, handedBytes};
 
 // How many of n records are laid into so many bytes: all of them, or none of a batch that is refused without a look at it.
 fn laid_count(n: usize, room: usize) -> usize
@@ -62,21 +62,21 @@ fn handed_length(n: usize) -> usize
     32 * n
 }
 
-// A copy of the records that `lay` has laid, since the byte entry gets the scratch to write in.
-fn handed(n: usize, s: &[u8]) -> [u8; 4128]
-    ensures { λ r. ⌜ r ≡ handedArea n (now (s .entry)) ⌝ }
+// The records that `lay` has laid go into an array of their own, since the byte entry gets the scratch to write in.
+fn hand(b: &mut [u8], n: usize, s: &[u8])
+    requires { ⌜ 4096 ≤ length (now b) ⌝ }
+    ensures { λ _. ⌜ now (b .exit) ≡ handedIn n (now (s .entry)) (now (b .entry)) ⌝ }
 {
-    let mut b = [0u8; 4128];
     let k = 32 * laid_count(n, s.len());
-    store::put(&mut b, 0, &s[..k]);
-    b
+    store::put(b, 0, &s[..k]);
 }
 
 // Inserts the n records that `lay` has seen at the front of the scratch.
 pub fn insert_laid(store: &mut [u8], extent: Extent, root: PageId, n: usize, s: &mut [u8]) -> Answer
     ensures { λ r. ⌜ Replies extent (now (store .entry)) (now (store .exit)) r (insertBytes eavt extent (now (store .entry)) (length (now (s .entry))) root (handedBytes n (now (s .entry)))) ⌝ }
 {
-    let b = handed(n, s);
+    let mut b = [0u8; 4128];
+    hand(&mut b, n, s);
     let m = handed_length(n);
     entry::insert(store, extent, root, &b[..m], s)
 }
@@ -99,7 +99,8 @@ pub fn insert(
 fn initialise_laid(store: &mut [u8], extent: Extent, n: usize, s: &mut [u8]) -> Answer
     ensures { λ r. ⌜ Replies extent (now (store .entry)) (now (store .exit)) r (initialiseBytes eavt extent (now (store .entry)) (length (now (s .entry))) (handedBytes n (now (s .entry)))) ⌝ }
 {
-    let b = handed(n, s);
+    let mut b = [0u8; 4128];
+    hand(&mut b, n, s);
     let m = handed_length(n);
     entry::initialise(store, extent, &b[..m], s)
 }

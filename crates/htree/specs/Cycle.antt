@@ -15,13 +15,12 @@ use Rattle.datom.specs.Datom.{datomOf, datomsOf}
 use Rattle.index.specs.Order.{eavt}
 use Rattle.answer.specs.declared.Refusal.{Refusal}
 use Rattle.answer.specs.declared.Refusal.the-variants.{Damaged}
-use Rattle.rules.specs.Page.{Node, nodeOf}
+use Rattle.rules.specs.Page.{Node, nodeOf, childrenOf, childAt}
 use Rattle.rules.specs.Node.{anyPending}
 use Rattle.rules.specs.Tree.{Stage, flush, flushAll, insertInto, settle}
 use Rattle.rules.specs.Store.{envOf}
 use Rattle.memory_store.specs.FetchLaws.{InOrder, in-order}
 use Rattle.node.specs.declared.Span.{Span}
-use Rattle.node.specs.Area.{childrenOf, childAt}
 use Rattle.node.specs.Spans.{Spans}
 use Rattle.node.specs.Moves.{moveOf, move-length}
 use Rattle.node.specs.Splice.{Spliced}

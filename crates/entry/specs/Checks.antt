@@ -100,29 +100,23 @@ module _ (x : Extent) (s : List ℕ) (L : ℕ) (b : List ℕ) where
       side false u false v = (u, ltb-false L (scratchNeed (capacity (x .size))) v)
 
   -- the two entries over bytes begin alike
-  refused-begun :
-      (r : Refusal) → countFor x s L b ≡ Refused r → (rest : Outcome) →
-      orElse refuse (storeFault x s L) (orElse refuse (bytesFault b) (orElse refuse (storeFault x s L) (orElse refuse (countFault (batchOf b)) rest))) ≡ refuse r
+  abbrev begun : Outcome → Outcome
+  begun rest =
+      orElse refuse (storeFault x s L) (orElse refuse (bytesFault b) (orElse refuse (storeFault x s L) (orElse refuse (countFault (batchOf b)) rest)))
+
+  refused-begun : (r : Refusal) → countFor x s L b ≡ Refused r → (rest : Outcome) → begun rest ≡ refuse r
   unfolding countFor
   refused-begun r e rest = side (storeFault x s L) refl
     where
-      side :
-          (f : Finding) → storeFault x s L ≡ f →
-          orElse refuse (storeFault x s L) (orElse refuse (bytesFault b) (orElse refuse (storeFault x s L) (orElse refuse (countFault (batchOf b)) rest))) ≡ refuse r
+      side : (f : Finding) → storeFault x s L ≡ f → begun rest ≡ refuse r
       side (found q) u = let k : Refused q ≡ Refused r = rw u at e in let g : q ≡ r = cc in rw (u, g)
       side clear u = elim (refused-count b r (rw u at e)) [ inl h ↦ rw (u, h) | inr h ↦ rw (u, h .0, h .1) ]
 
-  given-begun :
-      (n : ℕ) → countFor x s L b ≡ Datoms n → (rest : Outcome) →
-      (orElse refuse (storeFault x s L) (orElse refuse (bytesFault b) (orElse refuse (storeFault x s L) (orElse refuse (countFault (batchOf b)) rest))) ≡ rest)
-      × Passed x s (capacity (x .size)) b n L
+  given-begun : (n : ℕ) → countFor x s L b ≡ Datoms n → (rest : Outcome) → (begun rest ≡ rest) × Passed x s (capacity (x .size)) b n L
   unfolding countFor
   given-begun n e rest = side (storeFault x s L) refl
     where
-      side :
-          (f : Finding) → storeFault x s L ≡ f →
-          (orElse refuse (storeFault x s L) (orElse refuse (bytesFault b) (orElse refuse (storeFault x s L) (orElse refuse (countFault (batchOf b)) rest))) ≡ rest)
-          × Passed x s (capacity (x .size)) b n L
+      side : (f : Finding) → storeFault x s L ≡ f → (begun rest ≡ rest) × Passed x s (capacity (x .size)) b n L
       side (found q) u = let k : Refused q ≡ Datoms n = rw u at e in absurd (apart (cc))
       side clear u =
           let G = given-count b n (rw u at e) in

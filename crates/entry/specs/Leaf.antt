@@ -13,10 +13,9 @@ use Rattle.store.specs.Laws.{cells-length, page-length}
 use Rattle.store.specs.Cells.{take-patch, drop-patch, patch-length, cells-front}
 use Rattle.datom.specs.declared.Datom.{Datom}
 use Rattle.datom.specs.Datom.{datomOf, datomsOf}
-use Rattle.rules.specs.Page.{Node, nodeOf}
+use Rattle.rules.specs.Page.{Node, nodeOf, childrenOf, node-is}
 use Rattle.rules.specs.Tree.{Env, Stage, writeRoot}
 use Rattle.rules.specs.Insert.{outcome, leafOf, writeFresh}
-use Rattle.node.specs.Area.{childrenOf, node-is}
 use Rattle.node.specs.Stores.{child-front}
 
 -- a batch of n datoms stands where it was stored

@@ -1,14 +1,14 @@
 -- The store after a call: what could be fetched still can, and the pages written are fetched as the nodes that they were written from.
 -- Rests on Held and on the rules' round trip.
 use Prim.Native.Nat.{ℕ, zero, suc, _+_, _-_, _*_, _^_, _≤_, _<_}
-use native.Mathlib.Nat.{add-zero, suc-mul, mul-le-mul-left, mul-le-mul-right, div-le-self}
+use native.Mathlib.Nat.{suc-mul, mul-le-mul-left, mul-le-mul-right, div-le-self}
 use native.Mathlib.Omega.{arith}
 use mathlib.Core.Bool.{Bool, true, false}
-use mathlib.Core.List.{List, [], _∷_, _++_, append-assoc, append-nil}
+use mathlib.Core.List.{List, [], _∷_, _++_, append-assoc}
 use mathlib.Core.Path.{_≡_, refl, sym, _∙_, ap, subst}
 use borrow.Author.Tests.{ne-eqb, ltb-false, lt-ltb, le-ltb}
 use lib.Dec.{ltb}
-use lib.ListN.{length, take, drop, length-append, length-take, take-append-drop}
+use lib.ListN.{length, take, drop, length-append, length-take}
 use lib.Seq.{drop-drop, take-at, take-take, length-take-le, drop-append-add}
 use Rattle.store.specs.declared.PageId.{PageId}
 use Rattle.store.specs.declared.Extent.{Extent}
@@ -16,7 +16,7 @@ use Rattle.store.specs.Words.{spread, patch}
 use Rattle.store.specs.Page.{page as pageId}
 use Rattle.store.specs.Size.{capacity}
 use Rattle.store.specs.Laws.{apart, known-size}
-use Rattle.store.specs.Cells.{drop-take, take-patch, drop-patch}
+use Rattle.store.specs.Cells.{drop-take, take-patch, drop-patch, patch-none}
 use Rattle.index.specs.Order.{DatomOrd}
 use Rattle.index.specs.Laws.{Preorder}
 use Rattle.rules.specs.Page.{Node, encodePage}
@@ -61,8 +61,8 @@ store-keeps x s fits o = take-patch s (x .count * x .size) _ fits
 
 -- a call that writes no page leaves every byte
 pub store-same : (x : Extent) (s : List ℕ) → storeAfter x s [] ≡ s
-unfolding storeAfter patch spread
-store-same x s = rw (append-nil, add-zero) (take-append-drop (x .count * x .size) s)
+unfolding storeAfter spread
+store-same x s = patch-none s (x .count * x .size)
 
 pub env-ok :
     (t : DatomOrd) → Preorder (t .cmp) → (x : Extent) (s : List ℕ) → (capacity (x .size) ≡ 0 → ⊥) → x .count * x .size ≤ length s →

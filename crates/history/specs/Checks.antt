@@ -16,8 +16,8 @@ use Rattle.answer.specs.declared.Refusal.{Refusal}
 use Rattle.answer.specs.declared.Refusal.the-variants.{TooMany, BadDatom, OutOfOrder}
 use Rattle.rules.specs.Lookup.{Finding, clear, found}
 use Rattle.rules.specs.Insert.{countFault, formFault, lowFault, orderFault, anySame, twinFault, bytesFault}
-use Rattle.rules.specs.Lists.{In, Rising, less}
-use Rattle.history.specs.Order.{clash, below-all}
+use Rattle.rules.specs.Lists.{In, Rising, less, below-all}
+use Rattle.history.specs.Order.{clash}
 use Rattle.history.specs.Sort.{Distinct}
 
 -- a refusal by 2, 3 or 4

@@ -10,9 +10,9 @@ use Rattle.index.specs.Order.{isLess}
 use Rattle.index.specs.Laws.{Preorder}
 use Rattle.rules.specs.Node.{mergeDatoms, mergeChildren, meets}
 use Rattle.rules.specs.Tree.{Fetched}
-use Rattle.rules.specs.Lists.{In, Rising, less, turned}
+use Rattle.rules.specs.Lists.{In, Rising, less, turned, below-all}
 use Rattle.rules.specs.MergeLaws.{merge-out}
-use Rattle.history.specs.Order.{not-both, other, below-all}
+use Rattle.history.specs.Order.{not-both, other}
 use Rattle.history.specs.Tree.{Tree, blank, last, item, InTree, own, Good, Exactly, item-in, pend-in, Apart, pending, pending-in, pending-own, alone, pending-good}
 use Rattle.history.specs.Pages.{page, Holds, noPage, hLast, hItem, holds-pending, none-is}
 

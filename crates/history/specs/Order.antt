@@ -2,7 +2,6 @@
 -- be the same.
 use Prim.Native.Nat.{Ordering, Ordering·lt, Ordering·eq, Ordering·gt}
 use mathlib.Core.Bool.{Bool, true, false, not}
-use mathlib.Core.List.{List, _∷_}
 use mathlib.Core.Logic.{_⊎_, inl, inr}
 use mathlib.Core.Path.{_≡_, refl, sym, _∙_}
 use Rattle.store.specs.Laws.{apart}
@@ -10,7 +9,7 @@ use Rattle.datom.specs.declared.Datom.{Datom}
 use Rattle.index.specs.Order.{isLess}
 use Rattle.index.specs.Laws.{Preorder}
 use Rattle.rules.specs.Node.{below}
-use Rattle.rules.specs.Lists.{In, Rising, turned}
+use Rattle.rules.specs.Lists.{turned}
 
 pub clash : {b : Bool} → b ≡ false → b ≡ true → ⊥
 clash u v = apart (cc)
@@ -112,9 +111,3 @@ module _ (cmp : Datom → Datom → Ordering) (L : Preorder cmp) where
 
   pub up-front : (d : Datom) → Front cmp (upTo cmp d)
   up-front d x y a b = up-true cmp λ q. clash (up-false cmp (L .trans d x y q a)) b
-
-  -- what is below the head of a rising list is below all of it
-  pub below-all :
-      (d x : Datom) (xs : List Datom) → cmp d x ≡ Ordering·lt → Rising cmp (x ∷ xs) → (y : Datom) → In y (x ∷ xs) → cmp d y ≡ Ordering·lt
-  below-all d x xs e r y (inl i) = rw i e
-  below-all d x xs e r y (inr i) = L .trans d x y e (r .0 y i)

@@ -10,9 +10,9 @@ use Rattle.index.specs.Order.{isLess}
 use Rattle.index.specs.Laws.{Preorder}
 use Rattle.rules.specs.Node.{below}
 use Rattle.rules.specs.Insert.{place, sort}
-use Rattle.rules.specs.Lists.{In, in-append, Rising, less, turned}
+use Rattle.rules.specs.Lists.{In, in-append, Rising, less, turned, below-all}
 use Rattle.history.specs.Statement.{within}
-use Rattle.history.specs.Order.{clash, not-both, same-below, other, below-all}
+use Rattle.history.specs.Order.{clash, not-both, same-below, other}
 
 -- no two equal
 abbrev pub Distinct : (Datom → Datom → Ordering) → List Datom → Type 0

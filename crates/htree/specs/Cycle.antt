@@ -15,13 +15,12 @@ use Rattle.datom.specs.Datom.{datomOf, datomsOf}
 use Rattle.index.specs.Order.{eavt}
 use Rattle.answer.specs.declared.Refusal.{Refusal}
 use Rattle.answer.specs.declared.Refusal.the-variants.{Damaged}
-use Rattle.rules.specs.Page.{Node, nodeOf}
+use Rattle.rules.specs.Page.{Node, nodeOf, childrenOf, childAt}
 use Rattle.rules.specs.Node.{anyPending}
 use Rattle.rules.specs.Tree.{Stage, flush, flushAll, insertInto, settle}
 use Rattle.rules.specs.Store.{envOf}
 use Rattle.memory_store.specs.FetchLaws.{InOrder, in-order}
 use Rattle.node.specs.declared.Span.{Span}
-use Rattle.node.specs.Area.{childrenOf, childAt}
 use Rattle.node.specs.Spans.{Spans}
 use Rattle.node.specs.Moves.{moveOf, move-length}
 use Rattle.node.specs.Splice.{Spliced}
@@ -39,8 +38,22 @@ use Rattle.htree.specs.Flush.{below, flush-stops, flush-goes, comes-back
 pub area-fits : (l A B L : ℕ) → (l + 1) * A + B ≤ L → A + B ≤ L
 area-fits l A B L h = omega (arith, add-mul l 1 A, one-mul A)
 
-pub areas-fit : (l A B L : ℕ) → 0 < l → (l + 1) * A + B ≤ L → l * A + B ≤ L - A
+areas-fit : (l A B L : ℕ) → 0 < l → (l + 1) * A + B ≤ L → l * A + B ≤ L - A
 areas-fit l A B L p h = omega (arith, add-mul l 1 A, one-mul A)
+
+pub lower : (l : ℕ) → 0 < l → l - 1 + 1 ≡ l
+lower l h = omega arith
+
+-- the room of a flush at level l, in L bytes: its own area of A bytes, and behind it those of the lower levels and a batch of B bytes
+pub record Rooms (l A B L : ℕ) : Type 0 where
+  pub own : A + B ≤ L
+  pub behind : l * A + B ≤ L - A
+  pub next : A + B ≤ L - A
+
+pub rooms : (l A B L : ℕ) → 0 < l → (l + 1) * A + B ≤ L → Rooms l A B L
+rooms l A B L p h =
+    let g = areas-fit l A B L p h in
+    record { own = area-fits l A B L h; behind = g; next = area-fits (l - 1) A B (L - A) (rw (lower l p) g) }
 
 -- the loop: it drains whatever was written before
 pub record Drains (x : Extent) (s₀ : List ℕ) (c w l m n : ℕ) (a₀ s a : List ℕ) (turns count next : ℕ) : Type 0 where
@@ -173,9 +186,6 @@ module _ (x : Extent) (s : List ℕ) (c w l m n : ℕ) (a : List ℕ) (R : Ready
         (flush-goes x s l m n a sp P (below x s l) _ batch-is o (went (T o e)) a₁
         (λ l₁. rw (node-same b₁, given-back own sentTo b₁ (omega (arith, sent-length))) at (S .node l l₁))
         (omega (arith, flush-back s₁ b₁ j v T, P .rises, P .within)))
-
-pub lower : (l : ℕ) → 0 < l → l - 1 + 1 ≡ l
-lower l h = omega arith
 
 -- insert into a page, from what was loaded
 module _ (x : Extent) (s : List ℕ) (c w l : ℕ) (p : PageId) (a : List ℕ) (m n : ℕ) (a₁ : List ℕ) where

@@ -19,7 +19,7 @@ use Rattle.datom.specs.Datom.{datomOf, datomsOf}
 use Rattle.index.specs.Order.{eavt}
 use Rattle.answer.specs.declared.Refusal.{Refusal}
 use Rattle.answer.specs.declared.Refusal.the-variants.{Damaged}
-use Rattle.rules.specs.Page.{Node, nodeOf}
+use Rattle.rules.specs.Page.{Node, nodeOf, childrenOf, childAt}
 use Rattle.rules.specs.Node.{longestSpan, anyPending, splice}
 use Rattle.rules.specs.Tree.{Env, Stage, stop, go, then, fetchAt, isOver, settle, Below, flush, flushAll, insertMerged, insertInto}
 use Rattle.rules.specs.Store.{envOf}
@@ -27,7 +27,6 @@ use Rattle.rules.specs.Reads.{env-capped}
 use Rattle.rules.specs.Sizes.{Capped, Few, flush-no-bigger, insert-gives-few}
 use Rattle.memory_store.specs.FetchLaws.{InOrder}
 use Rattle.node.specs.declared.Span.{Span}
-use Rattle.node.specs.Area.{childrenOf, childAt}
 use Rattle.node.specs.Spans.{Spans}
 use Rattle.htree.specs.Wrote.{Wrote, wrote-none, wrote-more, wrote-env}
 use Rattle.htree.specs.Told.{Ready, Went, Stopped}

@@ -16,10 +16,10 @@ use Rattle.datom.specs.Datom.{datomsBytes, datomOf}
 use Rattle.index.specs.Order.{eavt}
 use Rattle.answer.specs.declared.Refusal.the-variants.{TooTall, NoRoom}
 use Rattle.rules.specs.Page.{Node, nodeOf, encodePage}
+use Rattle.rules.specs.Node.{partOf}
 use Rattle.rules.specs.Tree.{put}
 use Rattle.rules.specs.Store.{envOf}
 use Rattle.rules.specs.Round.{datoms-length}
-use Rattle.memory_store.specs.Layout.{partOf}
 use Rattle.htree.specs.declared.place.Put.the-variants.{Placed, Failed}
 use Rattle.htree.specs.Wrote.{Wrote}
 use Rattle.htree.specs.Told.{PutTold, put-placed, put-failed}

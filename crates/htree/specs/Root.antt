@@ -14,13 +14,12 @@ use Rattle.store.specs.Size.{capacity}
 use Rattle.store.specs.Laws.{Known, apart}
 use Rattle.index.specs.Order.{eavt}
 use Rattle.answer.specs.declared.Refusal.{Refusal}
-use Rattle.rules.specs.Page.{Node, nodeOf}
+use Rattle.rules.specs.Page.{Node, nodeOf, childrenOf, childAt}
 use Rattle.rules.specs.Node.{splitUp, splitParts}
 use Rattle.rules.specs.Tree.{Env, Stage, stop, go, then, put, putAll, split, isOver, rootOf, writeRoot}
 use Rattle.rules.specs.Store.{envOf}
 use Rattle.rules.specs.SplitLaws.{split-shrinks}
 use Rattle.memory_store.specs.FetchLaws.{InOrder, in-order}
-use Rattle.node.specs.Area.{childrenOf, childAt}
 use Rattle.htree.specs.declared.place.Put.the-variants as put
 use Rattle.htree.specs.declared.place.Inserted.the-variants as inserted
 use Rattle.htree.specs.declared.root.Rooted.{Rooted}

@@ -5,12 +5,11 @@ use native.Mathlib.Omega.{arith}
 use mathlib.Core.List.{List, [], _∷_, append-nil}
 use mathlib.Core.Path.{_≡_, _∙_}
 use borrow.Author.Tests.{lt-ltb, le-ltb}
-use lib.ListN.{length, drop}
-use lib.Seq.{take-all}
+use lib.ListN.{length}
 use Rattle.store.specs.declared.PageId.{PageId}
 use Rattle.store.specs.declared.Extent.{Extent}
 use Rattle.store.specs.Words.{cells, patch}
-use Rattle.store.specs.Page.{pageOf, pageBytes}
+use Rattle.store.specs.Page.{pageBytes}
 use Rattle.store.specs.Size.{capacity}
 use Rattle.store.specs.Laws.{Known, cells-length}
 use Rattle.datom.specs.Datom.{datomOf}
@@ -19,21 +18,11 @@ use Rattle.answer.specs.declared.Refusal.{Refusal}
 use Rattle.rules.specs.Page.{Node, nodeOf}
 use Rattle.rules.specs.Tree.{Env, go, then, put, split, isOver, settle}
 use Rattle.rules.specs.Store.{envOf}
-use Rattle.memory_store.specs.Layout.{partOf}
 use Rattle.memory_store.specs.FetchLaws.{InOrder, in-order}
 use Rattle.node.specs.Parts.{splitting-start, splitting-end}
 use Rattle.htree.specs.declared.place.Put.the-variants as put
 use Rattle.htree.specs.Told.{Ready, PutTold, put-is, put-is-not, Went, Stopped}
 use Rattle.htree.specs.Wrote.{Wrote, wrote-none}
-
--- all of a node is a part of it
-pub whole-part : (m l n : ℕ) (s : List ℕ) → partOf 0 n (nodeOf m l n s) ≡ nodeOf m l n s
-unfolding partOf nodeOf
-whole-part m l n s =
-    rw (
-      take-all n (cells datomOf 32 n s) (omega (arith, cells-length datomOf 32 n s)),
-      take-all (suc n) (cells pageOf 8 (suc n) (drop (32 * m) s)) (omega (arith, cells-length pageOf 8 (suc n) (drop (32 * m) s))),
-    )
 
 -- the pages past the count, as the code counts them
 pub ready-next : {x : Extent} {s : List ℕ} {c w : ℕ} → Ready x s c w → x .count + w ≤ length s

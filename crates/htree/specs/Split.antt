@@ -17,15 +17,13 @@ use Rattle.datom.specs.declared.Datom.{Datom}
 use Rattle.datom.specs.Datom.{datomAt, datomsOf}
 use Rattle.index.specs.Order.{eavt}
 use Rattle.answer.specs.declared.Refusal.{Refusal}
-use Rattle.rules.specs.Page.{Node, nodeOf}
-use Rattle.rules.specs.Node.{share, parts, between, pagesFor, splitParts, splitUp}
+use Rattle.rules.specs.Page.{Node, childrenOf, nodeOf}
+use Rattle.rules.specs.Node.{share, parts, between, pagesFor, splitParts, splitUp, partOf}
 use Rattle.rules.specs.Tree.{Env, Stage, stop, go, then, put, putAll, split}
 use Rattle.rules.specs.Store.{envOf}
-use Rattle.rules.specs.SplitLaws.{Shares, shares}
-use Rattle.memory_store.specs.Layout as layout
+use Rattle.rules.specs.SplitLaws.{share-some, share-most, Shares, shares}
 use Rattle.memory_store.specs.FetchLaws.{InOrder, in-order}
-use Rattle.node.specs.Area.{childrenOf, partOf}
-use Rattle.node.specs.Parts.{Splitting, part-is, parts-step, between-step, splitting-on, splitting-end, splitting-start, parts-start, between-start, share-some, share-left, share-inner, share-next}
+use Rattle.node.specs.Parts.{Splitting, parts-step, between-step, splitting-on, splitting-end, splitting-start, parts-start, between-start, share-left, share-inner, share-next}
 use Rattle.htree.specs.declared.place.Put.{Put}
 use Rattle.htree.specs.declared.place.Put.the-variants as put
 use Rattle.htree.specs.Wrote.{Wrote, wrote-none, wrote-more, wrote-length, wrote-bad, wrote-env}
@@ -132,7 +130,7 @@ module _ (x : Extent) (s₀ : List ℕ) (w l m n : ℕ) (a₀ : List ℕ) (o : L
     done-count = omega (arith, length-append o (H .new), H .count)
 
     abbrev pub part : Node
-    part = partOf m l i (k - 1) a
+    part = partOf i (k - 1) (nodeOf m l n a)
 
     -- what the rules still have to write begins with it
     module _ (h : p < P) where
@@ -148,7 +146,7 @@ module _ (x : Extent) (s₀ : List ℕ) (w l m n : ℕ) (a₀ : List ℕ) (o : L
       left : parts l (P - p) q (r - p) (drop i (datomsOf n a₀)) (drop i (childrenOf m (suc n) a₀)) ≡ part ∷ rest
       left =
           ap (λ (j : ℕ). parts l j q (r - p) (drop i (datomsOf n a₀)) (drop i (childrenOf m (suc n) a₀))) one
-          ∙ parts-step (H .area) q (r - p) some l (P - (p + 1)) (omega (arith, sum))
+          ∙ parts-step (H .area) q (r - p) some l (P - (p + 1))
           ∙ ap (λ (j : ℕ). part ∷ parts l (P - (p + 1)) q j (drop (i + k) (datomsOf n a₀)) (drop (i + k) (childrenOf m (suc n) a₀))) (share-next r p)
 
     -- and the midpoints begin with the datom behind it
@@ -238,14 +236,9 @@ module _ (x : Extent) (s₀ : List ℕ) (w l m n : ℕ) (a₀ : List ℕ) (o : L
           wrote = rw here (wrote-more x s₀ w (H .wrote) (rw (done-count ∙ H .count) at (u .1)));
         }
 
--- a part as the page writer is given it, and as it stands in the area
-pub part-same : (m l n i a : ℕ) (s : List ℕ) → i + a ≤ n → layout.partOf i a (nodeOf m l n s) ≡ partOf m l i a s
-unfolding layout.partOf nodeOf
-part-same m l n i a s h = sym (part-is m l n i a s h)
-
 -- one part of a split: the page, and what becomes of the area
-pub record Parted (x : Extent) (s s₁ : List ℕ) (w l m p i k : ℕ) (a a₁ : List ℕ) (r : Put) : Type 0 where
-  pub page : (o : List Node) → length o ≡ w → PutTold x s s₁ (partOf m l i (k - 1) a) o r (put (envOf eavt x s) (partOf m l i (k - 1) a) o)
+pub record Parted (x : Extent) (s s₁ : List ℕ) (w l m n p i k : ℕ) (a a₁ : List ℕ) (r : Put) : Type 0 where
+  pub page : (o : List Node) → length o ≡ w → PutTold x s s₁ (partOf i (k - 1) (nodeOf m l n a)) o r (put (envOf eavt x s) (partOf i (k - 1) (nodeOf m l n a)) o)
   pub area : (id : PageId) → r ≡ put.Placed id → a₁ ≡ patch (patch a (32 * p) (take 32 (drop (32 * (i + k - 1)) a))) (32 * m + 8 * p) (pageBytes id)
 
 -- how a node that is over C is divided: P parts of q children, r of them with one more
@@ -280,12 +273,6 @@ divided c n P q r pos over e f g =
       rest = rw u (mod-lt (suc n) (omega (arith, S .pages)));
       most = omega (arith, S .pages, S .most);
     }
-
--- what a share is at most
-share-most : (c q r : ℕ) → q ≤ c + 1 → (0 < r → q + 1 ≤ c + 1) → share q r ≤ c + 1
-unfolding share
-share-most c q zero a b = a
-share-most c q (suc r) a b = omega (arith, b (omega arith))
 
 -- what the loop keeps: it stands halfway whatever was written before, and a part is left to do
 pub record Looping (x : Extent) (s₀ : List ℕ) (c w l : ℕ) (a₀ : List ℕ) (m n P q r : ℕ) (s a : List ℕ) (p i next : ℕ) : Type 0 where
@@ -330,7 +317,7 @@ module _ {x : Extent} {s₀ : List ℕ} {c w l : ℕ} {a₀ : List ℕ} {m n P q
   pub looping-share : (0 < share q (r - p)) × (share q (r - p) ≤ c + 1) × (i + share q (r - p) ≤ suc n)
   looping-share = (
     share-some q (r - p) (L .divided .full),
-    share-most c q (r - p) (L .divided .fit) (λ h. L .divided .fit₁ (omega arith)),
+    share-most q (r - p) (c + 1) (L .divided .fit) (λ h. L .divided .fit₁ (omega arith)),
     omega (arith, sum x s₀ w l m n a₀ (blanks w) (blanks-length w) some (L .divided .full) (L .left)),
   )
 
@@ -361,7 +348,7 @@ module _ {x : Extent} {s₀ : List ℕ} {c w l : ℕ} {a₀ : List ℕ} {m n P q
 
   module _ (fit : n ≤ m) (big : 40 * m + 8 ≤ length a₀) where
     pub looping-on :
-        (k : ℕ) → k ≡ share q (r - p) → p + 1 < P → (s₁ a₁ : List ℕ) (id : PageId) → Parted x s s₁ next l m p i k a a₁ (put.Placed id) →
+        (k : ℕ) → k ≡ share q (r - p) → p + 1 < P → (s₁ a₁ : List ℕ) (id : PageId) → Parted x s s₁ next l m n p i k a a₁ (put.Placed id) →
         Looping x s₀ c w l a₀ m n P q r s₁ a₁ (p + 1) (i + k) (next + 1)
     looping-on k e h s₁ a₁ id T =
         record {
@@ -376,7 +363,7 @@ module _ {x : Extent} {s₀ : List ℕ} {c w l : ℕ} {a₀ : List ℕ} {m n P q
         }
 
     pub looping-end :
-        p + 1 ≡ P → (s₁ : List ℕ) (id : PageId) → Puts x s s₁ next (partOf m l i (n - i) a) (put.Placed id) → (o : List Node) → length o ≡ w →
+        p + 1 ≡ P → (s₁ : List ℕ) (id : PageId) → Puts x s s₁ next (partOf i (n - i) (nodeOf m l n a)) (put.Placed id) → (o : List Node) → length o ≡ w →
         Went x s₀ s₁ m (patch a (32 * m + 8 * p) (pageBytes id)) o p (next + 1) (split (envOf eavt x s₀) (nodeOf m l n a₀) o)
     looping-end h s₁ id T o here =
         let H = L .half o here in
@@ -384,7 +371,7 @@ module _ {x : Extent} {s₀ : List ℕ} {c w l : ℕ} {a₀ : List ℕ} {m n P q
         (rw (← looping-last h .0) at (T (o ++ H .new) (done-count x s₀ w l m n a₀ o here H (L .divided .full))))
 
   pub looping-stop :
-      (k : ℕ) → k ≡ share q (r - p) → (s₁ a₁ : List ℕ) (f : Refusal) → Parted x s s₁ next l m p i k a a₁ (put.Failed f) → (o : List Node) → length o ≡ w →
+      (k : ℕ) → k ≡ share q (r - p) → (s₁ a₁ : List ℕ) (f : Refusal) → Parted x s s₁ next l m n p i k a a₁ (put.Failed f) → (o : List Node) → length o ≡ w →
       Stopped x s₀ s₁ o f next (split (envOf eavt x s₀) (nodeOf m l n a₀) o)
   looping-stop k e s₁ a₁ f T o here =
       let H = L .half o here in
@@ -392,7 +379,7 @@ module _ {x : Extent} {s₀ : List ℕ} {c w l : ℕ} {a₀ : List ℕ} {m n P q
       (rw e at (T .page (o ++ H .new) (done-count x s₀ w l m n a₀ o here H (L .divided .full))))
 
   pub looping-refused :
-      p + 1 ≡ P → (s₁ : List ℕ) (f : Refusal) → Puts x s s₁ next (partOf m l i (n - i) a) (put.Failed f) → (o : List Node) → length o ≡ w →
+      p + 1 ≡ P → (s₁ : List ℕ) (f : Refusal) → Puts x s s₁ next (partOf i (n - i) (nodeOf m l n a)) (put.Failed f) → (o : List Node) → length o ≡ w →
       Stopped x s₀ s₁ o f next (split (envOf eavt x s₀) (nodeOf m l n a₀) o)
   looping-refused h s₁ f T o here =
       let H = L .half o here in

@@ -6,7 +6,7 @@ ghost use mathlib.Core.Path.{_≡_};
 ghost use Prim.Native.Nat.{_+_, _*_, _-_, _≤_, _<_};
 ghost use lib.ListN.{length};
 ghost use Rattle.rules.specs.Page.{nodeOf};
-ghost use Rattle.memory_store.specs.Layout.{partOf};
+ghost use Rattle.rules.specs.Node.{partOf};
 ghost use Rattle.index.specs.Order.{eavt};
 ghost use Rattle.rules.specs.Tree.{split, settle};
 ghost use Rattle.rules.specs.Store.{envOf};
@@ -70,7 +70,7 @@ fn split_part(
     k: usize,
 ) -> Put
     requires { ⌜ Ready extent (now store) c written × (40 * m + 8 ≤ length (now s)) × (n ≤ m) × (0 < k) × (i + k ≤ n) × (k ≤ c + 1) × (p ≤ i) ⌝ }
-    ensures { λ r. ⌜ Parted extent (now (store .entry)) (now (store .exit)) written level m p i k (now (s .entry)) (now (s .exit)) r ⌝ }
+    ensures { λ r. ⌜ Parted extent (now (store .entry)) (now (store .exit)) written level m n p i k (now (s .entry)) (now (s .exit)) r ⌝ }
 {
     match put_part(store, extent, c, written, level, s, m, n, i, k - 1) {
         Put::Placed(id) => {

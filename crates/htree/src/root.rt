@@ -9,10 +9,9 @@ ghost use mathlib.Core.Path.{_≡_};
 ghost use Prim.Native.Nat.{suc, _+_, _*_, _≤_};
 ghost use lib.ListN.{length};
 ghost use Rattle.index.specs.Order.{eavt};
-ghost use Rattle.rules.specs.Page.{nodeOf};
+ghost use Rattle.rules.specs.Page.{childrenOf, nodeOf};
 ghost use Rattle.rules.specs.Tree.{rootOf, writeRoot};
 ghost use Rattle.rules.specs.Store.{envOf};
-ghost use Rattle.node.specs.Area.{childrenOf};
 ghost use Rattle.htree.specs.Told.{Ready};
 ghost use Rattle.htree.specs.Root.{Roots};
 

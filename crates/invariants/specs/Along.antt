@@ -8,8 +8,7 @@ use mathlib.Core.Path.{_≡_, sym, _∙_}
 use lib.ListN.{length, drop}
 use Rattle.store.specs.declared.PageId.{PageId}
 use Rattle.store.specs.declared.Extent.{Extent}
-use Rattle.store.specs.Words.{wordAt}
-use Rattle.store.specs.Page.{page, isNone}
+use Rattle.store.specs.Page.{isNone}
 use Rattle.store.specs.Size.{capacity}
 use Rattle.datom.specs.declared.Datom.{Datom}
 use Rattle.datom.specs.Datom.{datomsOf}
@@ -17,6 +16,7 @@ use Rattle.index.specs.Order.{cmpEavt, eavt}
 use Rattle.answer.specs.declared.Refusal.{Refusal}
 use Rattle.answer.specs.declared.Check.{Check}
 use Rattle.answer.specs.declared.Check.the-variants.{Sound, Unsound, Refused}
+use Rattle.rules.specs.Page.{childAt}
 use Rattle.rules.specs.Tree.{fine}
 use Rattle.rules.specs.Store.{badStore, pageAt, fetched, fetchPage}
 use Rattle.rules.specs.Check.{belowUpper}
@@ -74,7 +74,7 @@ module _ {x : Extent} {s : List ℕ} {c l : ℕ} {p : PageId} {k : ℕ} {b : Lis
       pub along-outside : belowUpper cmpEavt last next ≡ false → Unsound p ≡ checkPage x s l p lower upper
       along-outside e = sym (left-outside (underOf (fetchPage eavt x s) l) p c k b upper i last midpoint h next n e) ∙ A .whole
 
-      module _ (within : belowUpper cmpEavt last next ≡ true) (child : PageId) (at : child ≡ page (wordAt b (32 * c + 8 * i))) where
+      module _ (within : belowUpper cmpEavt last next ≡ true) (child : PageId) (at : child ≡ childAt c b i) where
         goes :
             (m : Option Datom) →
             leftOf (underOf (fetchPage eavt x s) l) p c k b upper i last midpoint ≡ leftOf (underOf (fetchPage eavt x s) l) p c k b upper (i + 1) next m →

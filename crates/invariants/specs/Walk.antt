@@ -12,8 +12,7 @@ use lib.ListN.{drop, getD}
 use lib.Seq.{drop-drop}
 use Rattle.store.specs.declared.PageId.{PageId}
 use Rattle.store.specs.declared.Extent.{Extent}
-use Rattle.store.specs.Words.{wordAt}
-use Rattle.store.specs.Page.{page, none, isNone}
+use Rattle.store.specs.Page.{none, isNone}
 use Rattle.store.specs.Size.{capacity}
 use Rattle.store.specs.Cells.{cells-end, pages-from}
 use Rattle.datom.specs.declared.Datom.{Datom}
@@ -25,11 +24,10 @@ use Rattle.answer.specs.declared.Fault.the-variants.{WrongLevel}
 use Rattle.answer.specs.declared.Refusal.{Refusal}
 use Rattle.answer.specs.declared.Check.{Check}
 use Rattle.answer.specs.declared.Check.the-variants.{Sound, Unsound, Refused}
-use Rattle.rules.specs.Page.{nodeOf}
+use Rattle.rules.specs.Page.{childAt, childrenOf, nodeOf}
 use Rattle.rules.specs.Tree.{Fetched, faulty, fine, atLevel}
 use Rattle.rules.specs.Store.{pageAt, fetchPage}
 use Rattle.rules.specs.Check.{belowUpper, Under, checkChild, midpointNext, walk, checkAt}
-use Rattle.memory_store.specs.Layout.{childrenOf}
 use Rattle.memory_store.specs.Readable.{nodeAt}
 use Rattle.invariants.specs.Bounds.{boundAt}
 
@@ -83,7 +81,7 @@ module _ (under : Under) (p : PageId) (cs : List PageId) (last midpoint upper : 
 -- what is left of a walk at index i of a page of k datoms, with room for c
 unfoldable pub leftOf : Under → PageId → ℕ → ℕ → List ℕ → Option Datom → ℕ → Option Datom → Option Datom → Check
 leftOf under p c k b upper i last midpoint =
-    cond (leb i k) (walk cmpEavt under p (drop i (datomsOf k b)) (drop i (childrenOf c k b)) last midpoint upper) Sound
+    cond (leb i k) (walk cmpEavt under p (drop i (datomsOf k b)) (drop i (childrenOf c (suc k) b)) last midpoint upper) Sound
 
 module _ (under : Under) (p : PageId) (c k : ℕ) (b : List ℕ) (upper : Option Datom) (i : ℕ) (last midpoint : Option Datom) where
   abbrev left : Check
@@ -98,12 +96,12 @@ module _ (under : Under) (p : PageId) (c k : ℕ) (b : List ℕ) (upper : Option
     unfolding leftOf
     left-outside e = rw (le-leb i k h) (turn-outside under p _ last midpoint upper (drop i (datomsOf k b)) (rw (← n) e))
 
-    module _ (within : belowUpper cmpEavt last next ≡ true) (ch : PageId) (at : ch ≡ page (wordAt b (32 * c + 8 * i))) where
-      here : getD (drop i (childrenOf c k b)) 0 none ≡ ch
+    module _ (within : belowUpper cmpEavt last next ≡ true) (ch : PageId) (at : ch ≡ childAt c b i) where
+      here : getD (drop i (childrenOf c (suc k) b)) 0 none ≡ ch
       here = rw (pages-from (suc k) i (32 * c) b (omega arith)) (sym at)
 
-      rest : drop 1 (drop i (childrenOf c k b)) ≡ drop (i + 1) (childrenOf c k b)
-      rest = drop-drop 1 i (childrenOf c k b)
+      rest : drop 1 (drop i (childrenOf c (suc k) b)) ≡ drop (i + 1) (childrenOf c (suc k) b)
+      rest = drop-drop 1 i (childrenOf c (suc k) b)
 
       -- at the last child, and before it
       ends : k ≤ i → drop i (datomsOf k b) ≡ []
@@ -197,7 +195,7 @@ module _ (x : Extent) (s : List ℕ) (l : ℕ) (p : PageId) (lower upper : Optio
 
     walked :
         (v : ℕ) →
-        walk cmpEavt (underOf (fetchPage eavt x s) v) p (datomsOf k (pageAt x s p)) (childrenOf (capacity (x .size)) k (pageAt x s p)) lower lower upper
+        walk cmpEavt (underOf (fetchPage eavt x s) v) p (datomsOf k (pageAt x s p)) (childrenOf (capacity (x .size)) (suc k) (pageAt x s p)) lower lower upper
         ≡ checkAt cmpEavt (fetchPage eavt x s) v p lower upper (fine (nodeAt x s p m k))
     unfolding checkAt underOf nodeOf
     walked zero = refl

@@ -14,12 +14,11 @@ use Rattle.index.specs.Order.{eavt}
 use Rattle.answer.specs.declared.Refusal.the-variants.{Damaged}
 use Rattle.answer.specs.declared.Cursor.{Cursor}
 use Rattle.answer.specs.declared.Step.the-variants as step
-use Rattle.rules.specs.Page.{nodeOf}
+use Rattle.rules.specs.Page.{childrenOf, nodeOf}
 use Rattle.rules.specs.Node.{isMidpoint}
 use Rattle.rules.specs.Tree.{fine}
 use Rattle.rules.specs.Store.{pageAt, fetchPage}
 use Rattle.rules.specs.Listing.{never, cursorOf, endFrames, refuseStep}
-use Rattle.memory_store.specs.Layout.{childrenOf}
 use Rattle.listing.specs.declared.way.Way.{Way}
 use Rattle.listing.specs.declared.descent.Descent.{Descent}
 use Rattle.listing.specs.declared.descent.Seek.the-variants.{First}
@@ -32,7 +31,7 @@ use Rattle.listing.specs.Advance.{stays, taken, advanced, yieldOf}
 
 pub read-children :
     (x : Extent) (s : List ℕ) (q : PageId) (l k : ℕ) → fetchPage eavt x s q ≡ fine (nodeAt x s q l k) →
-    nodeIn (fetchPage eavt x s q) .children ≡ childrenOf (capacity (x .size)) k (pageAt x s q)
+    nodeIn (fetchPage eavt x s q) .children ≡ childrenOf (capacity (x .size)) (suc k) (pageAt x s q)
 unfolding nodeIn nodeOf
 read-children x s q l k e = rw e
 

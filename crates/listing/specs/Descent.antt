@@ -16,13 +16,12 @@ use Rattle.datom.specs.Datom.{datomsOf}
 use Rattle.index.specs.Order.{cmpEavt, eavt}
 use Rattle.answer.specs.declared.Fault.{Fault}
 use Rattle.answer.specs.declared.NextMidpoint.{NextMidpoint}
-use Rattle.rules.specs.Page.{nodeOf}
+use Rattle.rules.specs.Page.{childrenOf, nodeOf}
 use Rattle.rules.specs.Node.{rankBy, rank, below, nextMidpoint}
 use Rattle.rules.specs.Tree.{Fetched, faulty, fine, atLevel}
 use Rattle.rules.specs.Lookup.{childOf}
 use Rattle.rules.specs.Store.{pageAt, fetchPage}
 use Rattle.rules.specs.Listing.{Frame, Path, lostAt, path, longer, pathBy, never}
-use Rattle.memory_store.specs.Layout.{childrenOf}
 use Rattle.listing.specs.declared.way.Way.{Way}
 use Rattle.listing.specs.declared.descent.Seek.{Seek}
 use Rattle.listing.specs.declared.descent.Seek.the-variants.{First, NotBelow}
@@ -91,7 +90,7 @@ module _ (x : Extent) (s : List ℕ) (q : PageId) (p : Datom → Bool) (l : ℕ)
 
     pub place-at :
         m ≡ l → (b : List ℕ) (c i : ℕ) (d : PageId) → b ≡ pageAt x s q → c ≡ capacity (x .size) → i ≡ rankBy p (datomsOf k b) →
-        d ≡ childFrom l i (childrenOf c k b) → placed.At i d ≡ placedOf p l (atLevel l (fetchPage eavt x s q))
+        d ≡ childFrom l i (childrenOf c (suc k) b) → placed.At i d ≡ placedOf p l (atLevel l (fetchPage eavt x s q))
     unfolding placedOf atLevel nodeOf
     place-at h b c i d u v y z = rw (e, eq-eqb m l h, z, y, u, v)
 

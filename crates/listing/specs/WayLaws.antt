@@ -7,7 +7,7 @@ use mathlib.Core.List.{List, [], _∷_, _++_, map, reverse, reverseAux, append-a
 use mathlib.Core.Path.{_≡_, refl, sym, ap, _∙_}
 use borrow.Author.Tests.{eq-eqb, ne-eqb}
 use lib.Dec.{eqb}
-use lib.ListN.{length, take, getD, set, replicate}
+use lib.ListN.{length, length-map, take, getD, set, replicate}
 use lib.Seq.{take-all, take-suc, take-suc-set, length-take-le}
 use Rattle.store.specs.declared.PageId.{PageId}
 use Rattle.store.specs.Page.{page}
@@ -43,12 +43,8 @@ module _ (c : Cursor) where
         let k : sameBelow c (suc (l - 1)) ≡ false = rw (same-at (l - 1), ne-eqb _ _ e) in
         sym (ap (sameBelow c) up ∙ k)
 
-map-length : {A B : Type 0} (f : A → B) (xs : List A) → length (map f xs) ≡ length xs
-map-length f [] = refl
-map-length f (x ∷ xs) = ap suc (map-length f xs)
-
 pub mapped-length : {A B : Type 0} (f : A → B) (xs : List A) (n : ℕ) → length (map f xs) ≡ n → length xs ≡ n
-mapped-length f xs n e = sym (map-length f xs) ∙ e
+mapped-length f xs n e = sym (length-map xs f) ∙ e
 
 -- an end has eight places
 abbrev pub Full : Way → Type 0

@@ -9,16 +9,15 @@ use store::Extent;
 use store::PageId;
 ghost use mathlib.Core.Bool.{true, false};
 ghost use mathlib.Core.Path.{_≡_};
-ghost use Prim.Native.Nat.{_+_, _*_, _≤_};
+ghost use Prim.Native.Nat.{suc, _+_, _*_, _≤_};
 ghost use lib.ListN.{length};
 ghost use Rattle.store.specs.Size.{capacity};
 ghost use Rattle.datom.specs.Datom.{datomsOf};
 ghost use Rattle.index.specs.Order.{cmpEavt, eavt};
-ghost use Rattle.rules.specs.Page.{rising};
+ghost use Rattle.rules.specs.Page.{childrenOf, rising};
 ghost use Rattle.rules.specs.Node.{rankBy};
 ghost use Rattle.rules.specs.Tree.{atLevel};
 ghost use Rattle.rules.specs.Store.{badStore, fetchPage};
-ghost use Rattle.memory_store.specs.Layout.{childrenOf};
 ghost use Rattle.listing.specs.Descent.{testOf, childFrom, placedOf, descentOf, downOf};
 
 // Where a page is entered: at its first datom, or at the first that is not below a bound.
@@ -59,7 +58,7 @@ fn index_in(part: &[u8], k: usize, seek: Seek) -> usize
 // The first real child at or after an index. Below level 0 there is none, so its children are not looked at.
 pub fn child_from(part: &[u8], level: usize, c: usize, k: usize, index: usize) -> PageId
     requires { ⌜ (k ≤ c) × (40 * c + 8 ≤ length (now part)) ⌝ }
-    ensures { λ r. ⌜ r ≡ childFrom level index (childrenOf c k (now (part .entry))) ⌝ }
+    ensures { λ r. ⌜ r ≡ childFrom level index (childrenOf c (suc k) (now (part .entry))) ⌝ }
 {
     if level == 0 {
         return PageId::max();

@@ -1,5 +1,5 @@
 -- What was read on the last path stays known, and a path on its way.
-use Prim.Native.Nat.{ℕ, _-_, _<_, _≤_}
+use Prim.Native.Nat.{ℕ, suc, _-_, _<_, _≤_}
 use native.Mathlib.Omega.{arith}
 use mathlib.Core.Bool.{Bool, true, false}
 use mathlib.Core.List.{List}
@@ -18,10 +18,10 @@ use Rattle.datom.specs.Datom.{datomsOf}
 use Rattle.index.specs.Order.{cmpEavt, eavt}
 use Rattle.answer.specs.declared.NextMidpoint.{NextMidpoint}
 use Rattle.answer.specs.declared.NextMidpoint.the-variants.{Child, Nothing}
+use Rattle.rules.specs.Page.{childrenOf}
 use Rattle.rules.specs.Node.{rank, headSame, nextMidpoint}
 use Rattle.rules.specs.Tree.{fine, fetchAt}
 use Rattle.rules.specs.Store.{pageAt, fetchPage, envOf}
-use Rattle.memory_store.specs.Layout.{childrenOf}
 use Rattle.memory_store.specs.Readable.{nodeAt}
 use Rattle.lookup.specs.declared.Path.{Path}
 use Rattle.lookup.specs.declared.Look.the-variants.{Met, Absent, Lost}
@@ -103,7 +103,7 @@ module _ {x : Extent} {s : List ℕ} {d : Datom} {h : ℕ} {top : PageId} {path 
 
   pub next-is :
       {part : List ℕ} {i c : ℕ} {r b : NextMidpoint} → part ≡ pageAt x s p → i ≡ rank cmpEavt d (datomsOf k part) → c ≡ capacity (x .size) →
-      r ≡ nextMidpoint (drop i (childrenOf c k part)) → r ≡ b → nextIn x s d p k ≡ b
+      r ≡ nextMidpoint (drop i (childrenOf c (suc k) part)) → r ≡ b → nextIn x s d p k ≡ b
   next-is e f cap u v = rw (← e, ← f, ← cap) (sym u ∙ v)
 
   pub going-met : metIn x s d p k ≡ true → Met ≡ lookOf (pathOf x s d h top)

@@ -22,7 +22,7 @@ use Rattle.answer.specs.declared.Fault.{Fault}
 use Rattle.answer.specs.declared.Refusal.the-variants.{Repeated, Damaged}
 use Rattle.answer.specs.declared.NextMidpoint.{NextMidpoint}
 use Rattle.answer.specs.declared.NextMidpoint.the-variants.{Child, Nothing}
-use Rattle.rules.specs.Page.{Node, nodeOf, levelOf, countOf}
+use Rattle.rules.specs.Page.{childrenOf, Node, nodeOf, levelOf, countOf}
 use Rattle.rules.specs.Node.{rank, headSame, nextMidpoint}
 use Rattle.rules.specs.Tree.{Fetched, faulty, fine, Env, atLevel, fetchAt}
 use Rattle.rules.specs.Lookup as rules
@@ -31,7 +31,6 @@ use Rattle.rules.specs.Store.{pageAt, fetchPage, envOf}
 use Rattle.rules.specs.Reads.{read-count, fetch-tells}
 use Rattle.memory_store.specs.declared.found.Found.the-variants.{Faulty, Fine}
 use Rattle.memory_store.specs.Reading.{told}
-use Rattle.memory_store.specs.Layout.{childrenOf}
 use Rattle.memory_store.specs.Readable.{nodeAt, told-fine}
 use Rattle.lookup.specs.declared.Look.the-variants.{Met, Absent, Lost}
 use Rattle.lookup.specs.declared.Opened.the-variants as opened
@@ -112,7 +111,7 @@ abbrev pub metIn : Extent → List ℕ → Datom → PageId → ℕ → Bool
 metIn x s d p k = headSame cmpEavt d (drop (seekIn x s d p k) (datomsOf k (pageAt x s p)))
 
 abbrev pub nextIn : Extent → List ℕ → Datom → PageId → ℕ → NextMidpoint
-nextIn x s d p k = nextMidpoint (drop (seekIn x s d p k) (childrenOf (capacity (x .size)) k (pageAt x s p)))
+nextIn x s d p k = nextMidpoint (drop (seekIn x s d p k) (childrenOf (capacity (x .size)) (suc k) (pageAt x s p)))
 
 -- the ways of a path through a page that was read
 module _ (x : Extent) (s : List ℕ) (d : Datom) (p : PageId) (l k : ℕ) (read : fetchPage eavt x s p ≡ fine (nodeAt x s p l k)) where

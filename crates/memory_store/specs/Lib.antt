@@ -1,6 +1,5 @@
 -- What the reader's answers say, and laws for the loops that read and write pages.
 pub mod Reading
-pub mod Layout
 pub mod RankLaws
 pub mod Steps
 pub mod FetchLaws

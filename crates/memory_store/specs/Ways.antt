@@ -9,17 +9,17 @@ use borrow.Author.Tests.{eq-eqb, ne-eqb, le-leb, lt-leb}
 use lib.ListN.{length, drop, getD}
 use Rattle.store.specs.declared.PageId.{PageId}
 use Rattle.store.specs.Words.{wordAt, cells}
-use Rattle.store.specs.Page.{page, none, isNone, pageOf}
+use Rattle.store.specs.Page.{none, isNone, pageOf}
 use Rattle.store.specs.Cells.{pages-at}
 use Rattle.store.specs.Laws.{cells-length}
 use Rattle.datom.specs.Datom.{datomOf, datomsOf, storedDatom}
 use Rattle.index.specs.Order.{cmpEavt, eavt}
 use Rattle.answer.specs.declared.Rule.the-variants.{Level, Count, Form, Order, LeafChild, LastChild, ChildId}
-use Rattle.rules.specs.Page.{broken, good, nodeOf, levelOf, countOf, all, rising, older, childRules, nodeRules, readPage}
+use Rattle.rules.specs.Page.{broken, good, nodeOf, levelOf, countOf, all, rising, older, childRules, nodeRules, readPage, childAt, childrenOf}
 use Rattle.memory_store.specs.Steps.{none-word, real-word}
 
 -- the last child, by the bytes
-last-child : (c k : ℕ) (s : List ℕ) → getD (cells pageOf 8 (suc k) (drop (32 * c) s)) (length (datomsOf k s)) none ≡ page (wordAt s (32 * c + 8 * k))
+last-child : (c k : ℕ) (s : List ℕ) → getD (childrenOf c (suc k) s) (length (datomsOf k s)) none ≡ childAt c s k
 last-child c k s = rw (cells-length datomOf 32 k s) (pages-at (suc k) k (32 * c) s none (omega arith))
 
 module _ (id : PageId) (c l k : ℕ) (s : List ℕ) where

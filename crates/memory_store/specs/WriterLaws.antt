@@ -9,11 +9,11 @@ use lib.Seq.{drop-drop, take-at, drop-at, length-take-le, take-add, getD-drop}
 use Rattle.store.specs.Words.{cells, spread, zeros, pad, patch}
 use Rattle.store.specs.Page.{pageOf, pageBytes}
 use Rattle.store.specs.Laws.{bytes-little, pad-length, cells-length}
-use Rattle.store.specs.Cells.{cells-more}
+use Rattle.store.specs.Cells.{cells-drop, cells-take}
 use Rattle.datom.specs.Datom.{datomOf, datomBytes, datomsOf}
 use Rattle.datom.specs.Laws.{bytes-back}
-use Rattle.rules.specs.Page.{nodeOf, encodePage}
-use Rattle.memory_store.specs.Layout.{partOf, childrenOf}
+use Rattle.rules.specs.Page.{childrenOf, nodeOf, encodePage}
+use Rattle.rules.specs.Node.{partOf}
 
 -- zeros
 drop-zeros : (n k : ℕ) → drop k (zeros n) ≡ zeros (n - k)
@@ -87,11 +87,7 @@ page-back t b e = rw e at (bytes-little t b)
 -- a part of cells
 cells-part : {A : Type 0} (f : List ℕ → A) (w n i a : ℕ) (s : List ℕ) → i + a ≤ n → take a (drop i (cells f w n s)) ≡ cells f w a (drop (w * i) s)
 cells-part f w n i a s h =
-    let r = n - (i + a) in
-    let e : n ≡ i + (a + r) = omega arith in
-    ap (λ (k : ℕ). take a (drop i (cells f w k s))) e
-    ∙ rw (cells-more f w i (a + r) s, drop-at (cells f w i s) _ i (cells-length f w i s), cells-more f w a r (drop (w * i) s))
-    (take-at (cells f w a (drop (w * i) s)) _ a (cells-length f w a (drop (w * i) s)))
+    rw (cells-drop f w n i s (omega arith), cells-take f w (n - i) a (drop (w * i) s) (omega arith))
 
 none : (n : ℕ) → zeros n ≡ pad n []
 unfolding pad
@@ -132,7 +128,7 @@ module _ (area : List ℕ) (b : Bytes area) (most size c l m n i a : ℕ) where
       let ld : length d ≡ 32 * a = length-take-le (32 * a) (drop (32 * i) area) (simp length-drop (omega arith)) in
       let lw : length w ≡ 8 * a + 8 = length-take-le (8 * a + 8) (drop (32 * m + 8 * i) area) (simp length-drop (omega arith)) in
       let pd : take a (drop i (datomsOf n area)) ≡ datomsOf a (drop (32 * i) area) = cells-part datomOf 32 n i a area hi in
-      let pw : take (suc a) (drop i (childrenOf m n area)) ≡ cells pageOf 8 (suc a) (drop (8 * i) (drop (32 * m) area)) =
+      let pw : take (suc a) (drop i (childrenOf m (suc n) area)) ≡ cells pageOf 8 (suc a) (drop (8 * i) (drop (32 * m) area)) =
       cells-part pageOf 8 (suc n) i (suc a) (drop (32 * m) area) (omega arith) in
       let sd : spread datomBytes (datomsOf a (drop (32 * i) area)) ≡ d =
       all-back datomOf datomBytes 32 bytes-back a (drop (32 * i) area) (bytes-drop (32 * i) area b) (simp length-drop (omega arith)) in

@@ -6,20 +6,17 @@ use index::Order;
 use store::PageId;
 ghost use mathlib.Core.Bool.{true};
 ghost use mathlib.Core.Path.{_≡_};
-ghost use Prim.Native.Nat.{_+_, _*_, _≤_};
+ghost use Prim.Native.Nat.{suc, _+_, _*_, _≤_};
 ghost use lib.ListN.{length, drop};
-ghost use Rattle.store.specs.Words.{wordAt};
-ghost use Rattle.store.specs.Page.{page};
 ghost use Rattle.datom.specs.Datom.{datomsOf};
 ghost use Rattle.index.specs.Order.{cmpEavt};
-ghost use Rattle.rules.specs.Page.{rising};
+ghost use Rattle.rules.specs.Page.{childAt, childrenOf, rising};
 ghost use Rattle.rules.specs.Node.{isMidpoint, nextMidpoint, rank};
-ghost use Rattle.memory_store.specs.Layout.{childrenOf};
 
 // The child at index i.
 pub fn child_at(s: &[u8], m: usize, i: usize) -> PageId
     requires { ⌜ 32 * m + 8 * i + 8 ≤ length (now s) ⌝ }
-    ensures { λ r. ⌜ r ≡ page (wordAt (now (s .entry)) (32 * m + 8 * i)) ⌝ }
+    ensures { λ r. ⌜ r ≡ childAt m (now (s .entry)) i ⌝ }
 {
     PageId(store::word(s, 32 * m + 8 * i))
 }
@@ -27,7 +24,7 @@ pub fn child_at(s: &[u8], m: usize, i: usize) -> PageId
 // Whether the datom at index i is a midpoint: the child at its index is real.
 pub fn is_midpoint_at(s: &[u8], m: usize, n: usize, i: usize) -> bool
     requires { ⌜ (n ≤ m) × ((40 * m + 8 ≤ length (now s)) × (i ≤ n)) ⌝ }
-    ensures { λ r. ⌜ r ≡ isMidpoint (childrenOf m n (now (s .entry))) i ⌝ }
+    ensures { λ r. ⌜ r ≡ isMidpoint (childrenOf m (suc n) (now (s .entry))) i ⌝ }
 {
     !child_at(s, m, i).is_none()
 }
@@ -35,7 +32,7 @@ pub fn is_midpoint_at(s: &[u8], m: usize, n: usize, i: usize) -> bool
 // The first real child at or after an index.
 pub fn next_midpoint(s: &[u8], m: usize, n: usize, from: usize) -> NextMidpoint
     requires { ⌜ (n ≤ m) × (40 * m + 8 ≤ length (now s)) ⌝ }
-    ensures { λ r. ⌜ r ≡ nextMidpoint (drop from (childrenOf m n (now (s .entry)))) ⌝ }
+    ensures { λ r. ⌜ r ≡ nextMidpoint (drop from (childrenOf m (suc n) (now (s .entry)))) ⌝ }
 {
     let mut i = from;
     while i <= n {

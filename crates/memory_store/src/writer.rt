@@ -4,7 +4,7 @@ ghost use Prim.Native.Nat.{_+_, _*_, _≤_};
 ghost use lib.ListN.{length};
 ghost use Rattle.store.specs.Words.{patch};
 ghost use Rattle.rules.specs.Page.{nodeOf, encodePage};
-ghost use Rattle.memory_store.specs.Layout.{partOf};
+ghost use Rattle.rules.specs.Node.{partOf};
 
 // Datoms i..i+a and children i..=i+a of the node of n datoms in an area with room for m become a page of the free part, at byte `at`
 // of it. The page is built aside, so that the free part sees whole pages only. The free part is all of the store that is lent.

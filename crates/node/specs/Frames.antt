@@ -7,10 +7,10 @@ use lib.ListN.{length, take, drop, length-drop, drop-of-length-le}
 use lib.Seq.{length-take-le, take-all, take-at, take-take, drop-at}
 use Rattle.store.specs.Words.{patch}
 use Rattle.store.specs.Page.{pageOf}
-use Rattle.store.specs.Cells.{drop-patch, drop-take-le, take-patch, cells-front, cut}
+use Rattle.store.specs.Cells.{drop-patch, drop-take-le, take-patch, cells-front, cut, cells-take, cells-drop}
 use Rattle.datom.specs.Datom.{datomOf, datomsOf}
 use Rattle.rules.specs.Page.{nodeOf}
-use Rattle.node.specs.Moves.{moveOf, cells-take, cells-drop}
+use Rattle.node.specs.Moves.{moveOf}
 
 module _ (m l n : ℕ) (few : n ≤ m) where
   -- the area is all that the node is read from

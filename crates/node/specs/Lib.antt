@@ -1,5 +1,4 @@
 -- A node in an area: what the code promises of it, and the laws behind that.
-pub mod Area
 pub mod Moves
 pub mod Stores
 pub mod Spans

@@ -1,16 +1,15 @@
 -- Bytes that move within one slice, and cells among them.
-use Prim.Native.Nat.{ℕ, suc, _+_, _-_, _*_, _≤_, _<_}
+use Prim.Native.Nat.{ℕ, suc, _+_, _*_, _≤_, _<_}
 use native.Mathlib.Decide.{decLe}
-use native.Mathlib.Nat.{mul-add, mul-suc, mul-zero, add-zero, mul-le-mul-left}
+use native.Mathlib.Nat.{mul-add, mul-suc, mul-zero, mul-le-mul-left}
 use native.Mathlib.Numerals.{add-one}
 use native.Mathlib.Omega.{arith}
-use mathlib.Core.List.{List, _++_, append-assoc, append-nil}
+use mathlib.Core.List.{List, _++_, append-assoc}
 use mathlib.Core.Path.{_≡_, sym, ap, _∙_}
-use lib.ListN.{length, take, drop, length-drop, take-append-drop}
-use lib.Seq.{length-take-le, take-add, take-at, drop-at, drop-drop}
+use lib.ListN.{length, take, drop, length-drop}
+use lib.Seq.{length-take-le, take-add, drop-drop}
 use Rattle.store.specs.Words.{cells, patch}
-use Rattle.store.specs.Laws.{cells-length}
-use Rattle.store.specs.Cells.{patch-length, patch-patch, patch-before, drop-patch-le, cut, cells-more, cells-front, cells-put}
+use Rattle.store.specs.Cells.{patch-length, patch-none, patch-patch, patch-before, drop-patch-le, cut, cells-front, cells-put}
 
 -- the slice after `size` bytes have gone from one place to another
 abbrev pub moveOf : List ℕ → ℕ → ℕ → ℕ → List ℕ
@@ -26,9 +25,7 @@ module _ (s : List ℕ) (from to size : ℕ) (h : from + size ≤ length s) (g :
 -- A move of n cells of w bytes, one after the other, first cell first. They go down, or to a place past all of them.
 module _ (w : ℕ) (s : List ℕ) (from to : ℕ) where
   pub move-start : s ≡ moveOf s from to (w * 0)
-  unfolding patch
-  move-start =
-      rw mul-zero (sym (ap (λ (t : List ℕ). t ++ drop (to + 0) s) (append-nil (take to s)) ∙ rw add-zero (take-append-drop to s)))
+  move-start = rw mul-zero (sym (patch-none s to))
 
   module _ (n i : ℕ) (within : i < n) (here : from + w * n ≤ length s) (there : to + w * n ≤ length s) (apart : from < to → from + w * n ≤ to) where
     turn : w * i + w ≤ w * n
@@ -55,18 +52,7 @@ module _ (w : ℕ) (s : List ℕ) (from to : ℕ) where
         let j : patch (patch s to p) (to + length p) q ≡ patch s to (p ++ q) = patch-patch s to p q (omega (arith, turn)) in
         rw (e, next, add-one, mul-suc, take-add, ← j, lp)
 
--- the first i cells, and those from index i on
 module _ {A : Type 0} (f : List ℕ → A) (w : ℕ) where
-  pub cells-drop : (n i : ℕ) (s : List ℕ) → i ≤ n → drop i (cells f w n s) ≡ cells f w (n - i) (drop (w * i) s)
-  cells-drop n i s h =
-      let e : n ≡ i + (n - i) = omega arith in
-      ap (λ (k : ℕ). drop i (cells f w k s)) e ∙ rw (cells-more f w i (n - i) s) (drop-at (cells f w i s) _ i (cells-length f w i s))
-
-  pub cells-take : (n i : ℕ) (s : List ℕ) → i ≤ n → take i (cells f w n s) ≡ cells f w i s
-  cells-take n i s h =
-      let e : n ≡ i + (n - i) = omega arith in
-      ap (λ (k : ℕ). take i (cells f w k s)) e ∙ rw (cells-more f w i (n - i) s) (take-at (cells f w i s) _ i (cells-length f w i s))
-
   -- i cells, and two runs of others that are stored behind them
   pub two-runs :
       (i a b : ℕ) (s x y : List ℕ) → w * (i + a + b) ≤ length s → w * a ≤ length x → w * b ≤ length y →

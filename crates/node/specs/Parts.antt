@@ -1,6 +1,6 @@
 -- The parts of a split, one after the other: how many children each takes, where it stands in the area, and the midpoint after it.
 use Prim.Native.Nat.{ℕ, zero, suc, pred, _+_, _-_, _*_, _/_, _%_, _^_, _≤_, _<_}
-use native.Mathlib.Nat.{suc-mul, mul-pos}
+use native.Mathlib.Nat.{mul-pos}
 use native.Mathlib.Numerals.{add-one}
 use native.Mathlib.Omega.{arith}
 use mathlib.Core.List.{List, [], _∷_, _++_}
@@ -9,16 +9,15 @@ use lib.ListN.{length, take, drop}
 use lib.Seq.{drop-drop}
 use Rattle.store.specs.declared.PageId.{PageId}
 use Rattle.store.specs.Words.{cells, patch}
-use Rattle.store.specs.Page.{pageOf, pageBytes}
+use Rattle.store.specs.Page.{pageBytes}
 use Rattle.store.specs.Laws.{cells-length}
 use Rattle.store.specs.Cells.{patch-length, cut}
 use Rattle.datom.specs.declared.Datom.{Datom}
 use Rattle.datom.specs.Datom.{datomAt, datomOf, datomsOf}
 use Rattle.datom.specs.Laws.{datoms-from}
-use Rattle.rules.specs.Page.{nodeOf}
-use Rattle.rules.specs.Node.{share, parts, between, pagesFor, splitParts, splitUp}
-use Rattle.node.specs.Area.{childrenOf, partOf, node-is}
-use Rattle.node.specs.Moves.{cells-take, cells-drop}
+use Rattle.rules.specs.Page.{nodeOf, childrenOf, node-is}
+use Rattle.rules.specs.Node.{share, parts, between, pagesFor, splitParts, splitUp, partOf}
+use Rattle.rules.specs.SplitLaws.{share-some, share-sum}
 use Rattle.node.specs.Stores.{midpoint-front, midpoint-rest, midpoint-children, child-front, child-rest, child-datoms}
 
 -- "The first r pages take q+1 children, the others q", by the number p of the page
@@ -41,16 +40,6 @@ share-even q r p h = sym (no-more q (r - p) (omega arith))
 pub share-next : (r p : ℕ) → pred (r - p) ≡ r - (p + 1)
 share-next r p = omega arith
 
-pub share-some : (q r : ℕ) → 0 < q → 0 < share q r
-unfolding share
-share-some q zero h = h
-share-some q (suc r) h = omega arith
-
-share-sum : (a q r : ℕ) → share q r + (a * q + pred r) ≡ suc a * q + r
-unfolding share
-share-sum a q zero = omega (arith, suc-mul a q)
-share-sum a q (suc r) = omega (arith, suc-mul a q)
-
 -- i children are in parts; a + 1 parts of q children are to come, and r of them take one more
 module _ (a q r i n : ℕ) (total : i + (suc a * q + r) ≡ suc n) where
   pub share-left : i + share q r + (a * q + pred r) ≡ suc n
@@ -72,20 +61,6 @@ pub record Splitting (m n p i : ℕ) (s : List ℕ) (ups : List Datom) (ids : Li
   pub datoms : drop i (datomsOf n s) ≡ drop i ds
   pub children : drop i (childrenOf m (suc n) s) ≡ drop i cs
 
--- a part that begins at index i
-pub part-is :
-    (m l n i a : ℕ) (s : List ℕ) → i + a ≤ n →
-    partOf m l i a s ≡ record { level = l; datoms = take a (drop i (datomsOf n s)); children = take (suc a) (drop i (childrenOf m (suc n) s)) }
-unfolding partOf
-part-is m l n i a s h =
-    rw (
-      cells-drop datomOf 32 n i s (omega arith),
-      cells-take datomOf 32 (n - i) a (drop (32 * i) s) (omega arith),
-      cells-drop pageOf 8 (suc n) i (drop (32 * m) s) (omega arith),
-      cells-take pageOf 8 (suc n - i) (suc a) (drop (8 * i) (drop (32 * m) s)) (omega arith),
-      drop-drop,
-    )
-
 further : {A : Type 0} (i k : ℕ) (xs ys : List A) → drop i xs ≡ drop i ys → drop (i + k) xs ≡ drop (i + k) ys
 further i k xs ys e = sym (drop-drop k i xs) ∙ ap (drop k) e ∙ drop-drop k i ys
 
@@ -104,13 +79,13 @@ module _
       k = share q r
 
       pub parts-step :
-          (l a : ℕ) → i + k ≤ suc n →
-          parts l (suc a) q r (drop i ds) (drop i cs) ≡ partOf m l i (k - 1) s ∷ parts l a q (pred r) (drop (i + k) ds) (drop (i + k) cs)
-      unfolding parts
-      parts-step l a h =
+          (l a : ℕ) →
+          parts l (suc a) q r (drop i ds) (drop i cs) ≡ partOf i (k - 1) (nodeOf m l n s) ∷ parts l a q (pred r) (drop (i + k) ds) (drop (i + k) cs)
+      unfolding parts partOf nodeOf
+      parts-step l a =
           let e : suc (k - 1) ≡ k = omega (arith, share-some q r some) in
           let f : pred k ≡ k - 1 = omega arith in
-          rw (part-is m l n i (k - 1) s (omega (arith, share-some q r some)), g .datoms, g .children, e, f, drop-drop, drop-drop)
+          rw (g .datoms, g .children, e, f, drop-drop, drop-drop)
 
       pub between-step :
           (a : ℕ) → i + k ≤ n → between (suc a) q r (drop i ds) ≡ datomAt s (32 * (i + k - 1)) ∷ between a q (pred r) (drop (i + k) ds)

@@ -11,10 +11,10 @@ use lib.ListN.{drop}
 use Rattle.store.specs.declared.PageId.{PageId}
 use Rattle.store.specs.Page.{isNone, pageOf}
 use Rattle.store.specs.Cells.{pages-from, cells-end}
+use Rattle.rules.specs.Page.{childrenOf, childAt}
 use Rattle.rules.specs.Node as rules
 use Rattle.rules.specs.Node.{spanFrom, longestSpan, anyPending}
 use Rattle.node.specs.declared.Span.{Span}
-use Rattle.node.specs.Area.{childrenOf, childAt}
 
 -- the code's span is the rules' one, and lies within n datoms
 pub record Spans (r : Span) (n : ℕ) (cs : List PageId) : Type 0 where

@@ -8,12 +8,11 @@ use lib.ListN.{length, take, drop, length-drop}
 use lib.Seq.{drop-drop}
 use Rattle.store.specs.Words.{cells, patch}
 use Rattle.store.specs.Page.{pageOf}
-use Rattle.store.specs.Cells.{cells-kept, drop-patch-add}
+use Rattle.store.specs.Cells.{cells-kept, drop-patch-add, cells-take, cells-drop}
 use Rattle.datom.specs.Datom.{datomOf, datomsOf}
-use Rattle.rules.specs.Page.{nodeOf}
+use Rattle.rules.specs.Page.{nodeOf, childrenOf}
 use Rattle.rules.specs.Node.{splice}
-use Rattle.node.specs.Area.{childrenOf}
-use Rattle.node.specs.Moves.{moveOf, move-length, move-past, cells-take, cells-drop, two-runs}
+use Rattle.node.specs.Moves.{moveOf, move-length, move-past, two-runs}
 
 -- the slice s becomes t: of n datoms those of a span, with the child at its end, are replaced by the node of k datoms that stands in
 -- the area behind, whatever the levels

@@ -9,11 +9,10 @@ use Rattle.store.specs.declared.PageId.{PageId}
 use Rattle.store.specs.Words.{cells, patch}
 use Rattle.store.specs.Page.{pageOf, pageBytes}
 use Rattle.store.specs.Laws.{page-length, page-back}
-use Rattle.store.specs.Cells.{cells-push, cells-kept, drop-patch-add, drop-patch-le, cut}
+use Rattle.store.specs.Cells.{cells-push, cells-kept, drop-patch-add, drop-patch-le, cut, cells-drop}
 use Rattle.datom.specs.Datom.{datomAt, datomOf, datomsOf}
 use Rattle.datom.specs.Laws.{datom-cell}
-use Rattle.node.specs.Area.{childrenOf}
-use Rattle.node.specs.Moves.{cells-drop}
+use Rattle.rules.specs.Page.{childrenOf}
 
 module _ (m p : ℕ) (s : List ℕ) (room : 40 * m + 8 ≤ length s) where
   -- a datom's bytes at index p

@@ -8,8 +8,7 @@ use mathlib.Core.Path.{_≡_, refl, sym, _∙_, ap}
 use borrow.Author.Tests.{eqb-false, eq-eqb, ne-eqb}
 use lib.Dec.{eqb}
 use lib.ListN.{length, drop, getD, List·getD-eq-default}
-use lib.Seq.{take-all}
-use Rattle.store.specs.Words.{wordAt, cells, patch}
+use Rattle.store.specs.Words.{wordAt, patch}
 use Rattle.store.specs.Page.{page, none, pageOf}
 use Rattle.store.specs.Size.{capacity}
 use Rattle.store.specs.Laws.{apart, cells-length, Known, known-size}
@@ -20,11 +19,12 @@ use Rattle.datom.specs.Laws.{datoms-from}
 use Rattle.index.specs.declared.Order.{Order}
 use Rattle.index.specs.Order.{eavt, cmpEavt, named}
 use Rattle.answer.specs.declared.Rule.{Rule}
-use Rattle.rules.specs.Page.{Node, Read, broken, good, nodeOf, levelOf, encodePage, rising, readPage}
+use Rattle.rules.specs.Page.{Node, Read, broken, good, nodeOf, levelOf, encodePage, rising, readPage, childAt, childrenOf}
+use Rattle.rules.specs.Node.{partOf}
+use Rattle.rules.specs.SplitLaws.{whole-part}
 use Rattle.rules.specs.Reads.{Readable, readable, read-count}
 use Rattle.memory_store.specs.declared.reader.Reading.the-variants as reading
 use Rattle.memory_store.specs.Reading.{said}
-use Rattle.memory_store.specs.Layout.{partOf}
 use Rattle.probe.specs.declared.Look.{Look}
 use Rattle.probe.specs.declared.Look.the-variants.{Unread, Good}
 use Rattle.probe.specs.Seen.{unread, holds, nothing, ruleNumber, seen, shown, ofNode, headWord, ofDatom, orderNumber, orderOf, wroteOf, rewritten}
@@ -120,12 +120,12 @@ word-none j (d ∷ ds) h = sym (List·getD-eq-default (d .entity .0 ∷ d .attri
 
 -- children
 module _ (s : List ℕ) (c k i : ℕ) where
-  pub child-here : i ≤ k → page (wordAt s (32 * c + 8 * i)) ≡ getD (cells pageOf 8 (suc k) (drop (32 * c) s)) i none
+  pub child-here : i ≤ k → childAt c s i ≡ getD (childrenOf c (suc k) s) i none
   child-here h = sym (pages-at (suc k) i (32 * c) s none (omega arith))
 
-  pub child-past : k < i → none ≡ getD (cells pageOf 8 (suc k) (drop (32 * c) s)) i none
+  pub child-past : k < i → none ≡ getD (childrenOf c (suc k) s) i none
   child-past h =
-      sym (List·getD-eq-default (cells pageOf 8 (suc k) (drop (32 * c) s)) none {n = i} (omega (arith, cells-length pageOf 8 (suc k) (drop (32 * c) s))))
+      sym (List·getD-eq-default (childrenOf c (suc k) s) none {n = i} (omega (arith, cells-length pageOf 8 (suc k) (drop (32 * c) s))))
 
 -- a datom's bytes
 module _ (f : Datom → ℕ) (b : List ℕ) where
@@ -136,12 +136,6 @@ module _ (f : Datom → ℕ) (b : List ℕ) where
   pub of-others : (length b ≡ 32 → ⊥) → nothing ≡ ofDatom f b
   unfolding ofDatom
   of-others e = rw (ne-eqb (length b) 32 e)
-
--- all of a node is a part of it
-pub whole : (c l k : ℕ) (s : List ℕ) → partOf 0 k (nodeOf c l k s) ≡ nodeOf c l k s
-unfolding partOf nodeOf
-whole c l k s =
-    rw (take-all k (datomsOf k s) (omega (arith, cells-length datomOf 32 k s)), take-all (suc k) (cells pageOf 8 (suc k) (drop (32 * c) s)) (omega (arith, cells-length pageOf 8 (suc k) (drop (32 * c) s))))
 
 -- a page written anew
 module _ (s free : List ℕ) (id : ℕ) {v : Look} where
@@ -159,7 +153,7 @@ module _ (s free : List ℕ) (id : ℕ) {v : Look} where
         (1 ≡ wroteOf s free (seen s id))
         × (patch free 0 (encodePage (length s) (capacity (length s)) (partOf 0 k (nodeOf (capacity (length s)) l k s))) ≡ rewritten s free (seen s id))
     unfolding shown wroteOf rewritten
-    written h = let z = ap (shown s) (sym e) ∙ q in rw (← z, eq-eqb (length free) (length s) h, whole (capacity (length s)) l k s) (refl, refl)
+    written h = let z = ap (shown s) (sym e) ∙ q in rw (← z, eq-eqb (length free) (length s) h, whole-part (capacity (length s)) l k s) (refl, refl)
 
 -- two datoms' bytes, compared
 module _ (a b : List ℕ) where

@@ -92,3 +92,9 @@ module _ (cmp : Datom → Datom → Ordering) (L : Preorder cmp) where
   unfolding rising
   rising-in [] h = tt
   rising-in (d ∷ ds) h = rest-rising d ds h
+
+  -- what is below the head of a rising list is below all of it
+  pub below-all :
+      (d x : Datom) (xs : List Datom) → cmp d x ≡ Ordering·lt → Rising cmp (x ∷ xs) → (y : Datom) → In y (x ∷ xs) → cmp d y ≡ Ordering·lt
+  below-all d x xs e r y (inl i) = rw i e
+  below-all d x xs e r y (inr i) = L .trans d x y e (r .0 y i)

@@ -13,7 +13,7 @@ use Rattle.datom.specs.declared.Datom.{Datom}
 use Rattle.index.specs.Order.{isLess}
 use Rattle.index.specs.Laws.{Preorder}
 use Rattle.rules.specs.Node.{mergeDatoms, mergeChildren, meets}
-use Rattle.rules.specs.Lists.{In, Rising, turned}
+use Rattle.rules.specs.Lists.{In, Rising, turned, below-all}
 
 module _ (cmp : Datom → Datom → Ordering) where
   pub merge-length : (ds new : List Datom) → length (mergeDatoms cmp ds new) ≡ length ds + length new
@@ -77,11 +77,6 @@ module _ (cmp : Datom → Datom → Ordering) where
           rw (e, mergeDatoms) (elim i [ inl j ↦ inr (k (inl j)) | inr j ↦ elim j [ inl q ↦ inl q | inr q ↦ inr (k (inr q)) ] ])
 
 module _ (cmp : Datom → Datom → Ordering) (L : Preorder cmp) where
-  -- all of a rising list are above what its head is above
-  over : (d x y : Datom) (xs : List Datom) → cmp d x ≡ Ordering·lt → Rising cmp (x ∷ xs) → In y (x ∷ xs) → cmp d y ≡ Ordering·lt
-  over d x y xs e r (inl i) = rw i e
-  over d x y xs e r (inr i) = L .trans d x y e (r .0 y i)
-
   pub merge-rising :
       (ds new : List Datom) → Rising cmp ds → Rising cmp new → meets cmp ds new ≡ false → Rising cmp (mergeDatoms cmp ds new)
   unfolding mergeDatoms meets isLess
@@ -95,8 +90,8 @@ module _ (cmp : Datom → Datom → Ordering) (L : Preorder cmp) where
           (meets cmp (d ∷ ds) xs ≡ false → Rising cmp (mergeDatoms cmp (d ∷ ds) xs)) → Rising cmp (mergeDatoms cmp (d ∷ ds) (x ∷ xs))
       side Ordering·lt e h k =
           rw (e, mergeDatoms)
-          (λ y i. elim (merge-out cmp y ds (x ∷ xs) i) [ inl j ↦ r .0 y j | inr j ↦ over d x y xs e s j ], h (rw (e, meets) at m))
+          (λ y i. elim (merge-out cmp y ds (x ∷ xs) i) [ inl j ↦ r .0 y j | inr j ↦ below-all cmp L d x xs e s y j ], h (rw (e, meets) at m))
       side Ordering·eq e h k = let z : true ≡ false = rw (e, meets) at m in absurd (apart (cc))
       side Ordering·gt e h k =
           rw (e, mergeDatoms)
-          (λ y i. elim (merge-out cmp y (d ∷ ds) xs i) [ inl j ↦ over x d y ds (turned cmp L e) r j | inr j ↦ s .0 y j ], k (rw (e, meets) at m))
+          (λ y i. elim (merge-out cmp y (d ∷ ds) xs i) [ inl j ↦ below-all cmp L x d ds (turned cmp L e) r y j | inr j ↦ s .0 y j ], k (rw (e, meets) at m))

@@ -93,6 +93,10 @@ anyPending (c ∷ cs) = isNone c || anyPending cs
 unfoldable pub pagesFor : ℕ → ℕ → ℕ
 pagesFor cap n = (n + pred cap) / cap
 
+-- a datoms of a node from index i on, with one child more
+unfoldable pub partOf : ℕ → ℕ → Node → Node
+partOf i a n = record { level = n .level; datoms = take a (drop i (n .datoms)); children = take (suc a) (drop i (n .children)) }
+
 -- "The first r pages take q+1 children, the others q": what the next page takes while r still take one more
 unfoldable pub share : ℕ → ℕ → ℕ
 share q zero = q

@@ -2,11 +2,12 @@
 use Prim.Native.Nat.{ℕ, suc, _+_, _*_, Ordering}
 use mathlib.Core.Bool.{Bool, true, _&&_, _||_, not, cond}
 use mathlib.Core.List.{List, [], _∷_, _++_}
+use mathlib.Core.Path.{_≡_, refl}
 use lib.Dec.{leb, ltb, eqb}
 use lib.ListN.{length, drop, getD}
 use Rattle.store.specs.declared.PageId.{PageId}
-use Rattle.store.specs.Words.{cells, spread, pad}
-use Rattle.store.specs.Page.{none, isNone, pageOf, pageBytes}
+use Rattle.store.specs.Words.{cells, spread, pad, wordAt}
+use Rattle.store.specs.Page.{page, none, isNone, pageOf, pageBytes}
 use Rattle.datom.specs.declared.Datom.{Datom}
 use Rattle.datom.specs.Datom.{datomsOf, datomsBytes}
 use Rattle.index.specs.Order.{DatomOrd, isLess}
@@ -20,8 +21,20 @@ pub record Node : Type 0 where
   pub children : List PageId
 
 -- "Datoms at 0, children (8 bytes each, one more than datoms) at 32C, header at 40C+8: level, count."
+-- An area with room for c datoms has its datoms and children at the same places as a page of capacity c.
+abbrev pub childAt : ℕ → List ℕ → ℕ → PageId
+childAt c s i = page (wordAt s (32 * c + 8 * i))
+
+-- the first t children
+abbrev pub childrenOf : ℕ → ℕ → List ℕ → List PageId
+childrenOf c t s = cells pageOf 8 t (drop (32 * c) s)
+
 unfoldable pub nodeOf : ℕ → ℕ → ℕ → List ℕ → Node
-nodeOf c l k s = record { level = l; datoms = datomsOf k s; children = cells pageOf 8 (suc k) (drop (32 * c) s) }
+nodeOf c l k s = record { level = l; datoms = datomsOf k s; children = childrenOf c (suc k) s }
+
+pub node-is : (c l k : ℕ) (s : List ℕ) → nodeOf c l k s ≡ record { level = l; datoms = datomsOf k s; children = childrenOf c (suc k) s }
+unfolding nodeOf
+node-is c l k s = refl
 
 unfoldable pub levelOf : ℕ → List ℕ → ℕ
 levelOf c s = getD s (40 * c + 8) 0

@@ -10,10 +10,22 @@ use mathlib.Core.Path.{_≡_, refl, sym, _∙_, ap, ap₂}
 use lib.ListN.{length, take, drop, getD, length-append, length-take, length-drop, take-append-drop}
 use lib.Seq.{take-all, length-take-le, drop-cons, split-at}
 use Rattle.store.specs.declared.PageId.{PageId}
+use Rattle.store.specs.Page.{pageOf}
+use Rattle.store.specs.Laws.{cells-length}
 use Rattle.datom.specs.declared.Datom.{Datom}
-use Rattle.rules.specs.Page.{Node}
-use Rattle.rules.specs.Node.{share, parts, between, pagesFor, splitParts, splitUp}
+use Rattle.datom.specs.Datom.{datomOf, datomsOf}
+use Rattle.rules.specs.Page.{Node, childrenOf, nodeOf}
+use Rattle.rules.specs.Node.{partOf, share, parts, between, pagesFor, splitParts, splitUp}
 use Rattle.rules.specs.Lists.{In}
+
+-- all of a node is a part of it
+pub whole-part : (c l k : ℕ) (s : List ℕ) → partOf 0 k (nodeOf c l k s) ≡ nodeOf c l k s
+unfolding partOf nodeOf
+whole-part c l k s =
+    rw (
+      take-all k (datomsOf k s) (omega (arith, cells-length datomOf 32 k s)),
+      take-all (suc k) (childrenOf c (suc k) s) (omega (arith, cells-length pageOf 8 (suc k) (drop (32 * c) s))),
+    )
 
 -- the datoms of the parts with the midpoints between them, and the children of the parts
 unfoldable pub weave : List Node → List Datom → List Datom
@@ -44,10 +56,11 @@ pub record Part (l m : ℕ) (n : Node) : Type 0 where
 rest-total : (p q r k n : ℕ) → suc (suc p) * suc q + r ≡ suc n → k + (suc p * suc q + pred r) ≡ suc (suc p) * suc q + r → suc p * suc q + pred r ≡ suc (n - k)
 rest-total p q r k n e f = omega (arith, suc-mul p (suc q))
 
-share-sum : (p q r : ℕ) → share (suc q) r + (suc p * suc q + pred r) ≡ suc (suc p) * suc q + r
+-- a part and those behind it, r of them with one more
+pub share-sum : (p q r : ℕ) → share q r + (p * q + pred r) ≡ suc p * q + r
 unfolding share
-share-sum p q zero = omega (arith, suc-mul (suc p) (suc q))
-share-sum p q (suc r) = omega (arith, suc-mul (suc p) (suc q))
+share-sum p q zero = omega (arith, suc-mul p q)
+share-sum p q (suc r) = omega (arith, suc-mul p q)
 
 -- the last part is all that is left
 share-last : (q r n : ℕ) → r ≤ 1 → 1 * suc q + r ≡ suc n → share (suc q) r ≡ suc n
@@ -56,15 +69,18 @@ share-last q zero n h e = omega arith
 share-last q (suc zero) n h e = omega arith
 share-last q (suc (suc r)) n h e = absurd (omega arith)
 
-share-pos : (q r : ℕ) → share (suc q) r ≡ suc (pred (share (suc q) r))
+pub share-some : (q r : ℕ) → 0 < q → 0 < share q r
 unfolding share
-share-pos q zero = refl
-share-pos q (suc r) = refl
+share-some q zero h = h
+share-some q (suc r) h = omega arith
 
-share-most : (q r m : ℕ) → q ≤ m → (0 < r → suc q ≤ m) → pred (share (suc q) r) ≤ m
+share-pos : (q r : ℕ) → share (suc q) r ≡ suc (pred (share (suc q) r))
+share-pos q r = omega (arith, share-some (suc q) r (omega arith))
+
+pub share-most : (q r m : ℕ) → q ≤ m → (0 < r → q + 1 ≤ m) → share q r ≤ m
 unfolding share
 share-most q zero m a b = a
-share-most q (suc r) m a b = b (suc-le-suc zero-le)
+share-most q (suc r) m a b = omega (arith, b (omega arith))
 
 -- p + 1 parts of q + 1 children each, r of them with one more
 module _ (l q : ℕ) where
@@ -77,7 +93,7 @@ module _ (l q : ℕ) where
       append-nil _ ∙ take-all (pred (share (suc q) r)) ds (omega arith)
   weave-all (suc p) r ds cs b e =
       let k = share (suc q) r in
-      let s : k + (suc p * suc q + pred r) ≡ suc (suc p) * suc q + r = share-sum p q r in
+      let s : k + (suc p * suc q + pred r) ≡ suc (suc p) * suc q + r = share-sum (suc p) (suc q) r in
       let v : k ≡ suc (pred k) = share-pos q r in
       let u : suc p * suc q + pred r ≡ suc (length ds - k) = rest-total p q r k (length ds) e s in
       weave-step (pred k) ds (parts l (suc p) (suc q) (pred r) (drop k ds) (drop k cs)) (between p (suc q) (pred r) (drop k ds)) (omega arith)
@@ -92,7 +108,7 @@ module _ (l q : ℕ) where
       append-nil _ ∙ take-all (share (suc q) r) cs (omega arith)
   children-all (suc p) r ds cs b e n =
       let k = share (suc q) r in
-      let s : k + (suc p * suc q + pred r) ≡ suc (suc p) * suc q + r = share-sum p q r in
+      let s : k + (suc p * suc q + pred r) ≡ suc (suc p) * suc q + r = share-sum (suc p) (suc q) r in
       let u : suc p * suc q + pred r ≡ suc (length ds - k) = rest-total p q r k (length ds) e s in
       ap (λ (t : List PageId). take k cs ++ t)
       (children-all p (pred r) (drop k ds) (drop k cs) (omega arith) (u ∙ ap suc (sym (length-drop k ds))) (simp length-drop (omega (arith, suc-mul p (suc q)))))
@@ -107,21 +123,21 @@ module _ (l q : ℕ) where
       rw h
       (record {
         level = refl;
-        few = omega (arith, length-take (pred (share (suc q) r)) ds, share-most q r m f g);
+        few = omega (arith, length-take (pred (share (suc q) r)) ds, share-most (suc q) r (suc m) (omega arith) (λ z. omega (arith, g z)));
         lens = simp length-take (omega arith);
       })
   parts-are m (suc p) r ds cs f g b e c n (inl h) =
       let v : share (suc q) r ≡ suc (pred (share (suc q) r)) = share-pos q r in
-      let s = share-sum p q r in
+      let s = share-sum (suc p) (suc q) r in
       rw h
       (record {
         level = refl;
-        few = omega (arith, length-take (pred (share (suc q) r)) ds, share-most q r m f g);
+        few = omega (arith, length-take (pred (share (suc q) r)) ds, share-most (suc q) r (suc m) (omega arith) (λ z. omega (arith, g z)));
         lens = simp length-take (omega (arith, suc-mul p (suc q)));
       })
   parts-are m (suc p) r ds cs f g b e c n (inr i) =
       let k = share (suc q) r in
-      let s : k + (suc p * suc q + pred r) ≡ suc (suc p) * suc q + r = share-sum p q r in
+      let s : k + (suc p * suc q + pred r) ≡ suc (suc p) * suc q + r = share-sum (suc p) (suc q) r in
       let u : suc p * suc q + pred r ≡ suc (length ds - k) = rest-total p q r k (length ds) e s in
       parts-are m p (pred r) (drop k ds) (drop k cs) f (λ z. g (omega arith)) (omega arith) (u ∙ ap suc (sym (length-drop k ds)))
       (simp length-drop (omega (arith, suc-mul p (suc q)))) n i
@@ -131,7 +147,7 @@ unfolding between
 between-length q zero r ds b e = refl
 between-length q (suc p) r ds b e =
     let k = share (suc q) r in
-    let s : k + (suc p * suc q + pred r) ≡ suc (suc p) * suc q + r = share-sum p q r in
+    let s : k + (suc p * suc q + pred r) ≡ suc (suc p) * suc q + r = share-sum (suc p) (suc q) r in
     let v : k ≡ suc (pred k) = share-pos q r in
     let u : suc p * suc q + pred r ≡ suc (length ds - k) = rest-total p q r k (length ds) e s in
     let one : length (take 1 (drop (pred k) ds)) ≡ 1 = length-take-le 1 (drop (pred k) ds) (simp length-drop (omega (arith, suc-mul p (suc q)))) in

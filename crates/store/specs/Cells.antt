@@ -134,6 +134,17 @@ module _ {A : Type 0} (f : List ℕ → A) (w : ℕ) where
   cells-more (suc n) k s =
       rw (suc-add, cells-more n k (drop w s), drop-drop, next)
 
+  -- the first i cells, and those from index i on
+  pub cells-take : (n i : ℕ) (s : List ℕ) → i ≤ n → take i (cells f w n s) ≡ cells f w i s
+  cells-take n i s h =
+      let e : n ≡ i + (n - i) = omega arith in
+      ap (λ (k : ℕ). take i (cells f w k s)) e ∙ rw (cells-more i (n - i) s) (take-at (cells f w i s) _ i (cells-length f w i s))
+
+  pub cells-drop : (n i : ℕ) (s : List ℕ) → i ≤ n → drop i (cells f w n s) ≡ cells f w (n - i) (drop (w * i) s)
+  cells-drop n i s h =
+      let e : n ≡ i + (n - i) = omega arith in
+      ap (λ (k : ℕ). drop i (cells f w k s)) e ∙ rw (cells-more i (n - i) s) (drop-at (cells f w i s) _ i (cells-length f w i s))
+
   pub cells-front : (n m : ℕ) (s : List ℕ) → w * n ≤ m → cells f w n (take m s) ≡ cells f w n s
   unfolding cells
   cells-front zero m s h = refl

@@ -33,21 +33,34 @@ same-length : tie.Need-same-length
 same-length c = search needs
 
 returns-2 : tie.Need-returns-2
-returns-2 c = rw (← c .before .before .before .before .before .before .check .ensures, c .before .before .before .before .enum-told .given .1) (answered _ _ _ _ (c .before .before .before .before .before .before .before .if1 .left) refl (c .before .before .put-words .ensures))
+returns-2 c =
+    let if1 = c .before .before .before .before .before .before .before .if1 in
+    let check = c .before .before .before .before .before .before .check in
+    let enum-told = c .before .before .before .before .enum-told in
+    let put-words = c .before .before .put-words in
+    rw (← check .ensures, enum-told .given .1) (answered _ _ _ _ (if1 .left) refl (put-words .ensures))
 
 same-length-2 : tie.Need-same-length-2
 same-length-2 c = search needs
 
 returns-3 : tie.Need-returns-3
-returns-3 c = rw (← c .before .before .before .before .before .before .before .check .ensures, c .before .before .before .before .before .fault .given .1) (answered _ _ _ _ (c .before .before .before .before .before .before .before .before .if1 .left) refl (c .before .before .put-words2 .ensures))
+returns-3 c =
+    let if1 = c .before .before .before .before .before .before .before .before .if1 in
+    let check = c .before .before .before .before .before .before .before .check in
+    let fault = c .before .before .before .before .before .fault in
+    let put-words2 = c .before .before .put-words2 in
+    rw (← check .ensures, fault .given .1) (answered _ _ _ _ (if1 .left) refl (put-words2 .ensures))
 
 same-length-3 : tie.Need-same-length-3
 same-length-3 c = search needs
 
 returns-4 : tie.Need-returns-4
 returns-4 c =
+    let if1 = c .before .before .before .before .before .before .before .before .if1 in
+    let check = c .before .before .before .before .before .before .before .check in
+    let refusal = c .before .before .before .before .before .refusal in
     let t = c .before .before .refuse .ensures in
-    rw (← c .before .before .before .before .before .before .before .check .ensures, c .before .before .before .before .before .refusal .given .1) (answered _ _ _ _ (c .before .before .before .before .before .before .before .before .if1 .left) (t .0) (t .1))
+    rw (← check .ensures, refusal .given .1) (answered _ _ _ _ (if1 .left) (t .0) (t .1))
 
 pub florinwick-check-spec : {M : Type 1} → statement M
 florinwick-check-spec =

@@ -27,15 +27,23 @@ same-length : tie.Need-same-length
 same-length c = search needs
 
 returns-2 : tie.Need-returns-2
-returns-2 c = rw (← c .before .before .before .before .before .before .fetch-refusal .ensures, c .before .before .before .before .enum-told .given .1) (answered _ _ _ _ (c .before .before .before .before .before .before .before .if1 .left) refl (c .before .before .put-words .ensures))
+returns-2 c =
+    let if1 = c .before .before .before .before .before .before .before .if1 in
+    let fetch-refusal = c .before .before .before .before .before .before .fetch-refusal in
+    let enum-told = c .before .before .before .before .enum-told in
+    let put-words = c .before .before .put-words in
+    rw (← fetch-refusal .ensures, enum-told .given .1) (answered _ _ _ _ (if1 .left) refl (put-words .ensures))
 
 same-length-2 : tie.Need-same-length-2
 same-length-2 c = search needs
 
 returns-3 : tie.Need-returns-3
 returns-3 c =
+    let if1 = c .before .before .before .before .before .before .before .before .if1 in
+    let fetch-refusal = c .before .before .before .before .before .before .before .fetch-refusal in
+    let refusal = c .before .before .before .before .before .refusal in
     let t = c .before .before .refuse .ensures in
-    rw (← c .before .before .before .before .before .before .before .fetch-refusal .ensures, c .before .before .before .before .before .refusal .given .1) (answered _ _ _ _ (c .before .before .before .before .before .before .before .before .if1 .left) (t .0) (t .1))
+    rw (← fetch-refusal .ensures, refusal .given .1) (answered _ _ _ _ (if1 .left) (t .0) (t .1))
 
 pub florinwick-fetch-spec : {M : Type 1} → statement M
 florinwick-fetch-spec =

@@ -30,8 +30,12 @@ same-length-3 c = search needs
 returns-2 : tie.Need-returns-2
 unfolding initialiseReply
 returns-2 c =
-    let t = rw (c .before .before .before .max .ensures) at (c .before .before .tell .ensures) in
-    told-reply _ _ _ _ _ _ _ _ _ (c .before .before .before .before .before .before .before .before .before .before .before .before .if1 .left) (c .before .before .before .before .before .before .before .before .before .initialise .ensures) (t .0) (t .1)
+    let if1 = c .before .before .before .before .before .before .before .before .before .before .before .before .if1 in
+    let initialise = c .before .before .before .before .before .before .before .before .before .initialise in
+    let max = c .before .before .before .max in
+    let tell = c .before .before .tell in
+    let t = rw (max .ensures) at (tell .ensures) in
+    told-reply _ _ _ _ _ _ _ _ _ (if1 .left) (initialise .ensures) (t .0) (t .1)
 
 pub florinwick-initialise-spec : {M : Type 1} → statement M
 florinwick-initialise-spec =

@@ -27,8 +27,10 @@ same-length-3 c = search needs
 returns-2 : tie.Need-returns-2
 unfolding insertReply
 returns-2 c =
+    let if1 = c .before .before .before .before .before .before .before .before .before .before .before .if1 in
+    let insert = c .before .before .before .before .before .before .before .before .insert in
     let t = c .before .before .tell .ensures in
-    told-reply _ _ _ _ _ _ _ _ _ (c .before .before .before .before .before .before .before .before .before .before .before .if1 .left) (c .before .before .before .before .before .before .before .before .insert .ensures) (t .0) (t .1)
+    told-reply _ _ _ _ _ _ _ _ _ (if1 .left) (insert .ensures) (t .0) (t .1)
 
 pub florinwick-insert-spec : {M : Type 1} → statement M
 florinwick-insert-spec =

@@ -57,7 +57,12 @@ pages-in-requires-2 c κs = search needs
 
 returns : tie.Need-returns
 unfolding cursorIn
-returns c = rw (c .pages-in2 .ensures, c .before .before .indices-in2 .ensures, c .before .before .before .before .pages-in .ensures, c .before .before .before .before .before .before .indices-in .ensures, c .before .before .before .before .before .before .before .before .word .ensures, behind, behind, behind, behind)
+returns c =
+    let word = c .before .before .before .before .before .before .before .before .word in
+    let indices-in = c .before .before .before .before .before .before .indices-in in
+    let pages-in = c .before .before .before .before .pages-in in
+    let indices-in2 = c .before .before .indices-in2 in
+    rw (c .pages-in2 .ensures, indices-in2 .ensures, pages-in .ensures, indices-in .ensures, word .ensures, behind, behind, behind, behind)
 
 pub cursor-in-spec : {M : Type 1} → statement M
 cursor-in-spec =

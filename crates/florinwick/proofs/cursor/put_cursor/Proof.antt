@@ -27,12 +27,19 @@ same-length c = search needs
 
 returns : tie.Need-returns
 returns c =
-    let a = c .before .before .before .before .before .before .before .before .before .before .before .before .before .before .before .before .before .before .before .before .before .before .before .before .before .args in
-    let g = c .before .before .before .before .before .before .before .before .before .before .before .before .before .before .before .before .before .before .before .before .before .before .before .before .before .good .1 .0 .1 .1 .1 in
+    let word-put = c .before .before .before .before .before .before .before .before .before .before .before .before .before .before .before .before .before .before in
+    let entry = word-put .before .before .before .before .before .before .before in
+    let a = entry .args in
+    let g = entry .good .1 .0 .1 .1 .1 in
+    let put-indices = c .before .before .before .before .before .before .before .before .before .before .before .before .before .before .put-indices in
+    let put-pages = c .before .before .before .before .before .before .before .before .before .before .put-pages in
+    let put-indices2 = c .before .before .before .before .before .before .put-indices2 in
+    let put-pages2 = c .before .before .put-pages2 in
     let bi : length (a .cursor .«begin_indices») ≡ 8 = search needs in
     let ei : length (a .cursor .«end_indices») ≡ 8 = search needs in
-    rw (c .before .before .put-pages2 .ensures, c .before .before .before .before .before .before .put-indices2 .ensures, c .before .before .before .before .before .before .before .before .before .before .put-pages .ensures, c .before .before .before .before .before .before .before .before .before .before .before .before .before .before .put-indices .ensures, c .before .before .before .before .before .before .before .before .before .before .before .before .before .before .before .before .before .before .put-word .ensures)
-    (cursor-put (a .s .now) (a .cursor) (c .before .before .before .before .before .before .before .before .before .before .before .before .before .before .before .before .before .before .before .before .before .before .before .before .before .pre) bi (mapped-length _ (a .cursor .«begin_pages») 8 (g .1 .0 .1 .0 .1)) ei (mapped-length _ (a .cursor .«end_pages») 8 (g .1 .1 .1 .0 .1 .0 .1)))
+    rw (put-pages2 .ensures, put-indices2 .ensures, put-pages .ensures, put-indices .ensures, word-put .put-word .ensures)
+    (cursor-put (a .s .now) (a .cursor) (entry .pre) bi (mapped-length _ (a .cursor .«begin_pages») 8 (g .1 .0 .1 .0 .1)) ei
+    (mapped-length _ (a .cursor .«end_pages») 8 (g .1 .1 .1 .0 .1 .0 .1)))
 
 pub put-cursor-spec : {M : Type 1} → statement M
 put-cursor-spec =

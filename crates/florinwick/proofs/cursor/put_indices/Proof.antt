@@ -45,9 +45,14 @@ loop-less c = search needs
 
 loop-again : tie.Need-loop-again Inv-loop μ-loop
 loop-again c =
+    let pre = c .before .before .before .before .before .before .before .pre in
+    let test = c .before .before .before .before .loop-test in
+    let put-word = c .before .before .put-word in
     let a = c .before .before .before .before .before .before .before .args in
     let l = c .before .before .before .before .before .loop in
-    (omega (arith, c .before .before .before .before .loop-test .taken), (c .before .before .put-word .kept .0 ∙ l .inv .1 .0, (l .inv .1 .1 .0, c .before .before .put-word .ensures ∙ rw (l .inv .1 .1 .1) (put-next (bytesOf 8) (bytes-length 8) (a .s .now) (a .at) (a .t3) (l .i) 0 (omega (arith, c .before .before .before .before .loop-test .taken, l .inv .1 .1 .0)) (omega (arith, c .before .before .before .before .before .before .before .pre, l .inv .1 .1 .0))))))
+    let some = l .inv .1 .1 .0 in
+    let next = put-next (bytesOf 8) (bytes-length 8) (a .s .now) (a .at) (a .t3) (l .i) 0 (omega (arith, test .taken, some)) (omega (arith, pre, some)) in
+    (omega (arith, test .taken), (put-word .kept .0 ∙ l .inv .1 .0, (some, put-word .ensures ∙ rw (l .inv .1 .1 .1) next)))
 
 same-length : tie.Need-same-length Inv-loop μ-loop
 same-length c = search needs

@@ -32,8 +32,11 @@ same-length-3 c = search needs
 
 returns-3 : tie.Need-returns-3
 returns-3 c =
+    let if1 = c .before .before .before .before .before .before .before .before .before .if1 in
+    let if2 = c .before .before .before .before .before .before .before .before .if2 in
+    let start-between = c .before .before .before .before .before .before .before .start-between in
     let t = c .before .before .before .before .keep-start .ensures in
-    start-kept _ _ _ _ _ _ _ _ _ _ _ _ (c .before .before .before .before .before .before .before .before .before .if1 .left) (c .before .before .before .before .before .before .before .before .if2 .left) (c .before .before .before .before .before .before .before .start-between .ensures) (t .0 .0) (t .0 .1) (t .1)
+    start-kept _ _ _ _ _ _ _ _ _ _ _ _ (if1 .left) (if2 .left) (start-between .ensures) (t .0 .0) (t .0 .1) (t .1)
 
 pub florinwick-list-start-spec : {M : Type 1} → statement M
 florinwick-list-start-spec =

@@ -26,8 +26,11 @@ same-length-2 c = search needs
 
 returns-3 : tie.Need-returns-3
 returns-3 c =
+    let if1 = c .before .before .before .before .before .before .if1 in
+    let if2 = c .before .before .before .before .before .if2 in
+    let if3 = c .before .before .before .before .if3 in
     let t = c .before .before .refuse2 .ensures in
-    step-no-datom _ _ _ _ _ _ _ _ (c .before .before .before .before .before .before .if1 .left) (c .before .before .before .before .before .if2 .left) (c .before .before .before .before .if3 .taken) (t .0) (t .1)
+    step-no-datom _ _ _ _ _ _ _ _ (if1 .left) (if2 .left) (if3 .taken) (t .0) (t .1)
 
 cursor-in-requires : tie.Need-cursor-in-requires
 cursor-in-requires c κs = search needs
@@ -49,8 +52,14 @@ same-length-5 c = search needs
 
 returns-4 : tie.Need-returns-4
 returns-4 c =
+    let if1 = c .before .before .before .before .before .before .before .before .before .before .before .before .before .before .before .if1 in
+    let if2 = c .before .before .before .before .before .before .before .before .before .before .before .before .before .before .if2 in
+    let if3 = c .before .before .before .before .before .before .before .before .before .before .before .before .before .if3 in
+    let cursor-in = c .before .before .before .before .before .before .before .before .before .before .before .cursor-in in
+    let step = c .before .before .before .before .before .before .before .before .before .before .step in
     let t = c .before .before .before .before .before .before .keep-step .ensures in
-    step-kept _ _ _ _ _ _ _ _ _ _ _ (c .before .before .before .before .before .before .before .before .before .before .before .before .before .before .before .if1 .left) (c .before .before .before .before .before .before .before .before .before .before .before .before .before .before .if2 .left) (c .before .before .before .before .before .before .before .before .before .before .before .before .before .if3 .left) (rw (c .before .before .before .before .before .before .before .before .before .before .before .cursor-in .ensures) at (c .before .before .before .before .before .before .before .before .before .before .step .ensures)) (t .0 .0) (t .0 .1) (t .1 .0) (t .1 .1)
+    step-kept _ _ _ _ _ _ _ _ _ _ _ (if1 .left) (if2 .left) (if3 .left) (rw (cursor-in .ensures) at (step .ensures)) (t .0 .0) (t .0 .1) (t .1 .0)
+    (t .1 .1)
 
 pub florinwick-list-step-spec : {M : Type 1} → statement M
 florinwick-list-step-spec =

@@ -28,7 +28,11 @@ same-length-2 c = search needs
 
 returns : tie.Need-returns
 unfolding cursorStarted
-returns c = rw (c .before .before .before .before .before .before .before .before .enum-told .given .1) ((refl, c .before .before .put-words .ensures), c .before .before .before .before .before .before .put-cursor .ensures)
+returns c =
+    let enum-told = c .before .before .before .before .before .before .before .before .enum-told in
+    let put-cursor = c .before .before .before .before .before .before .put-cursor in
+    let put-words = c .before .before .put-words in
+    rw (enum-told .given .1) ((refl, put-words .ensures), put-cursor .ensures)
 
 same-length-3 : tie.Need-same-length-3
 same-length-3 c = search needs

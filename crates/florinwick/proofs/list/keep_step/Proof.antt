@@ -40,7 +40,12 @@ same-length-3 c = search needs
 
 returns : tie.Need-returns
 unfolding cursorStepped datomStepped
-returns c = rw (c .before .before .before .before .before .before .before .before .before .before .before .before .before .answer .given .1) ((refl, c .before .before .put-words2 .ensures), (c .before .before .before .before .before .before .before .before .before .before .put-cursor .ensures, datom-told _ _ (c .before .before .before .before .before .before .put-words .ensures)))
+returns c =
+    let answer = c .before .before .before .before .before .before .before .before .before .before .before .before .before .answer in
+    let put-cursor = c .before .before .before .before .before .before .before .before .before .before .put-cursor in
+    let put-words = c .before .before .before .before .before .before .put-words in
+    let put-words2 = c .before .before .put-words2 in
+    rw (answer .given .1) ((refl, put-words2 .ensures), (put-cursor .ensures, datom-told _ _ (put-words .ensures)))
 
 same-length-4 : tie.Need-same-length-4
 same-length-4 c = search needs

@@ -24,7 +24,11 @@ refused-requires-3 : tie.Need-refused-requires-3
 refused-requires-3 c κs = search needs
 
 returns-3 : tie.Need-returns-3
-returns-3 c = c .refused3 .ensures ∙ upper-short _ _ _ _ _ _ (sym (c .before .before .before .before .is-bad .ensures) ∙ c .before .before .before .if1 .left) (c .before .before .if2 .left) (c .before .if3 .taken)
+returns-3 c =
+    let is-bad = c .before .before .before .before .is-bad in
+    let if1 = c .before .before .before .if1 in
+    let if2 = c .before .before .if2 in
+    c .refused3 .ensures ∙ upper-short _ _ _ _ _ _ (sym (is-bad .ensures) ∙ if1 .left) (if2 .left) (c .before .if3 .taken)
 
 datom-at-requires : tie.Need-datom-at-requires
 datom-at-requires c κs = search needs
@@ -36,7 +40,14 @@ start-requires : tie.Need-start-requires
 start-requires c κs = search needs
 
 returns-4 : tie.Need-returns-4
-returns-4 c = rw (c .before .before .datom-at .ensures, c .before .datom-at2 .ensures) at (c .start .ensures) ∙ bounds-given _ _ _ _ _ _ (sym (c .before .before .before .before .before .before .is-bad .ensures) ∙ c .before .before .before .before .before .if1 .left) (c .before .before .before .before .if2 .left) (c .before .before .before .if3 .left)
+returns-4 c =
+    let is-bad = c .before .before .before .before .before .before .is-bad in
+    let if1 = c .before .before .before .before .before .if1 in
+    let if2 = c .before .before .before .before .if2 in
+    let if3 = c .before .before .before .if3 in
+    let datom-at = c .before .before .datom-at in
+    rw (datom-at .ensures, c .before .datom-at2 .ensures) at (c .start .ensures) ∙ bounds-given _ _ _ _ _ _ (sym (is-bad .ensures) ∙ if1 .left)
+    (if2 .left) (if3 .left)
 
 pub start-between-spec : {M : Type 1} → statement M
 start-between-spec =

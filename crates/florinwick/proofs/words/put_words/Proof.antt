@@ -21,7 +21,12 @@ same-length c = search needs
 
 returns : tie.Need-returns
 returns c =
-    rw (c .before .before .put-word4 .ensures, c .before .before .before .before .before .before .put-word3 .ensures, c .before .before .before .before .before .before .before .before .before .before .put-word2 .ensures, c .before .before .before .before .before .before .before .before .before .before .before .before .before .before .put-word .ensures) (four-words _ (c .before .before .before .before .before .before .before .before .before .before .before .before .before .before .before .before .before .pre) _ _ _ _)
+    let pre = c .before .before .before .before .before .before .before .before .before .before .before .before .before .before .before .before .before .pre in
+    let put-word = c .before .before .before .before .before .before .before .before .before .before .before .before .before .before .put-word in
+    let put-word2 = c .before .before .before .before .before .before .before .before .before .before .put-word2 in
+    let put-word3 = c .before .before .before .before .before .before .put-word3 in
+    let put-word4 = c .before .before .put-word4 in
+    rw (put-word4 .ensures, put-word3 .ensures, put-word2 .ensures, put-word .ensures) (four-words _ pre _ _ _ _)
 
 pub put-words-spec : {M : Type 1} → statement M
 put-words-spec =

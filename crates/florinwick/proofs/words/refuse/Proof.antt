@@ -16,7 +16,11 @@ same-length : tie.Need-same-length
 same-length c = search needs
 
 returns : tie.Need-returns
-returns c = (c .before .before .before .before .before .number .ensures, rw (c .before .before .before .before .before .number .ensures, c .before .before .before .detail .ensures) at (c .before .before .put-words .ensures))
+returns c =
+    let number = c .before .before .before .before .before .number in
+    let detail = c .before .before .before .detail in
+    let put-words = c .before .before .put-words in
+    (number .ensures, rw (number .ensures, detail .ensures) at (put-words .ensures))
 
 pub refuse-spec : {M : Type 1} → statement M
 refuse-spec =

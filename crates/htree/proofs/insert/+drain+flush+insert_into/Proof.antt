@@ -9,7 +9,7 @@ use lib.ListN.{length, length-take, length-drop}
 use Rattle.node.specs.Spans.{Spans}
 use Rattle.node.specs.Splice.{Spliced}
 use Rattle.htree.specs.Told.{Ready}
-use Rattle.htree.specs.Cycle.{Drains, area-fits, areas-fit, lower, drains-start, drains-ready, drains-length, drains-small, drains-sent, drains-none, drains-on, drains-stop, flush-fails, flush-back, flush-done, insert-bad, loads-few, insert-flat, insert-stops, went-ready, went-few, insert-goes}
+use Rattle.htree.specs.Cycle.{Drains, Rooms, rooms, area-fits, lower, drains-start, drains-ready, drains-length, drains-small, drains-sent, drains-none, drains-on, drains-stop, flush-fails, flush-back, flush-done, insert-bad, loads-few, insert-flat, insert-stops, went-ready, went-few, insert-goes}
 use Prim.Native.Nat.{ℕ, _<_}
 use borrow.Fn.Kinds.{In}
 use borrow.Fn.PlainCycle.{Measures, is, falls, and}
@@ -61,6 +61,39 @@ abbrev insert-into-below : ℕ → In 2 insert-into-kinds.ps
 insert-into-below t =
     and 2 insert-into-kinds.ps (falls 2 insert-into-kinds.ps _<_ μ-insert-into t) insert-into.Pre
 
+-- what the calls of each ask and give
+abbrev drain-calls : ℕ → drain-lts.Claims
+drain-calls t = (
+  has-pending-reads.Asked,
+  has-pending-reads.Learnt,
+  flush-below t,
+  flush.Post,
+)
+
+abbrev flush-calls : ℕ → flush-lts.Claims
+flush-calls t = (
+  longest-pending-span-reads.Asked,
+  longest-pending-span-reads.Learnt,
+  child-at-reads.Asked,
+  child-at-reads.Learnt,
+  move-span-reads.Asked,
+  move-span-reads.Learnt,
+  insert-into-below t,
+  insert-into.Post,
+  splice-reads.Asked,
+  splice-reads.Learnt,
+)
+
+abbrev insert-into-calls : ℕ → insert-into-lts.Claims
+insert-into-calls t = (
+  load-reads.Asked,
+  load-reads.Learnt,
+  settle-reads.Asked,
+  settle-reads.Learnt,
+  drain-below t,
+  drain.Post,
+)
+
 abbrev drain-Inv-loop : drain-lts.InvT-loop
 drain-Inv-loop store₀ extent c written level s₀ m n turns₀ count₀ next₀ store s turns count next =
     Drains extent store₀ c written level m n s₀ store s turns count next
@@ -68,146 +101,62 @@ drain-Inv-loop store₀ extent c written level s₀ m n turns₀ count₀ next�
 abbrev drain-μ-loop : drain-lts.MeasureT-loop
 drain-μ-loop store₀ extent c written level s₀ m n turns₀ count₀ next₀ store s turns count next = turns
 
-drain-loop-holds : (t : ℕ) → drain-lts.Need-loop-holds (
-  has-pending-reads.Asked,
-  has-pending-reads.Learnt,
-  flush-below t,
-  flush.Post,
-) (drain-at t) drain.Post drain-Inv-loop drain-μ-loop
+drain-loop-holds : (t : ℕ) → drain-lts.Need-loop-holds (drain-calls t) (drain-at t) drain.Post drain-Inv-loop drain-μ-loop
 drain-loop-holds t c = drains-start _ _ _ _ _ _ _ _ (c .before .before .pre .1 .0)
 
-drain-same-length : (t : ℕ) → drain-lts.Need-same-length (
-  has-pending-reads.Asked,
-  has-pending-reads.Learnt,
-  flush-below t,
-  flush.Post,
-) (drain-at t) drain.Post drain-Inv-loop drain-μ-loop
-drain-same-length t c =
-    let a = c .before .before .before .before .before .args in
-    let I = c .before .before .loop .inv in
-    let P = c .before .before .before .before .before .pre .1 in omega (arith, drains-length I)
+drain-same-length : (t : ℕ) → drain-lts.Need-same-length (drain-calls t) (drain-at t) drain.Post drain-Inv-loop drain-μ-loop
+drain-same-length t c = omega (arith, drains-length (c .before .before .loop .inv))
 
-drain-same-length-2 : (t : ℕ) → drain-lts.Need-same-length-2 (
-  has-pending-reads.Asked,
-  has-pending-reads.Learnt,
-  flush-below t,
-  flush.Post,
-) (drain-at t) drain.Post drain-Inv-loop drain-μ-loop
-drain-same-length-2 t c =
-    let a = c .before .before .before .before .before .args in
-    let I = c .before .before .loop .inv in
-    let P = c .before .before .before .before .before .pre .1 in omega (arith, I .same)
+drain-same-length-2 : (t : ℕ) → drain-lts.Need-same-length-2 (drain-calls t) (drain-at t) drain.Post drain-Inv-loop drain-μ-loop
+drain-same-length-2 t c = omega (arith, c .before .before .loop .inv .same)
 
-drain-returns : (t : ℕ) → drain-lts.Need-returns (
-  has-pending-reads.Asked,
-  has-pending-reads.Learnt,
-  flush-below t,
-  flush.Post,
-) (drain-at t) drain.Post drain-Inv-loop drain-μ-loop
+drain-returns : (t : ℕ) → drain-lts.Need-returns (drain-calls t) (drain-at t) drain.Post drain-Inv-loop drain-μ-loop
 drain-returns t c =
     let a = c .before .before .before .before .before .args in
     let I = c .before .before .loop .inv in
-    let P = c .before .before .before .before .before .pre .1 in λ o e. drains-small I (omega (arith, P .2)) o e (omega (arith, P .0 .cap))
+    let P = c .before .before .before .before .before .pre .1 in
+    λ o e. drains-small I (omega (arith, P .2)) o e (omega (arith, P .0 .cap))
 
-drain-has-pending-requires : (t : ℕ) → drain-lts.Need-has-pending-requires (
-  has-pending-reads.Asked,
-  has-pending-reads.Learnt,
-  flush-below t,
-  flush.Post,
-) (drain-at t) drain.Post drain-Inv-loop drain-μ-loop
+drain-has-pending-requires : (t : ℕ) → drain-lts.Need-has-pending-requires (drain-calls t) (drain-at t) drain.Post drain-Inv-loop drain-μ-loop
 drain-has-pending-requires t c κs =
     let a = c .before .before .before .before .before .before .args in
     let I = c .before .before .before .loop .inv in
-    let P = c .before .before .before .before .before .before .pre .1 in (omega (arith, I .same, area-fits (a .level) (40 * a .m + 8) (32 * a .m) (length (a .s .now)) (P .3)), omega (arith, I .few, P .2))
+    let P = c .before .before .before .before .before .before .pre .1 in
+    (omega (arith, I .same, area-fits (a .level) (40 * a .m + 8) (32 * a .m) (length (a .s .now)) (P .3)), omega (arith, I .few, P .2))
 
-drain-same-length-3 : (t : ℕ) → drain-lts.Need-same-length-3 (
-  has-pending-reads.Asked,
-  has-pending-reads.Learnt,
-  flush-below t,
-  flush.Post,
-) (drain-at t) drain.Post drain-Inv-loop drain-μ-loop
-drain-same-length-3 t c =
-    let a = c .before .before .before .before .before .before .before .before .args in
-    let I = c .before .before .before .before .before .loop .inv in
-    let P = c .before .before .before .before .before .before .before .before .pre .1 in omega (arith, drains-length I)
+drain-same-length-3 : (t : ℕ) → drain-lts.Need-same-length-3 (drain-calls t) (drain-at t) drain.Post drain-Inv-loop drain-μ-loop
+drain-same-length-3 t c = omega (arith, drains-length (c .before .before .before .before .before .loop .inv))
 
-drain-same-length-4 : (t : ℕ) → drain-lts.Need-same-length-4 (
-  has-pending-reads.Asked,
-  has-pending-reads.Learnt,
-  flush-below t,
-  flush.Post,
-) (drain-at t) drain.Post drain-Inv-loop drain-μ-loop
-drain-same-length-4 t c =
-    let a = c .before .before .before .before .before .before .before .before .args in
-    let I = c .before .before .before .before .before .loop .inv in
-    let P = c .before .before .before .before .before .before .before .before .pre .1 in omega (arith, I .same)
+drain-same-length-4 : (t : ℕ) → drain-lts.Need-same-length-4 (drain-calls t) (drain-at t) drain.Post drain-Inv-loop drain-μ-loop
+drain-same-length-4 t c = omega (arith, c .before .before .before .before .before .loop .inv .same)
 
-drain-returns-2 : (t : ℕ) → drain-lts.Need-returns-2 (
-  has-pending-reads.Asked,
-  has-pending-reads.Learnt,
-  flush-below t,
-  flush.Post,
-) (drain-at t) drain.Post drain-Inv-loop drain-μ-loop
+drain-returns-2 : (t : ℕ) → drain-lts.Need-returns-2 (drain-calls t) (drain-at t) drain.Post drain-Inv-loop drain-μ-loop
 drain-returns-2 t c =
     let a = c .before .before .before .before .before .before .before .before .args in
     let I = c .before .before .before .before .before .loop .inv in
-    let P = c .before .before .before .before .before .before .before .before .pre .1 in λ o e. drains-sent I (omega (arith, P .2)) o e (sym (c .before .has-pending .ensures) ∙ not-true _ (c .if2 .taken))
+    let P = c .before .before .before .before .before .before .before .before .pre .1 in
+    λ o e. drains-sent I (omega (arith, P .2)) o e (sym (c .before .has-pending .ensures) ∙ not-true _ (c .if2 .taken))
 
-drain-flush-requires : (t : ℕ) → drain-lts.Need-flush-requires (
-  has-pending-reads.Asked,
-  has-pending-reads.Learnt,
-  flush-below t,
-  flush.Post,
-) (drain-at t) drain.Post drain-Inv-loop drain-μ-loop
+drain-flush-requires : (t : ℕ) → drain-lts.Need-flush-requires (drain-calls t) (drain-at t) drain.Post drain-Inv-loop drain-μ-loop
 drain-flush-requires t c κs =
     let a = c .before .before .before .before .before .before .before .before .before .before .args in
     let I = c .before .before .before .before .before .before .before .loop .inv in
-    let P = c .before .before .before .before .before .before .before .before .before .before .pre .1 in (omega arith, (drains-ready I, P .1, omega (arith, I .few, P .2), omega (arith, I .same, P .3)))
+    let P = c .before .before .before .before .before .before .before .before .before .before .pre .1 in
+    (omega arith, (drains-ready I, P .1, omega (arith, I .few, P .2), omega (arith, I .same, P .3)))
 
-drain-enum-known-datoms : (t : ℕ) → drain-lts.Need-enum-known-datoms (
-  has-pending-reads.Asked,
-  has-pending-reads.Learnt,
-  flush-below t,
-  flush.Post,
-) (drain-at t) drain.Post drain-Inv-loop drain-μ-loop
+drain-enum-known-datoms : (t : ℕ) → drain-lts.Need-enum-known-datoms (drain-calls t) (drain-at t) drain.Post drain-Inv-loop drain-μ-loop
 drain-enum-known-datoms t c = search needs
 
-drain-enum-known-refusal : (t : ℕ) → drain-lts.Need-enum-known-refusal (
-  has-pending-reads.Asked,
-  has-pending-reads.Learnt,
-  flush-below t,
-  flush.Post,
-) (drain-at t) drain.Post drain-Inv-loop drain-μ-loop
+drain-enum-known-refusal : (t : ℕ) → drain-lts.Need-enum-known-refusal (drain-calls t) (drain-at t) drain.Post drain-Inv-loop drain-μ-loop
 drain-enum-known-refusal t c = search needs
 
-drain-same-length-5 : (t : ℕ) → drain-lts.Need-same-length-5 (
-  has-pending-reads.Asked,
-  has-pending-reads.Learnt,
-  flush-below t,
-  flush.Post,
-) (drain-at t) drain.Post drain-Inv-loop drain-μ-loop
-drain-same-length-5 t c =
-    let a = c .before .before .before .before .before .before .before .before .before .before .before .before .before .before .before .before .before .before .args in
-    let I = c .before .before .before .before .before .before .before .before .before .before .before .before .before .before .before .loop .inv in
-    let P = c .before .before .before .before .before .before .before .before .before .before .before .before .before .before .before .before .before .before .pre .1 in omega (arith, drains-length I)
+drain-same-length-5 : (t : ℕ) → drain-lts.Need-same-length-5 (drain-calls t) (drain-at t) drain.Post drain-Inv-loop drain-μ-loop
+drain-same-length-5 t c = omega (arith, drains-length (c .before .before .before .before .before .before .before .before .before .before .before .before .before .before .before .loop .inv))
 
-drain-same-length-6 : (t : ℕ) → drain-lts.Need-same-length-6 (
-  has-pending-reads.Asked,
-  has-pending-reads.Learnt,
-  flush-below t,
-  flush.Post,
-) (drain-at t) drain.Post drain-Inv-loop drain-μ-loop
-drain-same-length-6 t c =
-    let a = c .before .before .before .before .before .before .before .before .before .before .before .before .before .before .before .before .before .before .args in
-    let I = c .before .before .before .before .before .before .before .before .before .before .before .before .before .before .before .loop .inv in
-    let P = c .before .before .before .before .before .before .before .before .before .before .before .before .before .before .before .before .before .before .pre .1 in omega (arith, I .same)
+drain-same-length-6 : (t : ℕ) → drain-lts.Need-same-length-6 (drain-calls t) (drain-at t) drain.Post drain-Inv-loop drain-μ-loop
+drain-same-length-6 t c = omega (arith, c .before .before .before .before .before .before .before .before .before .before .before .before .before .before .before .loop .inv .same)
 
-drain-returns-3 : (t : ℕ) → drain-lts.Need-returns-3 (
-  has-pending-reads.Asked,
-  has-pending-reads.Learnt,
-  flush-below t,
-  flush.Post,
-) (drain-at t) drain.Post drain-Inv-loop drain-μ-loop
+drain-returns-3 : (t : ℕ) → drain-lts.Need-returns-3 (drain-calls t) (drain-at t) drain.Post drain-Inv-loop drain-μ-loop
 drain-returns-3 t c =
     let a = c .before .before .before .before .before .before .before .before .before .before .before .before .before .before .before .before .before .before .args in
     let I = c .before .before .before .before .before .before .before .before .before .before .before .before .before .before .before .loop .inv in
@@ -215,28 +164,13 @@ drain-returns-3 t c =
     drains-stop I (omega arith) (omega (arith, P .0 .cap)) (sym (c .before .before .before .before .before .before .before .before .before .before .before .has-pending .ensures) ∙ not-false _ (c .before .before .before .before .before .before .before .before .before .before .if2 .left)) _ _ _ _
     (rw (c .before .refusal .given .1) at (c .before .before .before .before .before .before .before .flush .ensures))
 
-drain-sub-turns : (t : ℕ) → drain-lts.Need-sub-turns (
-  has-pending-reads.Asked,
-  has-pending-reads.Learnt,
-  flush-below t,
-  flush.Post,
-) (drain-at t) drain.Post drain-Inv-loop drain-μ-loop
+drain-sub-turns : (t : ℕ) → drain-lts.Need-sub-turns (drain-calls t) (drain-at t) drain.Post drain-Inv-loop drain-μ-loop
 drain-sub-turns t c = search needs
 
-drain-loop-less : (t : ℕ) → drain-lts.Need-loop-less (
-  has-pending-reads.Asked,
-  has-pending-reads.Learnt,
-  flush-below t,
-  flush.Post,
-) (drain-at t) drain.Post drain-Inv-loop drain-μ-loop
+drain-loop-less : (t : ℕ) → drain-lts.Need-loop-less (drain-calls t) (drain-at t) drain.Post drain-Inv-loop drain-μ-loop
 drain-loop-less t c = search needs
 
-drain-loop-again : (t : ℕ) → drain-lts.Need-loop-again (
-  has-pending-reads.Asked,
-  has-pending-reads.Learnt,
-  flush-below t,
-  flush.Post,
-) (drain-at t) drain.Post drain-Inv-loop drain-μ-loop
+drain-loop-again : (t : ℕ) → drain-lts.Need-loop-again (drain-calls t) (drain-at t) drain.Post drain-Inv-loop drain-μ-loop
 drain-loop-again t c =
     let a = c .before .before .before .before .before .before .before .before .before .before .before .before .before .before .before .before .before .before .args in
     let I = c .before .before .before .before .before .before .before .before .before .before .before .before .before .before .before .loop .inv in
@@ -244,314 +178,125 @@ drain-loop-again t c =
     drains-on I (omega arith) (omega (arith, P .0 .cap)) (sym (c .before .before .before .before .before .before .before .before .before .before .before .has-pending .ensures) ∙ not-false _ (c .before .before .before .before .before .before .before .before .before .before .if2 .left)) _ _ _ _
     (rw (c .before .datoms .given .1) at (c .before .before .before .before .before .before .before .flush .ensures)) (omega arith)
 
-drain-same-length-7 : (t : ℕ) → drain-lts.Need-same-length-7 (
-  has-pending-reads.Asked,
-  has-pending-reads.Learnt,
-  flush-below t,
-  flush.Post,
-) (drain-at t) drain.Post drain-Inv-loop drain-μ-loop
-drain-same-length-7 t c =
-    let a = c .before .before .before .before .args in
-    let I = c .before .loop .inv in
-    let P = c .before .before .before .before .pre .1 in omega (arith, drains-length I)
+drain-same-length-7 : (t : ℕ) → drain-lts.Need-same-length-7 (drain-calls t) (drain-at t) drain.Post drain-Inv-loop drain-μ-loop
+drain-same-length-7 t c = omega (arith, drains-length (c .before .loop .inv))
 
-drain-same-length-8 : (t : ℕ) → drain-lts.Need-same-length-8 (
-  has-pending-reads.Asked,
-  has-pending-reads.Learnt,
-  flush-below t,
-  flush.Post,
-) (drain-at t) drain.Post drain-Inv-loop drain-μ-loop
-drain-same-length-8 t c =
-    let a = c .before .before .before .before .args in
-    let I = c .before .loop .inv in
-    let P = c .before .before .before .before .pre .1 in omega (arith, I .same)
+drain-same-length-8 : (t : ℕ) → drain-lts.Need-same-length-8 (drain-calls t) (drain-at t) drain.Post drain-Inv-loop drain-μ-loop
+drain-same-length-8 t c = omega (arith, c .before .loop .inv .same)
 
-drain-returns-4 : (t : ℕ) → drain-lts.Need-returns-4 (
-  has-pending-reads.Asked,
-  has-pending-reads.Learnt,
-  flush-below t,
-  flush.Post,
-) (drain-at t) drain.Post drain-Inv-loop drain-μ-loop
+drain-returns-4 : (t : ℕ) → drain-lts.Need-returns-4 (drain-calls t) (drain-at t) drain.Post drain-Inv-loop drain-μ-loop
 drain-returns-4 t c =
     let a = c .before .before .before .before .args in
     let I = c .before .loop .inv in
-    let P = c .before .before .before .before .pre .1 in λ o e. drains-none I (omega (arith, P .2)) o e (omega arith)
+    let P = c .before .before .before .before .pre .1 in
+    λ o e. drains-none I (omega (arith, P .2)) o e (omega arith)
 
-flush-longest-pending-span-requires : (t : ℕ) → flush-lts.Need-longest-pending-span-requires (
-  longest-pending-span-reads.Asked,
-  longest-pending-span-reads.Learnt,
-  child-at-reads.Asked,
-  child-at-reads.Learnt,
-  move-span-reads.Asked,
-  move-span-reads.Learnt,
-  insert-into-below t,
-  insert-into.Post,
-  splice-reads.Asked,
-  splice-reads.Learnt,
-) (flush-at t) flush.Post
+flush-longest-pending-span-requires : (t : ℕ) → flush-lts.Need-longest-pending-span-requires (flush-calls t) (flush-at t) flush.Post
 flush-longest-pending-span-requires t c κs =
     let a = c .before .before .before .args in
     let P = c .before .before .before .pre .1 in
-    let g = areas-fit (a .level) (40 * a .m + 8) (32 * a .m) (length (a .s .now)) (P .1) (P .3) in
-    let f = area-fits (a .level) (40 * a .m + 8) (32 * a .m) (length (a .s .now)) (P .3) in
-    let h = area-fits (a .level - 1) (40 * a .m + 8) (32 * a .m) (length (a .s .now) - (40 * a .m + 8)) (rw (lower (a .level) (P .1)) g) in (omega arith, omega (arith, P .2))
+    let g = rooms (a .level) (40 * a .m + 8) (32 * a .m) (length (a .s .now)) (P .1) (P .3) in
+    (omega arith, omega (arith, P .2))
 
-flush-child-at-requires : (t : ℕ) → flush-lts.Need-child-at-requires (
-  longest-pending-span-reads.Asked,
-  longest-pending-span-reads.Learnt,
-  child-at-reads.Asked,
-  child-at-reads.Learnt,
-  move-span-reads.Asked,
-  move-span-reads.Learnt,
-  insert-into-below t,
-  insert-into.Post,
-  splice-reads.Asked,
-  splice-reads.Learnt,
-) (flush-at t) flush.Post
+flush-child-at-requires : (t : ℕ) → flush-lts.Need-child-at-requires (flush-calls t) (flush-at t) flush.Post
 flush-child-at-requires t c κs =
     let a = c .before .before .before .before .before .args in
     let P = c .before .before .before .before .before .pre .1 in
-    let g = areas-fit (a .level) (40 * a .m + 8) (32 * a .m) (length (a .s .now)) (P .1) (P .3) in
-    let f = area-fits (a .level) (40 * a .m + 8) (32 * a .m) (length (a .s .now)) (P .3) in
-    let h = area-fits (a .level - 1) (40 * a .m + 8) (32 * a .m) (length (a .s .now) - (40 * a .m + 8)) (rw (lower (a .level) (P .1)) g) in
-    let Q = c .before .longest-pending-span .ensures in (omega arith, omega (arith, P .2, Q .within))
+    let g = rooms (a .level) (40 * a .m + 8) (32 * a .m) (length (a .s .now)) (P .1) (P .3) in
+    let Q = c .before .longest-pending-span .ensures in
+    (omega arith, omega (arith, P .2, Q .within))
 
-flush-mul-own : (t : ℕ) → flush-lts.Need-mul-own (
-  longest-pending-span-reads.Asked,
-  longest-pending-span-reads.Learnt,
-  child-at-reads.Asked,
-  child-at-reads.Learnt,
-  move-span-reads.Asked,
-  move-span-reads.Learnt,
-  insert-into-below t,
-  insert-into.Post,
-  splice-reads.Asked,
-  splice-reads.Learnt,
-) (flush-at t) flush.Post
+flush-mul-own : (t : ℕ) → flush-lts.Need-mul-own (flush-calls t) (flush-at t) flush.Post
 flush-mul-own t c =
     let a = c .before .before .before .before .before .before .args in
     let P = c .before .before .before .before .before .before .pre .1 in
-    let g = areas-fit (a .level) (40 * a .m + 8) (32 * a .m) (length (a .s .now)) (P .1) (P .3) in
-    let f = area-fits (a .level) (40 * a .m + 8) (32 * a .m) (length (a .s .now)) (P .3) in
-    let h = area-fits (a .level - 1) (40 * a .m + 8) (32 * a .m) (length (a .s .now) - (40 * a .m + 8)) (rw (lower (a .level) (P .1)) g) in omega arith
+    let g = rooms (a .level) (40 * a .m + 8) (32 * a .m) (length (a .s .now)) (P .1) (P .3) in
+    omega arith
 
-flush-add-own : (t : ℕ) → flush-lts.Need-add-own (
-  longest-pending-span-reads.Asked,
-  longest-pending-span-reads.Learnt,
-  child-at-reads.Asked,
-  child-at-reads.Learnt,
-  move-span-reads.Asked,
-  move-span-reads.Learnt,
-  insert-into-below t,
-  insert-into.Post,
-  splice-reads.Asked,
-  splice-reads.Learnt,
-) (flush-at t) flush.Post
+flush-add-own : (t : ℕ) → flush-lts.Need-add-own (flush-calls t) (flush-at t) flush.Post
 flush-add-own t c =
     let a = c .before .before .before .before .before .before .args in
     let P = c .before .before .before .before .before .before .pre .1 in
-    let g = areas-fit (a .level) (40 * a .m + 8) (32 * a .m) (length (a .s .now)) (P .1) (P .3) in
-    let f = area-fits (a .level) (40 * a .m + 8) (32 * a .m) (length (a .s .now)) (P .3) in
-    let h = area-fits (a .level - 1) (40 * a .m + 8) (32 * a .m) (length (a .s .now) - (40 * a .m + 8)) (rw (lower (a .level) (P .1)) g) in omega arith
+    let g = rooms (a .level) (40 * a .m + 8) (32 * a .m) (length (a .s .now)) (P .1) (P .3) in
+    omega arith
 
-flush-mul-move-span : (t : ℕ) → flush-lts.Need-mul-move-span (
-  longest-pending-span-reads.Asked,
-  longest-pending-span-reads.Learnt,
-  child-at-reads.Asked,
-  child-at-reads.Learnt,
-  move-span-reads.Asked,
-  move-span-reads.Learnt,
-  insert-into-below t,
-  insert-into.Post,
-  splice-reads.Asked,
-  splice-reads.Learnt,
-) (flush-at t) flush.Post
+flush-mul-move-span : (t : ℕ) → flush-lts.Need-mul-move-span (flush-calls t) (flush-at t) flush.Post
 flush-mul-move-span t c =
     let a = c .before .before .before .before .before .before .before .args in
     let P = c .before .before .before .before .before .before .before .pre .1 in
-    let g = areas-fit (a .level) (40 * a .m + 8) (32 * a .m) (length (a .s .now)) (P .1) (P .3) in
-    let f = area-fits (a .level) (40 * a .m + 8) (32 * a .m) (length (a .s .now)) (P .3) in
-    let h = area-fits (a .level - 1) (40 * a .m + 8) (32 * a .m) (length (a .s .now) - (40 * a .m + 8)) (rw (lower (a .level) (P .1)) g) in
-    let Q = c .before .before .before .longest-pending-span .ensures in omega (arith, P .2, Q .rises, Q .within)
+    let g = rooms (a .level) (40 * a .m + 8) (32 * a .m) (length (a .s .now)) (P .1) (P .3) in
+    let Q = c .before .before .before .longest-pending-span .ensures in
+    omega (arith, P .2, Q .rises, Q .within)
 
-flush-add-move-span : (t : ℕ) → flush-lts.Need-add-move-span (
-  longest-pending-span-reads.Asked,
-  longest-pending-span-reads.Learnt,
-  child-at-reads.Asked,
-  child-at-reads.Learnt,
-  move-span-reads.Asked,
-  move-span-reads.Learnt,
-  insert-into-below t,
-  insert-into.Post,
-  splice-reads.Asked,
-  splice-reads.Learnt,
-) (flush-at t) flush.Post
+flush-add-move-span : (t : ℕ) → flush-lts.Need-add-move-span (flush-calls t) (flush-at t) flush.Post
 flush-add-move-span t c =
     let a = c .before .before .before .before .before .before .before .args in
     let P = c .before .before .before .before .before .before .before .pre .1 in
-    let g = areas-fit (a .level) (40 * a .m + 8) (32 * a .m) (length (a .s .now)) (P .1) (P .3) in
-    let f = area-fits (a .level) (40 * a .m + 8) (32 * a .m) (length (a .s .now)) (P .3) in
-    let h = area-fits (a .level - 1) (40 * a .m + 8) (32 * a .m) (length (a .s .now) - (40 * a .m + 8)) (rw (lower (a .level) (P .1)) g) in
-    let Q = c .before .before .before .longest-pending-span .ensures in omega (arith, P .2, Q .rises, Q .within)
+    let g = rooms (a .level) (40 * a .m + 8) (32 * a .m) (length (a .s .now)) (P .1) (P .3) in
+    let Q = c .before .before .before .longest-pending-span .ensures in
+    omega (arith, P .2, Q .rises, Q .within)
 
-flush-sub-move-span : (t : ℕ) → flush-lts.Need-sub-move-span (
-  longest-pending-span-reads.Asked,
-  longest-pending-span-reads.Learnt,
-  child-at-reads.Asked,
-  child-at-reads.Learnt,
-  move-span-reads.Asked,
-  move-span-reads.Learnt,
-  insert-into-below t,
-  insert-into.Post,
-  splice-reads.Asked,
-  splice-reads.Learnt,
-) (flush-at t) flush.Post
+flush-sub-move-span : (t : ℕ) → flush-lts.Need-sub-move-span (flush-calls t) (flush-at t) flush.Post
 flush-sub-move-span t c =
     let a = c .before .before .before .before .before .before .before .args in
     let P = c .before .before .before .before .before .before .before .pre .1 in
-    let g = areas-fit (a .level) (40 * a .m + 8) (32 * a .m) (length (a .s .now)) (P .1) (P .3) in
-    let f = area-fits (a .level) (40 * a .m + 8) (32 * a .m) (length (a .s .now)) (P .3) in
-    let h = area-fits (a .level - 1) (40 * a .m + 8) (32 * a .m) (length (a .s .now) - (40 * a .m + 8)) (rw (lower (a .level) (P .1)) g) in
-    let Q = c .before .before .before .longest-pending-span .ensures in omega (arith, Q .rises)
+    let g = rooms (a .level) (40 * a .m + 8) (32 * a .m) (length (a .s .now)) (P .1) (P .3) in
+    let Q = c .before .before .before .longest-pending-span .ensures in
+    omega (arith, Q .rises)
 
-flush-move-span-requires : (t : ℕ) → flush-lts.Need-move-span-requires (
-  longest-pending-span-reads.Asked,
-  longest-pending-span-reads.Learnt,
-  child-at-reads.Asked,
-  child-at-reads.Learnt,
-  move-span-reads.Asked,
-  move-span-reads.Learnt,
-  insert-into-below t,
-  insert-into.Post,
-  splice-reads.Asked,
-  splice-reads.Learnt,
-) (flush-at t) flush.Post
+flush-move-span-requires : (t : ℕ) → flush-lts.Need-move-span-requires (flush-calls t) (flush-at t) flush.Post
 flush-move-span-requires t c κs =
     let a = c .before .before .before .before .before .before .before .args in
     let P = c .before .before .before .before .before .before .before .pre .1 in
-    let g = areas-fit (a .level) (40 * a .m + 8) (32 * a .m) (length (a .s .now)) (P .1) (P .3) in
-    let f = area-fits (a .level) (40 * a .m + 8) (32 * a .m) (length (a .s .now)) (P .3) in
-    let h = area-fits (a .level - 1) (40 * a .m + 8) (32 * a .m) (length (a .s .now) - (40 * a .m + 8)) (rw (lower (a .level) (P .1)) g) in
-    let Q = c .before .before .before .longest-pending-span .ensures in (omega (arith, P .2, Q .rises, Q .within), (omega (arith, P .2, Q .rises, Q .within), λ z. omega (arith, P .2, Q .rises, Q .within)))
+    let g = rooms (a .level) (40 * a .m + 8) (32 * a .m) (length (a .s .now)) (P .1) (P .3) in
+    let Q = c .before .before .before .longest-pending-span .ensures in
+    (omega (arith, P .2, Q .rises, Q .within), (omega (arith, P .2, Q .rises, Q .within), λ z. omega (arith, P .2, Q .rises, Q .within)))
 
-flush-sub-insert-into : (t : ℕ) → flush-lts.Need-sub-insert-into (
-  longest-pending-span-reads.Asked,
-  longest-pending-span-reads.Learnt,
-  child-at-reads.Asked,
-  child-at-reads.Learnt,
-  move-span-reads.Asked,
-  move-span-reads.Learnt,
-  insert-into-below t,
-  insert-into.Post,
-  splice-reads.Asked,
-  splice-reads.Learnt,
-) (flush-at t) flush.Post
+flush-sub-insert-into : (t : ℕ) → flush-lts.Need-sub-insert-into (flush-calls t) (flush-at t) flush.Post
 flush-sub-insert-into t c =
     let a = c .before .before .before .before .before .before .before .before .before .before .before .args in
     let P = c .before .before .before .before .before .before .before .before .before .before .before .pre .1 in
-    let g = areas-fit (a .level) (40 * a .m + 8) (32 * a .m) (length (a .s .now)) (P .1) (P .3) in
-    let f = area-fits (a .level) (40 * a .m + 8) (32 * a .m) (length (a .s .now)) (P .3) in
-    let h = area-fits (a .level - 1) (40 * a .m + 8) (32 * a .m) (length (a .s .now) - (40 * a .m + 8)) (rw (lower (a .level) (P .1)) g) in
-    let Q = c .before .before .before .before .before .before .before .longest-pending-span .ensures in omega (arith, P .1)
+    let g = rooms (a .level) (40 * a .m + 8) (32 * a .m) (length (a .s .now)) (P .1) (P .3) in
+    let Q = c .before .before .before .before .before .before .before .longest-pending-span .ensures in
+    omega (arith, P .1)
 
-flush-sub-insert-into-2 : (t : ℕ) → flush-lts.Need-sub-insert-into-2 (
-  longest-pending-span-reads.Asked,
-  longest-pending-span-reads.Learnt,
-  child-at-reads.Asked,
-  child-at-reads.Learnt,
-  move-span-reads.Asked,
-  move-span-reads.Learnt,
-  insert-into-below t,
-  insert-into.Post,
-  splice-reads.Asked,
-  splice-reads.Learnt,
-) (flush-at t) flush.Post
+flush-sub-insert-into-2 : (t : ℕ) → flush-lts.Need-sub-insert-into-2 (flush-calls t) (flush-at t) flush.Post
 flush-sub-insert-into-2 t c =
     let a = c .before .before .before .before .before .before .before .before .before .before .before .args in
     let P = c .before .before .before .before .before .before .before .before .before .before .before .pre .1 in
-    let g = areas-fit (a .level) (40 * a .m + 8) (32 * a .m) (length (a .s .now)) (P .1) (P .3) in
-    let f = area-fits (a .level) (40 * a .m + 8) (32 * a .m) (length (a .s .now)) (P .3) in
-    let h = area-fits (a .level - 1) (40 * a .m + 8) (32 * a .m) (length (a .s .now) - (40 * a .m + 8)) (rw (lower (a .level) (P .1)) g) in
-    let Q = c .before .before .before .before .before .before .before .longest-pending-span .ensures in omega arith
+    let g = rooms (a .level) (40 * a .m + 8) (32 * a .m) (length (a .s .now)) (P .1) (P .3) in
+    let Q = c .before .before .before .before .before .before .before .longest-pending-span .ensures in
+    omega arith
 
-flush-part-insert-into-start : (t : ℕ) → flush-lts.Need-part-insert-into-start (
-  longest-pending-span-reads.Asked,
-  longest-pending-span-reads.Learnt,
-  child-at-reads.Asked,
-  child-at-reads.Learnt,
-  move-span-reads.Asked,
-  move-span-reads.Learnt,
-  insert-into-below t,
-  insert-into.Post,
-  splice-reads.Asked,
-  splice-reads.Learnt,
-) (flush-at t) flush.Post
+flush-part-insert-into-start : (t : ℕ) → flush-lts.Need-part-insert-into-start (flush-calls t) (flush-at t) flush.Post
 flush-part-insert-into-start t c =
     let a = c .before .before .before .before .before .before .before .before .before .before .before .args in
     let P = c .before .before .before .before .before .before .before .before .before .before .before .pre .1 in
-    let g = areas-fit (a .level) (40 * a .m + 8) (32 * a .m) (length (a .s .now)) (P .1) (P .3) in
-    let f = area-fits (a .level) (40 * a .m + 8) (32 * a .m) (length (a .s .now)) (P .3) in
-    let h = area-fits (a .level - 1) (40 * a .m + 8) (32 * a .m) (length (a .s .now) - (40 * a .m + 8)) (rw (lower (a .level) (P .1)) g) in
-    let Q = c .before .before .before .before .before .before .before .longest-pending-span .ensures in omega arith
+    let g = rooms (a .level) (40 * a .m + 8) (32 * a .m) (length (a .s .now)) (P .1) (P .3) in
+    let Q = c .before .before .before .before .before .before .before .longest-pending-span .ensures in
+    omega arith
 
-flush-part-insert-into-end : (t : ℕ) → flush-lts.Need-part-insert-into-end (
-  longest-pending-span-reads.Asked,
-  longest-pending-span-reads.Learnt,
-  child-at-reads.Asked,
-  child-at-reads.Learnt,
-  move-span-reads.Asked,
-  move-span-reads.Learnt,
-  insert-into-below t,
-  insert-into.Post,
-  splice-reads.Asked,
-  splice-reads.Learnt,
-) (flush-at t) flush.Post
+flush-part-insert-into-end : (t : ℕ) → flush-lts.Need-part-insert-into-end (flush-calls t) (flush-at t) flush.Post
 flush-part-insert-into-end t c =
     let a = c .before .before .before .before .before .before .before .before .before .before .before .args in
     let P = c .before .before .before .before .before .before .before .before .before .before .before .pre .1 in
-    let g = areas-fit (a .level) (40 * a .m + 8) (32 * a .m) (length (a .s .now)) (P .1) (P .3) in
-    let f = area-fits (a .level) (40 * a .m + 8) (32 * a .m) (length (a .s .now)) (P .3) in
-    let h = area-fits (a .level - 1) (40 * a .m + 8) (32 * a .m) (length (a .s .now) - (40 * a .m + 8)) (rw (lower (a .level) (P .1)) g) in
-    let Q = c .before .before .before .before .before .before .before .longest-pending-span .ensures in search needs
+    let g = rooms (a .level) (40 * a .m + 8) (32 * a .m) (length (a .s .now)) (P .1) (P .3) in
+    let Q = c .before .before .before .before .before .before .before .longest-pending-span .ensures in
+    search needs
 
-flush-sub-insert-into-3 : (t : ℕ) → flush-lts.Need-sub-insert-into-3 (
-  longest-pending-span-reads.Asked,
-  longest-pending-span-reads.Learnt,
-  child-at-reads.Asked,
-  child-at-reads.Learnt,
-  move-span-reads.Asked,
-  move-span-reads.Learnt,
-  insert-into-below t,
-  insert-into.Post,
-  splice-reads.Asked,
-  splice-reads.Learnt,
-) (flush-at t) flush.Post
+flush-sub-insert-into-3 : (t : ℕ) → flush-lts.Need-sub-insert-into-3 (flush-calls t) (flush-at t) flush.Post
 flush-sub-insert-into-3 t c =
     let a = c .before .before .before .before .before .before .before .before .before .before .before .before .args in
     let P = c .before .before .before .before .before .before .before .before .before .before .before .before .pre .1 in
-    let g = areas-fit (a .level) (40 * a .m + 8) (32 * a .m) (length (a .s .now)) (P .1) (P .3) in
-    let f = area-fits (a .level) (40 * a .m + 8) (32 * a .m) (length (a .s .now)) (P .3) in
-    let h = area-fits (a .level - 1) (40 * a .m + 8) (32 * a .m) (length (a .s .now) - (40 * a .m + 8)) (rw (lower (a .level) (P .1)) g) in
-    let Q = c .before .before .before .before .before .before .before .before .longest-pending-span .ensures in omega (arith, Q .rises)
+    let g = rooms (a .level) (40 * a .m + 8) (32 * a .m) (length (a .s .now)) (P .1) (P .3) in
+    let Q = c .before .before .before .before .before .before .before .before .longest-pending-span .ensures in
+    omega (arith, Q .rises)
 
-flush-insert-into-requires : (t : ℕ) → flush-lts.Need-insert-into-requires (
-  longest-pending-span-reads.Asked,
-  longest-pending-span-reads.Learnt,
-  child-at-reads.Asked,
-  child-at-reads.Learnt,
-  move-span-reads.Asked,
-  move-span-reads.Learnt,
-  insert-into-below t,
-  insert-into.Post,
-  splice-reads.Asked,
-  splice-reads.Learnt,
-) (flush-at t) flush.Post
+flush-insert-into-requires : (t : ℕ) → flush-lts.Need-insert-into-requires (flush-calls t) (flush-at t) flush.Post
 flush-insert-into-requires t c κs =
     let a = c .before .before .before .before .before .before .before .before .before .before .before .before .args in
     let P = c .before .before .before .before .before .before .before .before .before .before .before .before .pre .1 in
-    let g = areas-fit (a .level) (40 * a .m + 8) (32 * a .m) (length (a .s .now)) (P .1) (P .3) in
-    let f = area-fits (a .level) (40 * a .m + 8) (32 * a .m) (length (a .s .now)) (P .3) in
-    let h = area-fits (a .level - 1) (40 * a .m + 8) (32 * a .m) (length (a .s .now) - (40 * a .m + 8)) (rw (lower (a .level) (P .1)) g) in
+    let g = rooms (a .level) (40 * a .m + 8) (32 * a .m) (length (a .s .now)) (P .1) (P .3) in
     let Q = c .before .before .before .before .before .before .before .before .longest-pending-span .ensures in (
       omega (arith, P .1),
       (
@@ -561,257 +306,87 @@ flush-insert-into-requires t c κs =
       ),
     )
 
-flush-enum-known-datoms : (t : ℕ) → flush-lts.Need-enum-known-datoms (
-  longest-pending-span-reads.Asked,
-  longest-pending-span-reads.Learnt,
-  child-at-reads.Asked,
-  child-at-reads.Learnt,
-  move-span-reads.Asked,
-  move-span-reads.Learnt,
-  insert-into-below t,
-  insert-into.Post,
-  splice-reads.Asked,
-  splice-reads.Learnt,
-) (flush-at t) flush.Post
+flush-enum-known-datoms : (t : ℕ) → flush-lts.Need-enum-known-datoms (flush-calls t) (flush-at t) flush.Post
 flush-enum-known-datoms t c = search needs
 
-flush-splice-requires : (t : ℕ) → flush-lts.Need-splice-requires (
-  longest-pending-span-reads.Asked,
-  longest-pending-span-reads.Learnt,
-  child-at-reads.Asked,
-  child-at-reads.Learnt,
-  move-span-reads.Asked,
-  move-span-reads.Learnt,
-  insert-into-below t,
-  insert-into.Post,
-  splice-reads.Asked,
-  splice-reads.Learnt,
-) (flush-at t) flush.Post
+flush-splice-requires : (t : ℕ) → flush-lts.Need-splice-requires (flush-calls t) (flush-at t) flush.Post
 flush-splice-requires t c κs =
     let a = c .before .before .before .before .before .before .before .before .before .before .before .before .before .before .before .before .before .before .before .before .before .args in
     let P = c .before .before .before .before .before .before .before .before .before .before .before .before .before .before .before .before .before .before .before .before .before .pre .1 in
-    let g = areas-fit (a .level) (40 * a .m + 8) (32 * a .m) (length (a .s .now)) (P .1) (P .3) in
-    let f = area-fits (a .level) (40 * a .m + 8) (32 * a .m) (length (a .s .now)) (P .3) in
-    let h = area-fits (a .level - 1) (40 * a .m + 8) (32 * a .m) (length (a .s .now) - (40 * a .m + 8)) (rw (lower (a .level) (P .1)) g) in
+    let g = rooms (a .level) (40 * a .m + 8) (32 * a .m) (length (a .s .now)) (P .1) (P .3) in
     let Q = c .before .before .before .before .before .before .before .before .before .before .before .before .before .before .before .before .before .longest-pending-span .ensures in
     let T = rw (c .before .before .before .before .before .before .before .before .before .before .before .before .before .move-span .ensures, c .before .before .before .before .before .before .before .before .before .before .before .before .before .before .before .child-at .ensures, c .before .before .datoms .given .1) at (c .before .before .before .before .before .before .before .before .insert-into .ensures) in
     let J = flush-back (a .extent) (a .store .now) (a .c) (a .written) (a .level) (a .m) (a .n) (a .s .now) (P .0) (c .before .before .before .before .before .before .before .before .before .before .before .before .before .before .before .before .before .longest-pending-span .result) Q (omega (arith, P .2)) (omega arith) _ _ _ _ T in
     (omega (arith, J, Q .rises), (Q .within, (omega (arith, P .2), omega arith)))
 
-flush-sub-t38 : (t : ℕ) → flush-lts.Need-sub-t38 (
-  longest-pending-span-reads.Asked,
-  longest-pending-span-reads.Learnt,
-  child-at-reads.Asked,
-  child-at-reads.Learnt,
-  move-span-reads.Asked,
-  move-span-reads.Learnt,
-  insert-into-below t,
-  insert-into.Post,
-  splice-reads.Asked,
-  splice-reads.Learnt,
-) (flush-at t) flush.Post
+flush-sub-t38 : (t : ℕ) → flush-lts.Need-sub-t38 (flush-calls t) (flush-at t) flush.Post
 flush-sub-t38 t c =
     let a = c .before .before .before .before .before .before .before .before .before .before .before .before .before .before .before .before .before .before .before .before .before .before .before .before .args in
     let P = c .before .before .before .before .before .before .before .before .before .before .before .before .before .before .before .before .before .before .before .before .before .before .before .before .pre .1 in
-    let g = areas-fit (a .level) (40 * a .m + 8) (32 * a .m) (length (a .s .now)) (P .1) (P .3) in
-    let f = area-fits (a .level) (40 * a .m + 8) (32 * a .m) (length (a .s .now)) (P .3) in
-    let h = area-fits (a .level - 1) (40 * a .m + 8) (32 * a .m) (length (a .s .now) - (40 * a .m + 8)) (rw (lower (a .level) (P .1)) g) in
-    let Q = c .before .before .before .before .before .before .before .before .before .before .before .before .before .before .before .before .before .before .before .before .longest-pending-span .ensures in omega (arith, Q .rises)
+    let g = rooms (a .level) (40 * a .m + 8) (32 * a .m) (length (a .s .now)) (P .1) (P .3) in
+    let Q = c .before .before .before .before .before .before .before .before .before .before .before .before .before .before .before .before .before .before .before .before .longest-pending-span .ensures in
+    omega (arith, Q .rises)
 
-flush-sub-t39 : (t : ℕ) → flush-lts.Need-sub-t39 (
-  longest-pending-span-reads.Asked,
-  longest-pending-span-reads.Learnt,
-  child-at-reads.Asked,
-  child-at-reads.Learnt,
-  move-span-reads.Asked,
-  move-span-reads.Learnt,
-  insert-into-below t,
-  insert-into.Post,
-  splice-reads.Asked,
-  splice-reads.Learnt,
-) (flush-at t) flush.Post
+flush-sub-t39 : (t : ℕ) → flush-lts.Need-sub-t39 (flush-calls t) (flush-at t) flush.Post
 flush-sub-t39 t c =
     let a = c .before .before .before .before .before .before .before .before .before .before .before .before .before .before .before .before .before .before .before .before .before .before .before .before .args in
     let P = c .before .before .before .before .before .before .before .before .before .before .before .before .before .before .before .before .before .before .before .before .before .before .before .before .pre .1 in
-    let g = areas-fit (a .level) (40 * a .m + 8) (32 * a .m) (length (a .s .now)) (P .1) (P .3) in
-    let f = area-fits (a .level) (40 * a .m + 8) (32 * a .m) (length (a .s .now)) (P .3) in
-    let h = area-fits (a .level - 1) (40 * a .m + 8) (32 * a .m) (length (a .s .now) - (40 * a .m + 8)) (rw (lower (a .level) (P .1)) g) in
-    let Q = c .before .before .before .before .before .before .before .before .before .before .before .before .before .before .before .before .before .before .before .before .longest-pending-span .ensures in omega (arith, Q .rises, Q .within)
+    let g = rooms (a .level) (40 * a .m + 8) (32 * a .m) (length (a .s .now)) (P .1) (P .3) in
+    let Q = c .before .before .before .before .before .before .before .before .before .before .before .before .before .before .before .before .before .before .before .before .longest-pending-span .ensures in
+    omega (arith, Q .rises, Q .within)
 
-flush-add-t40 : (t : ℕ) → flush-lts.Need-add-t40 (
-  longest-pending-span-reads.Asked,
-  longest-pending-span-reads.Learnt,
-  child-at-reads.Asked,
-  child-at-reads.Learnt,
-  move-span-reads.Asked,
-  move-span-reads.Learnt,
-  insert-into-below t,
-  insert-into.Post,
-  splice-reads.Asked,
-  splice-reads.Learnt,
-) (flush-at t) flush.Post
+flush-add-t40 : (t : ℕ) → flush-lts.Need-add-t40 (flush-calls t) (flush-at t) flush.Post
 flush-add-t40 t c =
     let a = c .before .before .before .before .before .before .before .before .before .before .before .before .before .before .before .before .before .before .before .before .before .before .before .before .args in
     let P = c .before .before .before .before .before .before .before .before .before .before .before .before .before .before .before .before .before .before .before .before .before .before .before .before .pre .1 in
-    let g = areas-fit (a .level) (40 * a .m + 8) (32 * a .m) (length (a .s .now)) (P .1) (P .3) in
-    let f = area-fits (a .level) (40 * a .m + 8) (32 * a .m) (length (a .s .now)) (P .3) in
-    let h = area-fits (a .level - 1) (40 * a .m + 8) (32 * a .m) (length (a .s .now) - (40 * a .m + 8)) (rw (lower (a .level) (P .1)) g) in
+    let g = rooms (a .level) (40 * a .m + 8) (32 * a .m) (length (a .s .now)) (P .1) (P .3) in
     let Q = c .before .before .before .before .before .before .before .before .before .before .before .before .before .before .before .before .before .before .before .before .longest-pending-span .ensures in
     let T = rw (c .before .before .before .before .before .before .before .before .before .before .before .before .before .before .before .before .move-span .ensures, c .before .before .before .before .before .before .before .before .before .before .before .before .before .before .before .before .before .before .child-at .ensures, c .before .before .before .before .before .datoms .given .1) at (c .before .before .before .before .before .before .before .before .before .before .before .insert-into .ensures) in
     omega (arith, flush-back (a .extent) (a .store .now) (a .c) (a .written) (a .level) (a .m) (a .n) (a .s .now) (P .0) (c .before .before .before .before .before .before .before .before .before .before .before .before .before .before .before .before .before .before .before .before .longest-pending-span .result) Q (omega (arith, P .2)) (omega arith) _ _ _ _ T, Q .rises, Q .within, c .before .before .before .before .before .before .before .before .before .before .before .before .before .before .before .before .before .before .before .before .before .before .before .before .fits .n .fits)
 
-flush-enum-known-refusal : (t : ℕ) → flush-lts.Need-enum-known-refusal (
-  longest-pending-span-reads.Asked,
-  longest-pending-span-reads.Learnt,
-  child-at-reads.Asked,
-  child-at-reads.Learnt,
-  move-span-reads.Asked,
-  move-span-reads.Learnt,
-  insert-into-below t,
-  insert-into.Post,
-  splice-reads.Asked,
-  splice-reads.Learnt,
-) (flush-at t) flush.Post
+flush-enum-known-refusal : (t : ℕ) → flush-lts.Need-enum-known-refusal (flush-calls t) (flush-at t) flush.Post
 flush-enum-known-refusal t c = search needs
 
-flush-same-length : (t : ℕ) → flush-lts.Need-same-length (
-  longest-pending-span-reads.Asked,
-  longest-pending-span-reads.Learnt,
-  child-at-reads.Asked,
-  child-at-reads.Learnt,
-  move-span-reads.Asked,
-  move-span-reads.Learnt,
-  insert-into-below t,
-  insert-into.Post,
-  splice-reads.Asked,
-  splice-reads.Learnt,
-) (flush-at t) flush.Post
+flush-same-length : (t : ℕ) → flush-lts.Need-same-length (flush-calls t) (flush-at t) flush.Post
 flush-same-length t c = search needs
 
-flush-same-length-2 : (t : ℕ) → flush-lts.Need-same-length-2 (
-  longest-pending-span-reads.Asked,
-  longest-pending-span-reads.Learnt,
-  child-at-reads.Asked,
-  child-at-reads.Learnt,
-  move-span-reads.Asked,
-  move-span-reads.Learnt,
-  insert-into-below t,
-  insert-into.Post,
-  splice-reads.Asked,
-  splice-reads.Learnt,
-) (flush-at t) flush.Post
+flush-same-length-2 : (t : ℕ) → flush-lts.Need-same-length-2 (flush-calls t) (flush-at t) flush.Post
 flush-same-length-2 t c = search needs
 
-flush-returns : (t : ℕ) → flush-lts.Need-returns (
-  longest-pending-span-reads.Asked,
-  longest-pending-span-reads.Learnt,
-  child-at-reads.Asked,
-  child-at-reads.Learnt,
-  move-span-reads.Asked,
-  move-span-reads.Learnt,
-  insert-into-below t,
-  insert-into.Post,
-  splice-reads.Asked,
-  splice-reads.Learnt,
-) (flush-at t) flush.Post
+flush-returns : (t : ℕ) → flush-lts.Need-returns (flush-calls t) (flush-at t) flush.Post
 flush-returns t c =
     let a = c .before .before .before .before .before .before .before .before .before .before .before .before .before .before .before .before .before .before .before .before .before .before .before .before .args in
     let P = c .before .before .before .before .before .before .before .before .before .before .before .before .before .before .before .before .before .before .before .before .before .before .before .before .pre .1 in
-    let g = areas-fit (a .level) (40 * a .m + 8) (32 * a .m) (length (a .s .now)) (P .1) (P .3) in
-    let f = area-fits (a .level) (40 * a .m + 8) (32 * a .m) (length (a .s .now)) (P .3) in
-    let h = area-fits (a .level - 1) (40 * a .m + 8) (32 * a .m) (length (a .s .now) - (40 * a .m + 8)) (rw (lower (a .level) (P .1)) g) in
+    let g = rooms (a .level) (40 * a .m + 8) (32 * a .m) (length (a .s .now)) (P .1) (P .3) in
     let Q = c .before .before .before .before .before .before .before .before .before .before .before .before .before .before .before .before .before .before .before .before .longest-pending-span .ensures in
     let T = rw (c .before .before .before .before .before .before .before .before .before .before .before .before .before .before .before .before .move-span .ensures, c .before .before .before .before .before .before .before .before .before .before .before .before .before .before .before .before .before .before .child-at .ensures, c .before .before .before .before .before .datoms .given .1) at (c .before .before .before .before .before .before .before .before .before .before .before .insert-into .ensures) in
     flush-done (a .extent) (a .store .now) (a .c) (a .written) (a .level) (a .m) (a .n) (a .s .now) (P .0) (c .before .before .before .before .before .before .before .before .before .before .before .before .before .before .before .before .before .before .before .before .longest-pending-span .result) Q (omega (arith, P .2)) (omega arith) _ _ _ _ _ T (rw (c .before .before .before .before .before .before .before .before .before .before .before .before .before .before .before .before .move-span .ensures) at (c .before .before .splice .ensures))
 
-flush-same-length-3 : (t : ℕ) → flush-lts.Need-same-length-3 (
-  longest-pending-span-reads.Asked,
-  longest-pending-span-reads.Learnt,
-  child-at-reads.Asked,
-  child-at-reads.Learnt,
-  move-span-reads.Asked,
-  move-span-reads.Learnt,
-  insert-into-below t,
-  insert-into.Post,
-  splice-reads.Asked,
-  splice-reads.Learnt,
-) (flush-at t) flush.Post
+flush-same-length-3 : (t : ℕ) → flush-lts.Need-same-length-3 (flush-calls t) (flush-at t) flush.Post
 flush-same-length-3 t c = search needs
 
-flush-same-length-4 : (t : ℕ) → flush-lts.Need-same-length-4 (
-  longest-pending-span-reads.Asked,
-  longest-pending-span-reads.Learnt,
-  child-at-reads.Asked,
-  child-at-reads.Learnt,
-  move-span-reads.Asked,
-  move-span-reads.Learnt,
-  insert-into-below t,
-  insert-into.Post,
-  splice-reads.Asked,
-  splice-reads.Learnt,
-) (flush-at t) flush.Post
+flush-same-length-4 : (t : ℕ) → flush-lts.Need-same-length-4 (flush-calls t) (flush-at t) flush.Post
 flush-same-length-4 t c = search needs
 
-flush-returns-2 : (t : ℕ) → flush-lts.Need-returns-2 (
-  longest-pending-span-reads.Asked,
-  longest-pending-span-reads.Learnt,
-  child-at-reads.Asked,
-  child-at-reads.Learnt,
-  move-span-reads.Asked,
-  move-span-reads.Learnt,
-  insert-into-below t,
-  insert-into.Post,
-  splice-reads.Asked,
-  splice-reads.Learnt,
-) (flush-at t) flush.Post
+flush-returns-2 : (t : ℕ) → flush-lts.Need-returns-2 (flush-calls t) (flush-at t) flush.Post
 flush-returns-2 t c =
     let a = c .before .before .before .before .before .before .before .before .before .before .before .before .before .before .before .before .before .before .before .before .args in
     let P = c .before .before .before .before .before .before .before .before .before .before .before .before .before .before .before .before .before .before .before .before .pre .1 in
-    let g = areas-fit (a .level) (40 * a .m + 8) (32 * a .m) (length (a .s .now)) (P .1) (P .3) in
-    let f = area-fits (a .level) (40 * a .m + 8) (32 * a .m) (length (a .s .now)) (P .3) in
-    let h = area-fits (a .level - 1) (40 * a .m + 8) (32 * a .m) (length (a .s .now) - (40 * a .m + 8)) (rw (lower (a .level) (P .1)) g) in
+    let g = rooms (a .level) (40 * a .m + 8) (32 * a .m) (length (a .s .now)) (P .1) (P .3) in
     let Q = c .before .before .before .before .before .before .before .before .before .before .before .before .before .before .before .before .longest-pending-span .ensures in
     let T = rw (c .before .before .before .before .before .before .before .before .before .before .before .before .move-span .ensures, c .before .before .before .before .before .before .before .before .before .before .before .before .before .before .child-at .ensures, c .before .refusal .given .1) at (c .before .before .before .before .before .before .before .insert-into .ensures) in
     flush-fails (a .extent) (a .store .now) (a .c) (a .written) (a .level) (a .m) (a .n) (a .s .now) (P .0) (c .before .before .before .before .before .before .before .before .before .before .before .before .before .before .before .before .longest-pending-span .result) Q (omega (arith, P .2)) (omega arith) _ _ _ _ _ T
 
-insert-into-load-requires : (t : ℕ) → insert-into-lts.Need-load-requires (
-  load-reads.Asked,
-  load-reads.Learnt,
-  settle-reads.Asked,
-  settle-reads.Learnt,
-  drain-below t,
-  drain.Post,
-) (insert-into-at t) insert-into.Post
+insert-into-load-requires : (t : ℕ) → insert-into-lts.Need-load-requires (insert-into-calls t) (insert-into-at t) insert-into.Post
 insert-into-load-requires t c κs = search needs
 
-insert-into-enum-told : (t : ℕ) → insert-into-lts.Need-enum-told (
-  load-reads.Asked,
-  load-reads.Learnt,
-  settle-reads.Asked,
-  settle-reads.Learnt,
-  drain-below t,
-  drain.Post,
-) (insert-into-at t) insert-into.Post
+insert-into-enum-told : (t : ℕ) → insert-into-lts.Need-enum-told (insert-into-calls t) (insert-into-at t) insert-into.Post
 insert-into-enum-told t c = search needs
 
-insert-into-enum-known-count : (t : ℕ) → insert-into-lts.Need-enum-known-count (
-  load-reads.Asked,
-  load-reads.Learnt,
-  settle-reads.Asked,
-  settle-reads.Learnt,
-  drain-below t,
-  drain.Post,
-) (insert-into-at t) insert-into.Post
+insert-into-enum-known-count : (t : ℕ) → insert-into-lts.Need-enum-known-count (insert-into-calls t) (insert-into-at t) insert-into.Post
 insert-into-enum-known-count t c = search needs
 
-insert-into-settle-requires : (t : ℕ) → insert-into-lts.Need-settle-requires (
-  load-reads.Asked,
-  load-reads.Learnt,
-  settle-reads.Asked,
-  settle-reads.Learnt,
-  drain-below t,
-  drain.Post,
-) (insert-into-at t) insert-into.Post
+insert-into-settle-requires : (t : ℕ) → insert-into-lts.Need-settle-requires (insert-into-calls t) (insert-into-at t) insert-into.Post
 insert-into-settle-requires t c κs =
     let a = c .before .before .before .before .before .before .before .before .before .before .before .before .before .args in
     let P = c .before .before .before .before .before .before .before .before .before .before .before .before .before .pre .1 in
@@ -820,34 +395,13 @@ insert-into-settle-requires t c κs =
     let g = area-fits (a .level) (a .c) (a .n) (a .m) (P .1) in
     let h = loads-few (a .extent) (a .store .now) (a .c) (a .written) (a .level) (a .page) (a .s .now) (a .m) (a .n) _ L in (P .0, omega arith, omega (arith, P .0 .cap))
 
-insert-into-same-length : (t : ℕ) → insert-into-lts.Need-same-length (
-  load-reads.Asked,
-  load-reads.Learnt,
-  settle-reads.Asked,
-  settle-reads.Learnt,
-  drain-below t,
-  drain.Post,
-) (insert-into-at t) insert-into.Post
+insert-into-same-length : (t : ℕ) → insert-into-lts.Need-same-length (insert-into-calls t) (insert-into-at t) insert-into.Post
 insert-into-same-length t c = search needs
 
-insert-into-same-length-2 : (t : ℕ) → insert-into-lts.Need-same-length-2 (
-  load-reads.Asked,
-  load-reads.Learnt,
-  settle-reads.Asked,
-  settle-reads.Learnt,
-  drain-below t,
-  drain.Post,
-) (insert-into-at t) insert-into.Post
+insert-into-same-length-2 : (t : ℕ) → insert-into-lts.Need-same-length-2 (insert-into-calls t) (insert-into-at t) insert-into.Post
 insert-into-same-length-2 t c = search needs
 
-insert-into-returns : (t : ℕ) → insert-into-lts.Need-returns (
-  load-reads.Asked,
-  load-reads.Learnt,
-  settle-reads.Asked,
-  settle-reads.Learnt,
-  drain-below t,
-  drain.Post,
-) (insert-into-at t) insert-into.Post
+insert-into-returns : (t : ℕ) → insert-into-lts.Need-returns (insert-into-calls t) (insert-into-at t) insert-into.Post
 insert-into-returns t c =
     let a = c .before .before .before .before .before .before .before .before .before .before .before .before .before .before .before .before .before .before .args in
     let P = c .before .before .before .before .before .before .before .before .before .before .before .before .before .before .before .before .before .before .pre .1 in
@@ -857,14 +411,7 @@ insert-into-returns t c =
     let h = loads-few (a .extent) (a .store .now) (a .c) (a .written) (a .level) (a .page) (a .s .now) (a .m) (a .n) _ L in
     insert-flat (a .extent) (a .store .now) (a .c) (a .written) (a .level) (a .page) (a .s .now) (a .m) (a .n) _ L (c .before .before .before .before .before .before .before .if1 .taken) _ _ _ (c .before .before .before .before .settle .ensures)
 
-insert-into-drain-requires : (t : ℕ) → insert-into-lts.Need-drain-requires (
-  load-reads.Asked,
-  load-reads.Learnt,
-  settle-reads.Asked,
-  settle-reads.Learnt,
-  drain-below t,
-  drain.Post,
-) (insert-into-at t) insert-into.Post
+insert-into-drain-requires : (t : ℕ) → insert-into-lts.Need-drain-requires (insert-into-calls t) (insert-into-at t) insert-into.Post
 insert-into-drain-requires t c κs =
     let a = c .before .before .before .before .before .before .before .before .before .before .before .before .before .args in
     let P = c .before .before .before .before .before .before .before .before .before .before .before .before .before .pre .1 in
@@ -875,24 +422,10 @@ insert-into-drain-requires t c κs =
     let k = add-mul (a .level) 1 (a .c) in
     (omega arith, (P .0, omega arith, omega (arith, P .0 .cap, P .1, one-mul (a .c)), omega (arith, P .2)))
 
-insert-into-enum-known-datoms : (t : ℕ) → insert-into-lts.Need-enum-known-datoms (
-  load-reads.Asked,
-  load-reads.Learnt,
-  settle-reads.Asked,
-  settle-reads.Learnt,
-  drain-below t,
-  drain.Post,
-) (insert-into-at t) insert-into.Post
+insert-into-enum-known-datoms : (t : ℕ) → insert-into-lts.Need-enum-known-datoms (insert-into-calls t) (insert-into-at t) insert-into.Post
 insert-into-enum-known-datoms t c = search needs
 
-insert-into-settle-requires-2 : (t : ℕ) → insert-into-lts.Need-settle-requires-2 (
-  load-reads.Asked,
-  load-reads.Learnt,
-  settle-reads.Asked,
-  settle-reads.Learnt,
-  drain-below t,
-  drain.Post,
-) (insert-into-at t) insert-into.Post
+insert-into-settle-requires-2 : (t : ℕ) → insert-into-lts.Need-settle-requires-2 (insert-into-calls t) (insert-into-at t) insert-into.Post
 insert-into-settle-requires-2 t c κs =
     let a = c .before .before .before .before .before .before .before .before .before .before .before .before .before .before .before .before .before .before .before .before .before .before .before .args in
     let P = c .before .before .before .before .before .before .before .before .before .before .before .before .before .before .before .before .before .before .before .before .before .before .before .pre .1 in
@@ -903,76 +436,27 @@ insert-into-settle-requires-2 t c κs =
     let T = rw (c .before .before .before .datoms .given .1) at (c .before .before .before .before .before .before .before .before .before .drain .ensures) in
     (went-ready (a .extent) (a .store .now) (a .c) (a .written) (a .level) (a .page) (a .s .now) (a .m) (a .n) _ L (omega arith) _ _ _ _ T (P .0), omega arith, went-few (a .extent) (a .store .now) (a .c) (a .written) (a .level) (a .page) (a .s .now) (a .m) (a .n) _ L (omega arith) _ _ _ _ T)
 
-insert-into-enum-known-refusal : (t : ℕ) → insert-into-lts.Need-enum-known-refusal (
-  load-reads.Asked,
-  load-reads.Learnt,
-  settle-reads.Asked,
-  settle-reads.Learnt,
-  drain-below t,
-  drain.Post,
-) (insert-into-at t) insert-into.Post
+insert-into-enum-known-refusal : (t : ℕ) → insert-into-lts.Need-enum-known-refusal (insert-into-calls t) (insert-into-at t) insert-into.Post
 insert-into-enum-known-refusal t c = search needs
 
-insert-into-same-length-3 : (t : ℕ) → insert-into-lts.Need-same-length-3 (
-  load-reads.Asked,
-  load-reads.Learnt,
-  settle-reads.Asked,
-  settle-reads.Learnt,
-  drain-below t,
-  drain.Post,
-) (insert-into-at t) insert-into.Post
+insert-into-same-length-3 : (t : ℕ) → insert-into-lts.Need-same-length-3 (insert-into-calls t) (insert-into-at t) insert-into.Post
 insert-into-same-length-3 t c = search needs
 
-insert-into-same-length-4 : (t : ℕ) → insert-into-lts.Need-same-length-4 (
-  load-reads.Asked,
-  load-reads.Learnt,
-  settle-reads.Asked,
-  settle-reads.Learnt,
-  drain-below t,
-  drain.Post,
-) (insert-into-at t) insert-into.Post
+insert-into-same-length-4 : (t : ℕ) → insert-into-lts.Need-same-length-4 (insert-into-calls t) (insert-into-at t) insert-into.Post
 insert-into-same-length-4 t c = search needs
 
-insert-into-returns-2 : (t : ℕ) → insert-into-lts.Need-returns-2 (
-  load-reads.Asked,
-  load-reads.Learnt,
-  settle-reads.Asked,
-  settle-reads.Learnt,
-  drain-below t,
-  drain.Post,
-) (insert-into-at t) insert-into.Post
+insert-into-returns-2 : (t : ℕ) → insert-into-lts.Need-returns-2 (insert-into-calls t) (insert-into-at t) insert-into.Post
 insert-into-returns-2 t c =
     let a = c .before .before .before .before .before .before .before .before .before .args in
     insert-bad (a .extent) (a .store .now) (a .c) (a .written) (a .level) (a .page) (a .s .now) (a .m) (a .n) _ (c .before .before .before .before .before .before .before .before .before .pre .1 .0) (rw (c .enum-told .given .1) at (c .before .before .before .before .load .ensures)) _
 
-insert-into-same-length-5 : (t : ℕ) → insert-into-lts.Need-same-length-5 (
-  load-reads.Asked,
-  load-reads.Learnt,
-  settle-reads.Asked,
-  settle-reads.Learnt,
-  drain-below t,
-  drain.Post,
-) (insert-into-at t) insert-into.Post
+insert-into-same-length-5 : (t : ℕ) → insert-into-lts.Need-same-length-5 (insert-into-calls t) (insert-into-at t) insert-into.Post
 insert-into-same-length-5 t c = search needs
 
-insert-into-same-length-6 : (t : ℕ) → insert-into-lts.Need-same-length-6 (
-  load-reads.Asked,
-  load-reads.Learnt,
-  settle-reads.Asked,
-  settle-reads.Learnt,
-  drain-below t,
-  drain.Post,
-) (insert-into-at t) insert-into.Post
+insert-into-same-length-6 : (t : ℕ) → insert-into-lts.Need-same-length-6 (insert-into-calls t) (insert-into-at t) insert-into.Post
 insert-into-same-length-6 t c = search needs
 
-insert-into-returns-3 : (t : ℕ) → insert-into-lts.Need-returns-3 (
-  load-reads.Asked,
-  load-reads.Learnt,
-  settle-reads.Asked,
-  settle-reads.Learnt,
-  drain-below t,
-  drain.Post,
-) (insert-into-at t) insert-into.Post
+insert-into-returns-3 : (t : ℕ) → insert-into-lts.Need-returns-3 (insert-into-calls t) (insert-into-at t) insert-into.Post
 insert-into-returns-3 t c =
     let a = c .before .before .before .before .before .before .before .before .before .before .before .before .before .before .before .before .before .before .before .before .before .before .before .before .before .before .before .before .args in
     let P = c .before .before .before .before .before .before .before .before .before .before .before .before .before .before .before .before .before .before .before .before .before .before .before .before .before .before .before .before .pre .1 in
@@ -983,34 +467,13 @@ insert-into-returns-3 t c =
     let T = rw (c .before .before .before .before .before .before .before .before .datoms .given .1) at (c .before .before .before .before .before .before .before .before .before .before .before .before .before .before .drain .ensures) in
     insert-goes (a .extent) (a .store .now) (a .c) (a .written) (a .level) (a .page) (a .s .now) (a .m) (a .n) _ L (omega arith) _ _ _ _ T _ _ _ (c .before .before .before .before .settle2 .ensures)
 
-insert-into-same-length-7 : (t : ℕ) → insert-into-lts.Need-same-length-7 (
-  load-reads.Asked,
-  load-reads.Learnt,
-  settle-reads.Asked,
-  settle-reads.Learnt,
-  drain-below t,
-  drain.Post,
-) (insert-into-at t) insert-into.Post
+insert-into-same-length-7 : (t : ℕ) → insert-into-lts.Need-same-length-7 (insert-into-calls t) (insert-into-at t) insert-into.Post
 insert-into-same-length-7 t c = search needs
 
-insert-into-same-length-8 : (t : ℕ) → insert-into-lts.Need-same-length-8 (
-  load-reads.Asked,
-  load-reads.Learnt,
-  settle-reads.Asked,
-  settle-reads.Learnt,
-  drain-below t,
-  drain.Post,
-) (insert-into-at t) insert-into.Post
+insert-into-same-length-8 : (t : ℕ) → insert-into-lts.Need-same-length-8 (insert-into-calls t) (insert-into-at t) insert-into.Post
 insert-into-same-length-8 t c = search needs
 
-insert-into-returns-4 : (t : ℕ) → insert-into-lts.Need-returns-4 (
-  load-reads.Asked,
-  load-reads.Learnt,
-  settle-reads.Asked,
-  settle-reads.Learnt,
-  drain-below t,
-  drain.Post,
-) (insert-into-at t) insert-into.Post
+insert-into-returns-4 : (t : ℕ) → insert-into-lts.Need-returns-4 (insert-into-calls t) (insert-into-at t) insert-into.Post
 insert-into-returns-4 t c =
     let a = c .before .before .before .before .before .before .before .before .before .before .before .before .before .before .before .before .before .before .before .before .before .args in
     let P = c .before .before .before .before .before .before .before .before .before .before .before .before .before .before .before .before .before .before .before .before .before .pre .1 in

@@ -1,6 +1,7 @@
 -- `put_part` meets its contract: too tall, then no room, then one page past those written. Assumes nothing.
 use native.Mathlib.Nat.{div-le-self}
 use Rattle.rules.specs.Page.{encodePage, Node}
+use Rattle.rules.specs.Node.{partOf}
 use Rattle.htree.specs.Wrote.{Wrote}
 use Prim.Native.Nat.{suc, _+_, _*_, _-_, _≤_}
 use native.Mathlib.Nat.{add-mul, one-mul, le-div-iff-mul-le}
@@ -9,7 +10,6 @@ use mathlib.Core.Path.{sym, _∙_, ap}
 use lib.ListN.{length, length-take, length-drop}
 use Rattle.store.specs.Laws.{Known}
 use Rattle.rules.specs.Page.{nodeOf}
-use Rattle.memory_store.specs.Layout.{partOf}
 use Rattle.memory_store.specs.FetchLaws.{InOrder, in-order}
 use Rattle.htree.specs.Wrote.{wrote-one}
 use Rattle.htree.specs.Told.{Ready}

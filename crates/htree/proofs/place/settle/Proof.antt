@@ -1,7 +1,8 @@
 -- `settle` meets its contract: a split, or one page whose id goes up. Assumes nothing.
 use native.Mathlib.Omega.{arith}
+use Rattle.rules.specs.SplitLaws.{whole-part}
 use Rattle.htree.specs.Told.{Ready, tell-went, tell-stopped}
-use Rattle.htree.specs.Settle.{whole-part, ready-next, settle-split, settle-put, settle-refused}
+use Rattle.htree.specs.Settle.{ready-next, settle-split, settle-put, settle-refused}
 use borrow.Author.Needs.{needs}
 use Rattle.htree.proofs.place.settle.Statement.{statement}
 use Rattle.htree.proofs.place.settle.Tie as tie

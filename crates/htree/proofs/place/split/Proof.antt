@@ -7,7 +7,7 @@ use mathlib.Core.Path.{refl}
 use Rattle.store.specs.Laws.{Known}
 use Rattle.memory_store.specs.FetchLaws.{InOrder, in-order}
 use Rattle.htree.specs.Told.{Ready, tell-went, tell-stopped}
-use Rattle.htree.specs.Split.{Divided, divided, Looping, part-same, halfway-start, looping-ready, looping-same, looping-few, looping-share, looping-inner, looping-last}
+use Rattle.htree.specs.Split.{Divided, divided, Looping, halfway-start, looping-ready, looping-same, looping-few, looping-share, looping-inner, looping-last}
 use Rattle.htree.proofs.place.split.Statement.{statement}
 use Rattle.htree.proofs.place.split.Tie as tie
 
@@ -186,11 +186,10 @@ returns-2 : tie.Need-returns-2 Inv-loop μ-loop
 returns-2 c =
     let a = c .before .before .before .before .before .before .before .before .before .before .before .before .before .before .before .before .args in
     let I = c .before .before .before .before .before .before .before .before .before .before .before .before .before .loop .inv in
-    let h = looping-last I (omega (arith, I .left)) in
     λ o e.
     rw (c .before .before .put-child .ensures)
     (tell-went (looping-end I (omega arith) (omega arith) (omega (arith, I .left)) _ _
-    (λ o₁ e₁. rw (part-same (a .m) (a .level) (a .n) (c .before .before .before .before .before .before .before .before .before .before .before .before .before .loop .i) (a .n - c .before .before .before .before .before .before .before .before .before .before .before .before .before .loop .i) (c .before .before .before .before .before .before .before .before .before .before .before .before .before .loop .s) (omega (arith, h .1)), c .before .before .before .before .before .id .given .1) at (c .before .before .before .before .before .before .before .before .before .put-part .ensures o₁ e₁)) o e))
+    (λ o₁ e₁. rw (c .before .before .before .before .before .id .given .1) at (c .before .before .before .before .before .before .before .before .before .put-part .ensures o₁ e₁)) o e))
 
 same-length-5 : tie.Need-same-length-5 Inv-loop μ-loop
 same-length-5 c =
@@ -206,10 +205,9 @@ returns-3 : tie.Need-returns-3 Inv-loop μ-loop
 returns-3 c =
     let a = c .before .before .before .before .before .before .before .before .before .before .before .before .args in
     let I = c .before .before .before .before .before .before .before .before .before .loop .inv in
-    let h = looping-last I (omega (arith, I .left)) in
     λ o e.
     tell-stopped (looping-refused I (omega (arith, I .left)) _ _
-    (λ o₁ e₁. rw (part-same (a .m) (a .level) (a .n) (c .before .before .before .before .before .before .before .before .before .loop .i) (a .n - c .before .before .before .before .before .before .before .before .before .loop .i) (c .before .before .before .before .before .before .before .before .before .loop .s) (omega (arith, h .1)), c .before .refusal2 .given .1) at (c .before .before .before .before .before .put-part .ensures o₁ e₁)) o e)
+    (λ o₁ e₁. rw (c .before .refusal2 .given .1) at (c .before .before .before .before .before .put-part .ensures o₁ e₁)) o e)
 
 pub split-spec : {M : Type 1} → statement M
 split-spec =

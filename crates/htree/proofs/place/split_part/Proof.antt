@@ -1,9 +1,7 @@
 -- `split_part` meets its contract: the page as `put_part` leaves it, then two stores into the area. Assumes nothing.
-use Prim.Native.Nat.{_-_}
-use native.Mathlib.Omega.{arith}
 use mathlib.Core.Path.{_≡_}
 use Rattle.store.specs.Laws.{apart}
-use Rattle.htree.specs.Split.{Parted, part-same}
+use Rattle.htree.specs.Split.{Parted}
 use borrow.Author.Needs.{needs}
 use Rattle.htree.proofs.place.split_part.Statement.{statement}
 use Rattle.htree.proofs.place.split_part.Tie as tie
@@ -42,7 +40,7 @@ returns : tie.Need-returns
 returns c =
     let a = c .before .before .before .before .before .before .before .before .before .before .before .before .before .before .before .before .before .before .args in
     record {
-      page = λ o e. rw (part-same (a .m) (a .level) (a .n) (a .i) (a .k - 1) (a .s .now) (omega arith), c .before .before .before .before .before .before .before .before .before .id .given .1) at (c .before .before .before .before .before .before .before .before .before .before .before .before .before .put-part .ensures o e);
+      page = λ o e. rw (c .before .before .before .before .before .before .before .before .before .id .given .1) at (c .before .before .before .before .before .before .before .before .before .before .before .before .before .put-part .ensures o e);
       area = λ id q. let same : c .before .before .before .before .before .before .before .before .before .id .given .0 .0 ≡ id = cc in rw (c .before .before .put-child .ensures, c .before .before .before .before .before .before .put-midpoint .ensures, same);
     }
 
@@ -56,7 +54,7 @@ returns-2 : tie.Need-returns-2
 returns-2 c =
     let a = c .before .before .before .before .before .before .before .before .before .before .args in
     record {
-      page = λ o e. rw (part-same (a .m) (a .level) (a .n) (a .i) (a .k - 1) (a .s .now) (omega arith), c .before .refusal .given .1) at (c .before .before .before .before .before .put-part .ensures o e);
+      page = λ o e. rw (c .before .refusal .given .1) at (c .before .before .before .before .before .put-part .ensures o e);
       area = λ id q. absurd (apart (cc));
     }
 

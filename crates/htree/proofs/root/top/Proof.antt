@@ -1,7 +1,8 @@
 -- `top` meets its contract: one child is the root, several are written as the root. Assumes nothing.
 use native.Mathlib.Omega.{arith}
+use Rattle.rules.specs.SplitLaws.{whole-part}
 use Rattle.htree.specs.Told.{Ready}
-use Rattle.htree.specs.Settle.{whole-part, ready-next}
+use Rattle.htree.specs.Settle.{ready-next}
 use Rattle.htree.specs.Root.{top-one, top-put, top-refused}
 use borrow.Author.Needs.{needs}
 use Rattle.htree.proofs.root.top.Statement.{statement}

@@ -11,8 +11,11 @@ only-used-requires-2 : tie.Need-only-used-requires-2
 only-used-requires-2 c κs = search needs
 
 returns : tie.Need-returns
-returns c = let a = c .before .before .before .before .before .before .args in
-    cursor-is (a .height) (a .begin) (a .end) (c .before .before .before .before .before .only-used .result) (c .before .before .before .before .only-used2 .result) (c .before .before .before .before .before .only-used .ensures) (c .before .before .before .before .only-used2 .ensures)
+returns c =
+    let only-used = c .before .before .before .before .before .only-used in
+    let only-used2 = c .before .before .before .before .only-used2 in
+    let a = c .before .before .before .before .before .before .args in
+    cursor-is (a .height) (a .begin) (a .end) (only-used .result) (only-used2 .result) (only-used .ensures) (only-used2 .ensures)
 
 pub cursor-of-spec : {M : Type 1} → statement M
 cursor-of-spec = tie.close (tie.spec only-used-requires only-used-requires-2 returns)

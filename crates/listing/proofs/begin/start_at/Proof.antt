@@ -22,10 +22,13 @@ refused-requires : tie.Need-refused-requires
 refused-requires c κs = search needs
 
 returns : tie.Need-returns
-returns c = let a = c .before .before .before .before .before .before .before .before .args in
+returns c =
+    let descend = c .before .before .before .before .before .descend in
+    let begin-end = c .before .before .begin-end in
+    let a = c .before .before .before .before .before .before .before .before .args in
     let lower = downOf (a .extent) (a .store .now) (testOf (NotBelow (a .lower))) (a .level) (a .root) in
     let upper = downOf (a .extent) (a .store .now) (testOf (NotBelow (a .upper))) (a .level) (a .root) in
-    c .refused .ensures ∙ was-lost (a .level) _ (c .before .before .before .before .before .descend .result) _ lower (c .before .before .before .before .before .descend .ensures) (c .before .before .begin-end .given .1) upper
+    c .refused .ensures ∙ was-lost (a .level) _ (descend .result) _ lower (descend .ensures) (begin-end .given .1) upper
 
 enum-told : tie.Need-enum-told
 enum-told c = search needs
@@ -43,12 +46,19 @@ refused-requires-2 : tie.Need-refused-requires-2
 refused-requires-2 c κs = search needs
 
 returns-2 : tie.Need-returns-2
-returns-2 c = let a = c .before .before .before .before .before .before .before .before .before .before .before .before .before .args in
+returns-2 c =
+    let pre = c .before .before .before .before .before .before .before .before .before .before .before .before .before .pre in
+    let empty = c .before .before .before .before .before .before .before .before .before .before .before .empty in
+    let descend = c .before .before .before .before .before .before .before .before .before .before .descend in
+    let enum-told = c .before .before .before .before .before .before .before .enum-told in
+    let descend2 = c .before .before .before .before .before .descend2 in
+    let end-end = c .before .before .end-end in
+    let a = c .before .before .before .before .before .before .before .before .before .before .before .before .before .args in
     let lower = downOf (a .extent) (a .store .now) (testOf (NotBelow (a .lower))) (a .level) (a .root) in
     let upper = downOf (a .extent) (a .store .now) (testOf (NotBelow (a .upper))) (a .level) (a .root) in
-    let D = came-down (a .level) _ (c .before .before .before .before .before .before .before .before .before .before .descend .result) lower (c .before .before .before .before .before .before .before .before .before .before .descend .ensures) (c .before .before .before .before .before .before .before .enum-told .given .1) (c .before .before .before .before .before .before .before .before .before .before .before .before .before .pre .1 .1) (full-of _ (c .before .before .before .before .before .before .before .before .before .before .before .empty .ensures))
+    let D = came-down (a .level) _ (descend .result) lower (descend .ensures) (enum-told .given .1) (pre .1 .1) (full-of _ (empty .ensures))
     (down-long (a .extent) (a .store .now) (testOf (NotBelow (a .lower))) (a .level) (a .root)) in
-    c .refused2 .ensures ∙ upper-lost (a .level) _ _ (c .before .before .before .before .before .before .before .before .before .before .descend .result) (c .before .before .before .before .before .descend2 .result) lower upper D _ (c .before .before .before .before .before .descend2 .ensures) (c .before .before .end-end .given .1)
+    c .refused2 .ensures ∙ upper-lost (a .level) _ _ (descend .result) (descend2 .result) lower upper D _ (descend2 .ensures) (end-end .given .1)
 
 enum-told-2 : tie.Need-enum-told-2
 enum-told-2 c = search needs
@@ -60,14 +70,22 @@ cursor-of-requires : tie.Need-cursor-of-requires
 cursor-of-requires c κs = let p = c .before .before .before .before .before .before .before .before .before .before .before .pre .1 .1 in omega (arith, p)
 
 returns-3 : tie.Need-returns-3
-returns-3 c = let a = c .before .before .before .before .before .before .before .before .before .before .before .before .args in
+returns-3 c =
+    let pre = c .before .before .before .before .before .before .before .before .before .before .before .before .pre in
+    let empty = c .before .before .before .before .before .before .before .before .before .before .empty in
+    let descend = c .before .before .before .before .before .before .before .before .before .descend in
+    let enum-told = c .before .before .before .before .before .before .enum-told in
+    let empty2 = c .before .before .before .before .before .empty2 in
+    let descend2 = c .before .before .before .before .descend2 in
+    let a = c .before .before .before .before .before .before .before .before .before .before .before .before .args in
     let lower = downOf (a .extent) (a .store .now) (testOf (NotBelow (a .lower))) (a .level) (a .root) in
     let upper = downOf (a .extent) (a .store .now) (testOf (NotBelow (a .upper))) (a .level) (a .root) in
-    let D = came-down (a .level) _ (c .before .before .before .before .before .before .before .before .before .descend .result) lower (c .before .before .before .before .before .before .before .before .before .descend .ensures) (c .before .before .before .before .before .before .enum-told .given .1) (c .before .before .before .before .before .before .before .before .before .before .before .before .pre .1 .1) (full-of _ (c .before .before .before .before .before .before .before .before .before .before .empty .ensures))
+    let D = came-down (a .level) _ (descend .result) lower (descend .ensures) (enum-told .given .1) (pre .1 .1) (full-of _ (empty .ensures))
     (down-long (a .extent) (a .store .now) (testOf (NotBelow (a .lower))) (a .level) (a .root)) in
-    let G = came-down (a .level) _ (c .before .before .before .before .descend2 .result) upper (c .before .before .before .before .descend2 .ensures) (c .before .enum-told2 .given .1) (c .before .before .before .before .before .before .before .before .before .before .before .before .pre .1 .1) (full-of _ (c .before .before .before .before .before .empty2 .ensures))
+    let G = came-down (a .level) _ (descend2 .result) upper (descend2 .ensures) (c .before .enum-told2 .given .1) (pre .1 .1)
+    (full-of _ (empty2 .ensures))
     (down-long (a .extent) (a .store .now) (testOf (NotBelow (a .upper))) (a .level) (a .root)) in
-    rw (c .cursor-of .ensures) (both-down (a .level) _ _ (c .before .before .before .before .before .before .before .before .before .descend .result) (c .before .before .before .before .descend2 .result) lower upper D G)
+    rw (c .cursor-of .ensures) (both-down (a .level) _ _ (descend .result) (descend2 .result) lower upper D G)
 
 pub start-at-spec : {M : Type 1} → statement M
 start-at-spec =

@@ -34,21 +34,38 @@ refused-requires : tie.Need-refused-requires
 refused-requires c κs = search needs
 
 returns-2 : tie.Need-returns-2
-returns-2 c = let a = c .before .before .before .before .before .before .before .before .args in
-    let e = told-faulty (a .extent) (a .store .now) (a .root) _ (sym (ap (told (a .extent) (a .store .now) (a .root)) (c .before .enum-told .given .1)) ∙ c .before .before .before .node-at .ensures) in
-    c .refused .ensures ∙ under-damaged (a .extent) (a .store .now) (a .root) (a .lower) (a .upper) (sym (c .before .before .before .before .before .before .is-any-between .ensures) ∙ not-false _ (c .before .before .before .before .before .if1 .left)) _ e
+returns-2 c =
+    let is-any-between = c .before .before .before .before .before .before .is-any-between in
+    let if1 = c .before .before .before .before .before .if1 in
+    let node-at = c .before .before .before .node-at in
+    let a = c .before .before .before .before .before .before .before .before .args in
+    let e = told-faulty (a .extent) (a .store .now) (a .root) _
+    (sym (ap (told (a .extent) (a .store .now) (a .root)) (c .before .enum-told .given .1)) ∙ node-at .ensures) in
+    c .refused .ensures ∙ under-damaged (a .extent) (a .store .now) (a .root) (a .lower) (a .upper)
+    (sym (is-any-between .ensures) ∙ not-false _ (if1 .left)) _ e
 
 start-at-requires : tie.Need-start-at-requires
-start-at-requires c κs = let a = c .before .before .before .before .before .before .before .before .args in
+start-at-requires c κs =
+    let pre = c .before .before .before .before .before .before .before .before .pre in
+    let capacity-of = c .before .before .before .before .capacity-of in
+    let node-at = c .before .before .before .node-at in
+    let a = c .before .before .before .before .before .before .before .before .args in
     let g = c .before .level .given in
-    let e = told-fine (a .extent) (a .store .now) (a .root) (g .0 .0) (g .0 .1 .0) (sym (ap (told (a .extent) (a .store .now) (a .root)) (g .1)) ∙ c .before .before .before .node-at .ensures) in
-    (c .before .before .before .before .before .before .before .before .pre, (c .before .before .before .before .capacity-of .ensures, opens (a .extent) (a .store .now) (a .root) (g .0 .0) (g .0 .1 .0) (c .before .before .before .before .before .before .before .before .pre) e .low))
+    let e = told-fine (a .extent) (a .store .now) (a .root) (g .0 .0) (g .0 .1 .0)
+    (sym (ap (told (a .extent) (a .store .now) (a .root)) (g .1)) ∙ node-at .ensures) in
+    (pre, (capacity-of .ensures, opens (a .extent) (a .store .now) (a .root) (g .0 .0) (g .0 .1 .0) pre e .low))
 
 returns-3 : tie.Need-returns-3
-returns-3 c = let a = c .before .before .before .before .before .before .before .before .before .args in
+returns-3 c =
+    let is-any-between = c .before .before .before .before .before .before .before .is-any-between in
+    let if1 = c .before .before .before .before .before .before .if1 in
+    let node-at = c .before .before .before .before .node-at in
+    let a = c .before .before .before .before .before .before .before .before .before .args in
     let g = c .before .before .level .given in
-    let e = told-fine (a .extent) (a .store .now) (a .root) (g .0 .0) (g .0 .1 .0) (sym (ap (told (a .extent) (a .store .now) (a .root)) (g .1)) ∙ c .before .before .before .before .node-at .ensures) in
-    c .start-at .ensures ∙ under-read (a .extent) (a .store .now) (a .root) (a .lower) (a .upper) (sym (c .before .before .before .before .before .before .before .is-any-between .ensures) ∙ not-false _ (c .before .before .before .before .before .before .if1 .left)) (g .0 .0) (g .0 .1 .0) e
+    let e = told-fine (a .extent) (a .store .now) (a .root) (g .0 .0) (g .0 .1 .0)
+    (sym (ap (told (a .extent) (a .store .now) (a .root)) (g .1)) ∙ node-at .ensures) in
+    c .start-at .ensures ∙ under-read (a .extent) (a .store .now) (a .root) (a .lower) (a .upper)
+    (sym (is-any-between .ensures) ∙ not-false _ (if1 .left)) (g .0 .0) (g .0 .1 .0) e
 
 pub start-under-spec : {M : Type 1} → statement M
 start-under-spec =

@@ -80,14 +80,19 @@ against-requires c κs = search needs
 
 returns-2 : tie.Need-returns-2
 unfolding countOf
-returns-2 c = let a = c .before .before .before .before .before .before .args in
+returns-2 c =
+    let pre = c .before .before .before .before .before .before .pre in
+    let fetch = c .before .before .before .before .fetch in
+    let if1 = c .before .before .if1 in
+    let a = c .before .before .before .before .before .before .args in
     let good = c .before .before .before .before .before .before .pre .0 in
     let cap = c .before .before .before .before .before .before .pre .1 .0 in
-    let e = read-node (a .extent) (a .store .now) (a .page) _ (c .before .before .before .before .before .before .pre .1 .1) in
+    let e = read-node (a .extent) (a .store .now) (a .page) _ (pre .1 .1) in
     let o = opens (a .extent) (a .store .now) (a .page) _ _ good e in
     let few = in-order (a .extent) (a .store .now) good .known .few in
-    let lt = rw (c .before .before .before .before .fetch .ensures, o .bytes, cap) at (c .before .before .if1 .left) in
-    c .against .ensures ∙ rw (c .before .datom-at .ensures, c .before .before .before .before .fetch .ensures, o .bytes) (pick-at (a .extent) (a .store .now) (a .page) _ _ e (a .level) (a .index) (a .best) lt)
+    let lt = rw (fetch .ensures, o .bytes, cap) at (if1 .left) in
+    c .against .ensures ∙ rw (c .before .datom-at .ensures, fetch .ensures, o .bytes)
+    (pick-at (a .extent) (a .store .now) (a .page) _ _ e (a .level) (a .index) (a .best) lt)
 
 pub chosen-spec : {M : Type 1} → statement M
 chosen-spec =

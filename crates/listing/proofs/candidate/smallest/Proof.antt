@@ -35,11 +35,14 @@ element-copy-out-page : tie.Need-element-copy-out-page Inv-loop μ-loop
 element-copy-out-page c = search needs
 
 chosen-requires : tie.Need-chosen-requires Inv-loop μ-loop
-chosen-requires c κs = let a = c .before .before .before .before .before .args in
+chosen-requires c κs =
+    let pre = c .before .before .before .before .before .pre in
+    let test = c .before .before .loop-test in
+    let a = c .before .before .before .before .before .args in
     let u = a .t4 in
     let w = c .before .before .before .loop in
-    let o = open-at (fetchPage eavt (a .extent) (a .store .now)) (u .«begin_indices») (u .«begin_pages») _ (w .level) (c .before .before .before .before .before .pre .1 .1 .1) (c .before .before .loop-test .taken) in
-    (c .before .before .before .before .before .pre .0, (c .before .before .before .before .before .pre .1 .0, fine-in _ (o .node) (o .read)))
+    let o = open-at (fetchPage eavt (a .extent) (a .store .now)) (u .«begin_indices») (u .«begin_pages») _ (w .level) (pre .1 .1 .1) (test .taken) in
+    (pre .0, (pre .1 .0, fine-in _ (o .node) (o .read)))
 
 add-level : tie.Need-add-level Inv-loop μ-loop
 add-level c = search needs
@@ -48,10 +51,12 @@ loop-less : tie.Need-loop-less Inv-loop μ-loop
 loop-less c = search needs
 
 loop-again : tie.Need-loop-again Inv-loop μ-loop
-loop-again c = let a = c .before .before .before .before .before .before .args in
+loop-again c =
+    let test = c .before .before .before .loop-test in
+    let a = c .before .before .before .before .before .before .args in
     let u = a .t4 in
     let w = c .before .before .before .before .loop in
-    (omega (arith, c .before .before .before .loop-test .taken), picked-on (fetchPage eavt (a .extent) (a .store .now)) (u .«begin_indices») (u .«begin_pages») (w .level) (w .best) (c .chosen .result) (w .inv .1) (c .chosen .ensures))
+    (omega (arith, test .taken), picked-on (fetchPage eavt (a .extent) (a .store .now)) (u .«begin_indices») (u .«begin_pages») (w .level) (w .best) (c .chosen .result) (w .inv .1) (c .chosen .ensures))
 
 returns : tie.Need-returns Inv-loop μ-loop
 returns c = let a = c .before .before .before .args in

@@ -8,7 +8,8 @@ use Rattle.listing.proofs.descent.descend.Statement.{statement}
 use Rattle.listing.proofs.descent.descend.Tie as tie
 
 abbrev Inv-loop : tie.InvT-loop
-Inv-loop store extent c seek level filled₀ l₀ p₀ filled l p = (l ≤ 7) × (descentOf l filled (downOf extent store (testOf seek) l p) ≡ descentOf l₀ filled₀ (downOf extent store (testOf seek) l₀ p₀))
+Inv-loop store extent c seek level filled₀ l₀ p₀ filled l p =
+    (l ≤ 7) × (descentOf l filled (downOf extent store (testOf seek) l p) ≡ descentOf l₀ filled₀ (downOf extent store (testOf seek) l₀ p₀))
 
 abbrev μ-loop : tie.MeasureT-loop
 μ-loop store extent c seek level filled₀ l₀ p₀ filled l p = l

@@ -23,34 +23,52 @@ returns c = let a = c .before .before .before .before .args in
     place-faulty (a .extent) (a .store .now) (a .page) (testOf (a .seek)) (a .level) _ e
 
 returns-2 : tie.Need-returns-2
-returns-2 c = let a = c .before .before .before .before .before .before .args in
+returns-2 c =
+    let node-at = c .before .before .before .before .node-at in
+    let a = c .before .before .before .before .before .before .args in
     let q = c .before .before .l in
-    let e = told-fine (a .extent) (a .store .now) (a .page) (q .given .0 .0) (q .given .0 .1 .0) (sym (ap (told (a .extent) (a .store .now) (a .page)) (q .given .1)) ∙ c .before .before .before .before .node-at .ensures) in
+    let e = told-fine (a .extent) (a .store .now) (a .page) (q .given .0 .0) (q .given .0 .1 .0)
+    (sym (ap (told (a .extent) (a .store .now) (a .page)) (q .given .1)) ∙ node-at .ensures) in
     place-other (a .extent) (a .store .now) (a .page) (testOf (a .seek)) (a .level) _ _ e (c .if1 .taken)
 
 fetch-requires : tie.Need-fetch-requires
 fetch-requires c κs = search needs
 
 index-in-requires : tie.Need-index-in-requires
-index-in-requires c κs = let a = c .before .before .before .before .before .before .before .args in
+index-in-requires c κs =
+    let pre = c .before .before .before .before .before .before .before .pre in
+    let node-at = c .before .before .before .before .before .node-at in
+    let a = c .before .before .before .before .before .before .before .args in
     let q = c .before .before .before .l in
-    let e = told-fine (a .extent) (a .store .now) (a .page) (q .given .0 .0) (q .given .0 .1 .0) (sym (ap (told (a .extent) (a .store .now) (a .page)) (q .given .1)) ∙ c .before .before .before .before .before .node-at .ensures) in
-    let w = opens (a .extent) (a .store .now) (a .page) (q .given .0 .0) (q .given .0 .1 .0) (c .before .before .before .before .before .before .before .pre .0) e in
+    let e = told-fine (a .extent) (a .store .now) (a .page) (q .given .0 .0) (q .given .0 .1 .0)
+    (sym (ap (told (a .extent) (a .store .now) (a .page)) (q .given .1)) ∙ node-at .ensures) in
+    let w = opens (a .extent) (a .store .now) (a .page) (q .given .0 .0) (q .given .0 .1 .0) (pre .0) e in
     rw (c .fetch .ensures, w .bytes) (omega (arith, w .few, w .wide), w .rise)
 
 child-from-requires : tie.Need-child-from-requires
-child-from-requires c κs = let a = c .before .before .before .before .before .before .before .before .args in
+child-from-requires c κs =
+    let pre = c .before .before .before .before .before .before .before .before .pre in
+    let node-at = c .before .before .before .before .before .before .node-at in
+    let a = c .before .before .before .before .before .before .before .before .args in
     let q = c .before .before .before .before .l in
-    let e = told-fine (a .extent) (a .store .now) (a .page) (q .given .0 .0) (q .given .0 .1 .0) (sym (ap (told (a .extent) (a .store .now) (a .page)) (q .given .1)) ∙ c .before .before .before .before .before .before .node-at .ensures) in
-    let w = opens (a .extent) (a .store .now) (a .page) (q .given .0 .0) (q .given .0 .1 .0) (c .before .before .before .before .before .before .before .before .pre .0) e in
-    rw (c .before .fetch .ensures, w .bytes, c .before .before .before .before .before .before .before .before .pre .1) (w .few, omega (arith, w .wide))
+    let e = told-fine (a .extent) (a .store .now) (a .page) (q .given .0 .0) (q .given .0 .1 .0)
+    (sym (ap (told (a .extent) (a .store .now) (a .page)) (q .given .1)) ∙ node-at .ensures) in
+    let w = opens (a .extent) (a .store .now) (a .page) (q .given .0 .0) (q .given .0 .1 .0) (pre .0) e in
+    rw (c .before .fetch .ensures, w .bytes, pre .1) (w .few, omega (arith, w .wide))
 
 returns-3 : tie.Need-returns-3
-returns-3 c = let a = c .before .before .before .before .before .before .before .before .before .args in
+returns-3 c =
+    let pre = c .before .before .before .before .before .before .before .before .before .pre in
+    let node-at = c .before .before .before .before .before .before .before .node-at in
+    let if1 = c .before .before .before .if1 in
+    let fetch = c .before .before .fetch in
+    let a = c .before .before .before .before .before .before .before .before .before .args in
     let q = c .before .before .before .before .before .l in
-    let e = told-fine (a .extent) (a .store .now) (a .page) (q .given .0 .0) (q .given .0 .1 .0) (sym (ap (told (a .extent) (a .store .now) (a .page)) (q .given .1)) ∙ c .before .before .before .before .before .before .before .node-at .ensures) in
-    let w = opens (a .extent) (a .store .now) (a .page) (q .given .0 .0) (q .given .0 .1 .0) (c .before .before .before .before .before .before .before .before .before .pre .0) e in
-    place-at (a .extent) (a .store .now) (a .page) (testOf (a .seek)) (a .level) _ _ e (c .before .before .before .if1 .left) _ (a .c) _ _ (c .before .before .fetch .ensures ∙ w .bytes) (c .before .before .before .before .before .before .before .before .before .pre .1) (c .before .index-in .ensures) (c .child-from .ensures)
+    let e = told-fine (a .extent) (a .store .now) (a .page) (q .given .0 .0) (q .given .0 .1 .0)
+    (sym (ap (told (a .extent) (a .store .now) (a .page)) (q .given .1)) ∙ node-at .ensures) in
+    let w = opens (a .extent) (a .store .now) (a .page) (q .given .0 .0) (q .given .0 .1 .0) (pre .0) e in
+    place-at (a .extent) (a .store .now) (a .page) (testOf (a .seek)) (a .level) _ _ e (if1 .left) _ (a .c) _ _ (fetch .ensures ∙ w .bytes) (pre .1)
+    (c .before .index-in .ensures) (c .child-from .ensures)
 
 pub place-in-spec : {M : Type 1} → statement M
 place-in-spec =

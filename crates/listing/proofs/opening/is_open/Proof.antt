@@ -22,21 +22,30 @@ returns c = let a = c .before .before .before .before .args in
     open-faulty (a .extent) (a .store .now) (a .page) (a .index) (a .level) _ e
 
 returns-2 : tie.Need-returns-2
-returns-2 c = let a = c .before .before .before .before .before .before .args in
+returns-2 c =
+    let node-at = c .before .before .before .before .node-at in
+    let a = c .before .before .before .before .before .before .args in
     let g = c .before .before .l .given in
-    let e = told-fine (a .extent) (a .store .now) (a .page) (g .0 .0) (g .0 .1 .0) (sym (ap (told (a .extent) (a .store .now) (a .page)) (g .1)) ∙ c .before .before .before .before .node-at .ensures) in
+    let e = told-fine (a .extent) (a .store .now) (a .page) (g .0 .0) (g .0 .1 .0)
+    (sym (ap (told (a .extent) (a .store .now) (a .page)) (g .1)) ∙ node-at .ensures) in
     open-other (a .extent) (a .store .now) (a .page) (a .index) (a .level) _ _ e (c .if1 .taken)
 
 returns-3 : tie.Need-returns-3
-returns-3 c = let a = c .before .before .before .before .before .before .before .args in
+returns-3 c =
+    let node-at = c .before .before .before .before .before .node-at in
+    let a = c .before .before .before .before .before .before .before .args in
     let g = c .before .before .before .l .given in
-    let e = told-fine (a .extent) (a .store .now) (a .page) (g .0 .0) (g .0 .1 .0) (sym (ap (told (a .extent) (a .store .now) (a .page)) (g .1)) ∙ c .before .before .before .before .before .node-at .ensures) in
+    let e = told-fine (a .extent) (a .store .now) (a .page) (g .0 .0) (g .0 .1 .0)
+    (sym (ap (told (a .extent) (a .store .now) (a .page)) (g .1)) ∙ node-at .ensures) in
     open-past (a .extent) (a .store .now) (a .page) (a .index) (a .level) _ _ e (c .before .if1 .left) (c .if2 .taken)
 
 returns-4 : tie.Need-returns-4
-returns-4 c = let a = c .before .before .before .before .before .before .before .args in
+returns-4 c =
+    let node-at = c .before .before .before .before .before .node-at in
+    let a = c .before .before .before .before .before .before .before .args in
     let g = c .before .before .before .l .given in
-    let e = told-fine (a .extent) (a .store .now) (a .page) (g .0 .0) (g .0 .1 .0) (sym (ap (told (a .extent) (a .store .now) (a .page)) (g .1)) ∙ c .before .before .before .before .before .node-at .ensures) in
+    let e = told-fine (a .extent) (a .store .now) (a .page) (g .0 .0) (g .0 .1 .0)
+    (sym (ap (told (a .extent) (a .store .now) (a .page)) (g .1)) ∙ node-at .ensures) in
     open-here (a .extent) (a .store .now) (a .page) (a .index) (a .level) _ _ e (c .before .if1 .left) (c .if2 .left)
 
 pub is-open-spec : {M : Type 1} → statement M

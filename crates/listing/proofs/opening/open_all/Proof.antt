@@ -11,7 +11,10 @@ use Rattle.listing.proofs.opening.open_all.Statement.{statement}
 use Rattle.listing.proofs.opening.open_all.Tie as tie
 
 abbrev Inv-loop : tie.InvT-loop
-Inv-loop store extent c cursor level₀ level = (level ≤ 8) × (openBelow (fetchPage eavt extent store) level (cursor .«begin_indices») (cursor .«begin_pages») ≡ openBelow (fetchPage eavt extent store) level₀ (cursor .«begin_indices») (cursor .«begin_pages»))
+Inv-loop store extent c cursor level₀ level =
+    (level ≤ 8)
+    × (openBelow (fetchPage eavt extent store) level (cursor .«begin_indices») (cursor .«begin_pages»)
+    ≡ openBelow (fetchPage eavt extent store) level₀ (cursor .«begin_indices») (cursor .«begin_pages»))
 
 abbrev μ-loop : tie.MeasureT-loop
 μ-loop store extent c cursor level₀ level = level
@@ -38,19 +41,24 @@ is-open-requires : tie.Need-is-open-requires Inv-loop μ-loop
 is-open-requires c κs = (c .before .before .before .before .before .pre .0, c .before .before .before .before .before .pre .1 .0)
 
 returns : tie.Need-returns Inv-loop μ-loop
-returns c = let a = c .before .before .before .before .before .before .before .args in
+returns c =
+    let test = c .before .before .before .before .loop-test in
+    let a = c .before .before .before .before .before .before .before .args in
     let u = a .t4 in
     let w = c .before .before .before .before .before .loop in
-    open-bad (fetchPage eavt (a .extent) (a .store .now)) (u .«begin_indices») (u .«begin_pages») (w .level) (c .before .before .before .before .loop-test .taken) (sym (c .before .is-open .ensures) ∙ not-true _ (c .if1 .taken)) ∙ w .inv .1
+    open-bad (fetchPage eavt (a .extent) (a .store .now)) (u .«begin_indices») (u .«begin_pages») (w .level) (test .taken)
+    (sym (c .before .is-open .ensures) ∙ not-true _ (c .if1 .taken)) ∙ w .inv .1
 
 loop-less : tie.Need-loop-less Inv-loop μ-loop
 loop-less c = search needs
 
 loop-again : tie.Need-loop-again Inv-loop μ-loop
-loop-again c = let a = c .before .before .before .before .before .before .before .args in
+loop-again c =
+    let test = c .before .before .before .before .loop-test in
+    let a = c .before .before .before .before .before .before .before .args in
     let u = a .t4 in
     let w = c .before .before .before .before .before .loop in
-    (omega (arith, w .inv .0), open-on (fetchPage eavt (a .extent) (a .store .now)) (u .«begin_indices») (u .«begin_pages») (w .level) (c .before .before .before .before .loop-test .taken) (sym (c .before .is-open .ensures) ∙ not-false _ (c .if1 .left)) ∙ w .inv .1)
+    (omega (arith, w .inv .0), open-on (fetchPage eavt (a .extent) (a .store .now)) (u .«begin_indices») (u .«begin_pages») (w .level) (test .taken) (sym (c .before .is-open .ensures) ∙ not-false _ (c .if1 .left)) ∙ w .inv .1)
 
 returns-2 : tie.Need-returns-2 Inv-loop μ-loop
 returns-2 c = let a = c .before .before .before .args in

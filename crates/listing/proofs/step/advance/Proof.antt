@@ -179,7 +179,12 @@ descend-requires c κs = let a = c .before .before .before .before .before .befo
 
 returns-3 : tie.Need-returns-3
 unfolding countOf
-returns-3 c = let a = c .before .before .before .before .before .before .before .before .before .before .args in
+returns-3 c =
+    let fetch = c .before .before .before .before .before .before .fetch in
+    let if1 = c .before .before .before .before .if1 in
+    let is-midpoint-at = c .before .before .before .is-midpoint-at in
+    let if2 = c .before .before .if2 in
+    let a = c .before .before .before .before .before .before .before .before .before .before .args in
     let b = a .t5 in
     let q = getD (b .pages) (a .level) (page 0) in
     let good = c .before .before .before .before .before .before .before .before .before .before .pre .0 in
@@ -190,9 +195,10 @@ returns-3 c = let a = c .before .before .before .before .before .before .before 
     let few = in-order (a .extent) (a .store .now) good .known .few in
     let most = read-most (a .extent) (a .store .now) q _ _ e in
     let kids = read-children (a .extent) (a .store .now) q _ _ e in
-    let mid = rw (c .before .before .before .before .before .before .fetch .ensures, o .bytes, cap) at (c .before .before .before .is-midpoint-at .ensures) in
-    let next = rw (c .before .before .before .before .before .before .fetch .ensures, o .bytes, cap, ← kids) at (c .before .child-from .ensures) in
-    c .descend .ensures ∙ adv-midpoint (a .extent) (a .store .now) b (a .level) (c .before .before .before .before .if1 .left) (ap (λ ks. isMidpoint ks (getD (b .indices) (a .level) 0)) kids ∙ sym mid ∙ not-false _ (c .before .before .if2 .left)) _ next
+    let mid = rw (fetch .ensures, o .bytes, cap) at (is-midpoint-at .ensures) in
+    let next = rw (fetch .ensures, o .bytes, cap, ← kids) at (c .before .child-from .ensures) in
+    c .descend .ensures ∙ adv-midpoint (a .extent) (a .store .now) b (a .level) (if1 .left)
+    (ap (λ ks. isMidpoint ks (getD (b .indices) (a .level) 0)) kids ∙ sym mid ∙ not-false _ (if2 .left)) _ next
 
 pub advance-spec : {M : Type 1} → statement M
 advance-spec =

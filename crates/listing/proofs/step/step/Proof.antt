@@ -23,9 +23,13 @@ refused-requires-2 : tie.Need-refused-requires-2
 refused-requires-2 c κs = search needs
 
 returns-2 : tie.Need-returns-2
-returns-2 c = let a = c .before .before .before .before .before .before .before .args in
+returns-2 c =
+    let is-bad = c .before .before .before .before .before .is-bad in
+    let if1 = c .before .before .before .before .if1 in
+    let if2 = c .before .before .if2 in
+    let a = c .before .before .before .before .before .before .before .args in
     let u = a .cursor in
-    c .refused2 .ensures ∙ rw (c .before .max .ensures) (step-tall (a .extent) (a .store .now) u (sym (c .before .before .before .before .before .is-bad .ensures) ∙ c .before .before .before .before .if1 .left) (c .before .before .if2 .taken))
+    c .refused2 .ensures ∙ rw (c .before .max .ensures) (step-tall (a .extent) (a .store .now) u (sym (is-bad .ensures) ∙ if1 .left) (if2 .taken))
 
 is-at-end-requires : tie.Need-is-at-end-requires
 is-at-end-requires c κs = c .if2 .left
@@ -35,18 +39,28 @@ ended-requires c κs = search needs
 
 returns-3 : tie.Need-returns-3
 returns-3 c =
+    let is-bad = c .before .before .before .before .before .before .is-bad in
+    let if1 = c .before .before .before .before .before .if1 in
+    let if2 = c .before .before .before .if2 in
+    let is-at-end = c .before .before .is-at-end in
     let a = c .before .before .before .before .before .before .before .before .args in
     let u = a .cursor in
     c .ended .ensures
-    ∙ step-ended (a .extent) (a .store .now) u (sym (c .before .before .before .before .before .before .is-bad .ensures) ∙ c .before .before .before .before .before .if1 .left) (c .before .before .before .if2 .left) (sym (c .before .before .is-at-end .ensures) ∙ c .before .if3 .taken)
+    ∙ step-ended (a .extent) (a .store .now) u (sym (is-bad .ensures) ∙ if1 .left) (if2 .left) (sym (is-at-end .ensures) ∙ c .before .if3 .taken)
 
 step-on-requires : tie.Need-step-on-requires
 step-on-requires c κs = ((sym (c .before .before .before .before .before .is-bad .ensures) ∙ c .before .before .before .before .if1 .left), c .before .before .if2 .left)
 
 returns-4 : tie.Need-returns-4
-returns-4 c = let a = c .before .before .before .before .before .before .before .before .args in
+returns-4 c =
+    let is-bad = c .before .before .before .before .before .before .is-bad in
+    let if1 = c .before .before .before .before .before .if1 in
+    let if2 = c .before .before .before .if2 in
+    let is-at-end = c .before .before .is-at-end in
+    let a = c .before .before .before .before .before .before .before .before .args in
     let u = a .cursor in
-    c .step-on .ensures ∙ step-goes (a .extent) (a .store .now) u (sym (c .before .before .before .before .before .before .is-bad .ensures) ∙ c .before .before .before .before .before .if1 .left) (c .before .before .before .if2 .left) (sym (c .before .before .is-at-end .ensures) ∙ c .before .if3 .left)
+    c .step-on .ensures ∙ step-goes (a .extent) (a .store .now) u (sym (is-bad .ensures) ∙ if1 .left) (if2 .left)
+    (sym (is-at-end .ensures) ∙ c .before .if3 .left)
 
 pub step-spec : {M : Type 1} → statement M
 step-spec =

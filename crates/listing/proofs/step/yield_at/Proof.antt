@@ -6,7 +6,9 @@ use Rattle.listing.proofs.step.yield_at.Statement.{statement}
 use Rattle.listing.proofs.step.yield_at.Tie as tie
 
 advance-requires : tie.Need-advance-requires
-advance-requires c κs = (c .before .before .before .before .before .pre .0, (c .before .before .before .before .before .pre .1 .0, (c .before .before .before .before .before .pre .1 .1 .1 .0, c .before .before .before .before .before .pre .1 .1 .1 .1)))
+advance-requires c κs =
+    let pre = c .before .before .before .before .before .pre in
+    (pre .0, (pre .1 .0, (pre .1 .1 .1 .0, pre .1 .1 .1 .1)))
 
 enum-known-bottom : tie.Need-enum-known-bottom
 enum-known-bottom c = search needs
@@ -15,7 +17,11 @@ refused-requires : tie.Need-refused-requires
 refused-requires c κs = search needs
 
 returns : tie.Need-returns
-returns c = c .refused .ensures ∙ yield-lost (c .before .before .before .before .before .before .before .before .before .before .before .args .cursor) (c .before .before .before .before .before .before .before .before .before .before .before .args .datom) (c .before .before .before .before .before .advance .result) _ (c .before .before .before .before .before .advance .ensures) _ (c .before .before .bottom .given .1)
+returns c =
+    let a = c .before .before .before .before .before .before .before .before .before .before .before .args in
+    let advance = c .before .before .before .before .before .advance in
+    let bottom = c .before .before .bottom in
+    c .refused .ensures ∙ yield-lost (a .cursor) (a .datom) (advance .result) _ (advance .ensures) _ (bottom .given .1)
 
 enum-told : tie.Need-enum-told
 enum-told c = search needs
@@ -24,7 +30,10 @@ cursor-of-requires : tie.Need-cursor-of-requires
 cursor-of-requires c κs = c .before .before .before .before .before .before .before .before .before .pre .1 .1 .0
 
 returns-2 : tie.Need-returns-2
-returns-2 c = rw (c .cursor-of .ensures) (yield-bottom (c .before .before .before .before .before .before .before .before .before .before .args .cursor) (c .before .before .before .before .before .before .before .before .before .before .args .datom) (c .before .before .before .before .advance .result) _ (c .before .before .before .before .advance .ensures) (c .before .enum-told .given .1))
+returns-2 c =
+    let a = c .before .before .before .before .before .before .before .before .before .before .args in
+    let advance = c .before .before .before .before .advance in
+    rw (c .cursor-of .ensures) (yield-bottom (a .cursor) (a .datom) (advance .result) _ (advance .ensures) (c .before .enum-told .given .1))
 
 pub yield-at-spec : {M : Type 1} → statement M
 yield-at-spec =

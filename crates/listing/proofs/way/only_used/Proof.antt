@@ -10,7 +10,9 @@ use Rattle.listing.proofs.way.only_used.Statement.{statement}
 use Rattle.listing.proofs.way.only_used.Tie as tie
 
 abbrev Inv-loop : tie.InvT-loop
-Inv-loop height kept₀ level₀ kept level = (level ≤ 8) × (Full kept × (Full kept₀ × ((cleared 0 level (kept .indices) ≡ cleared 0 level₀ (kept₀ .indices)) × (cleared (page 0) level (kept .pages) ≡ cleared (page 0) level₀ (kept₀ .pages)))))
+Inv-loop height kept₀ level₀ kept level =
+    (level ≤ 8)
+    × (Full kept × (Full kept₀ × ((cleared 0 level (kept .indices) ≡ cleared 0 level₀ (kept₀ .indices)) × (cleared (page 0) level (kept .pages) ≡ cleared (page 0) level₀ (kept₀ .pages)))))
 
 abbrev μ-loop : tie.MeasureT-loop
 μ-loop height kept₀ level₀ kept level = 8 - level

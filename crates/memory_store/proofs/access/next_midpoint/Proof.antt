@@ -8,14 +8,14 @@ use lib.ListN.{drop}
 use borrow.Author.Tests.{not-true, not-false}
 use Rattle.store.specs.Page.{isNone}
 use Rattle.store.specs.Cells.{pages-from}
+use Rattle.rules.specs.Page.{childrenOf}
 use Rattle.rules.specs.Node.{nextMidpoint}
-use Rattle.memory_store.specs.Layout.{childrenOf}
 use Rattle.memory_store.specs.Steps.{next-on, next-stop, next-end}
 use Rattle.memory_store.proofs.access.next_midpoint.Statement.{statement}
 use Rattle.memory_store.proofs.access.next_midpoint.Tie as tie
 
 abbrev Inv-loop : tie.InvT-loop
-Inv-loop s m n from i₀ i = nextMidpoint (drop i (childrenOf m n s)) ≡ nextMidpoint (drop «from» (childrenOf m n s))
+Inv-loop s m n from i₀ i = nextMidpoint (drop i (childrenOf m (suc n) s)) ≡ nextMidpoint (drop «from» (childrenOf m (suc n) s))
 
 abbrev μ-loop : tie.MeasureT-loop
 μ-loop s m n from i₀ i = suc n - i

@@ -95,7 +95,7 @@ module _
     page-long :
         (count : ℕ) (m : Node) (o : List Node) → Pages count (m ∷ o) → length (encodePage (x .size) (capacity (x .size)) m) ≡ x .size
     unfolding nth
-    page-long count m o w = encoded-length t (x .size) (capacity (x .size)) (pageId (count + 0)) m (w 0 m refl) big
+    page-long count m o w = encoded-length (x .size) (capacity (x .size)) m big (w 0 m refl .few) (w 0 m refl .lens)
 
     bytes-long : (count : ℕ) (o : List Node) → Pages count o → length (bytes o) ≡ length o * x .size
     unfolding spread

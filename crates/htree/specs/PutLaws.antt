@@ -5,21 +5,20 @@ use native.Mathlib.Omega.{arith}
 use mathlib.Core.List.{List, [], _∷_, _++_, append-assoc, append-nil}
 use mathlib.Core.Path.{_≡_, refl, ap}
 use borrow.Author.Tests.{le-leb, lt-leb, lt-ltb, le-ltb}
-use lib.ListN.{length, take, drop, length-append, length-drop, drop-of-length-le}
+use lib.ListN.{length, take, drop, length-drop, drop-of-length-le}
 use lib.Seq.{take-add, take-all, drop-drop, length-take-le}
 use Rattle.store.specs.declared.PageId.{PageId}
 use Rattle.store.specs.declared.Extent.{Extent}
-use Rattle.store.specs.Words.{spread, patch}
-use Rattle.store.specs.Page.{page, pageOf, pageBytes}
-use Rattle.store.specs.Laws.{pad-length, spread-length, page-length, cells-length}
-use Rattle.datom.specs.Datom.{datomsBytes, datomOf}
+use Rattle.store.specs.Words.{patch}
+use Rattle.store.specs.Page.{page, pageOf}
+use Rattle.store.specs.Laws.{cells-length}
+use Rattle.datom.specs.Datom.{datomOf}
 use Rattle.index.specs.Order.{eavt}
 use Rattle.answer.specs.declared.Refusal.the-variants.{TooTall, NoRoom}
-use Rattle.rules.specs.Page.{Node, nodeOf, encodePage}
+use Rattle.rules.specs.Page.{Node, nodeOf}
 use Rattle.rules.specs.Node.{partOf}
 use Rattle.rules.specs.Tree.{put}
 use Rattle.rules.specs.Store.{envOf}
-use Rattle.rules.specs.Round.{datoms-length}
 use Rattle.htree.specs.declared.place.Put.the-variants.{Placed, Failed}
 use Rattle.htree.specs.Wrote.{Wrote}
 use Rattle.htree.specs.Told.{PutTold, put-placed, put-failed}
@@ -30,20 +29,6 @@ unfolding patch
 patch-part s base at p =
     rw (take-add base at s, drop-drop, ← append-assoc, ← append-assoc)
     (ap (λ (k : ℕ). ((take base s ++ take at (drop base s)) ++ p) ++ drop k s) (let e : base + (at + length p) ≡ base + at + length p = omega arith in e))
-
--- a page is as long as its size
-pub encoded-length :
-    (size c : ℕ) (n : Node) → 40 * c + 10 ≤ size → length (n .datoms) ≤ c → length (n .children) ≡ suc (length (n .datoms)) →
-    length (encodePage size c n) ≡ size
-unfolding encodePage
-encoded-length size c n h few lens =
-    pad-length size _
-    (simp (
-      length-append,
-      pad-length (32 * c) (datomsBytes (n .datoms)) (omega (arith, datoms-length (n .datoms))),
-      pad-length (8 * c + 8) (spread pageBytes (n .children)) (omega (arith, spread-length pageBytes 8 page-length (n .children))),
-    )
-    (omega arith))
 
 pub part-few : (m l n i a : ℕ) (s : List ℕ) → i + a ≤ n → length (partOf i a (nodeOf m l n s) .datoms) ≡ a
 unfolding partOf nodeOf

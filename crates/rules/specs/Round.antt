@@ -32,6 +32,20 @@ pub record Writable (t : DatomOrd) (c : ℕ) (id : PageId) (n : Node) : Type 0 w
 pub datoms-length : (ds : List Datom) → length (datomsBytes ds) ≡ 32 * length ds
 datoms-length ds = spread-length datomBytes 32 datom-length ds
 
+-- a page is as long as its size
+pub encoded-length :
+    (size c : ℕ) (n : Node) → 40 * c + 10 ≤ size → length (n .datoms) ≤ c → length (n .children) ≡ suc (length (n .datoms)) →
+    length (encodePage size c n) ≡ size
+unfolding encodePage
+encoded-length size c n h few lens =
+    pad-length size _
+    (simp (
+      length-append,
+      pad-length (32 * c) (datomsBytes (n .datoms)) (omega (arith, datoms-length (n .datoms))),
+      pad-length (8 * c + 8) (spread pageBytes (n .children)) (omega (arith, spread-length pageBytes 8 page-length (n .children))),
+    )
+    (omega arith))
+
 -- a batch comes back from its bytes
 pub datoms-back : (ds : List Datom) (rest : List ℕ) → ((d : Datom) → In d ds → Words d) → datomsOf (length ds) (datomsBytes ds ++ rest) ≡ ds
 datoms-back ds rest w =
@@ -66,10 +80,6 @@ module _ (t : DatomOrd) (size c : ℕ) (id : PageId) (n : Node) (W : Writable t 
 
   front : encodePage size c n ≡ (a ++ b) ++ (n .level ∷ length (n .datoms) ∷ z)
   front = rw append-assoc shape
-
-  pub encoded-length : length (encodePage size c n) ≡ size
-  unfolding encodePage a b
-  encoded-length = pad-length size _ (simp length-append (omega (arith, a-length, b-length)))
 
   level-back : levelOf c (encodePage size c n) ≡ n .level
   unfolding levelOf

@@ -1,5 +1,5 @@
 -- `insert_into`, `drain` and `flush` meet their contracts: the level falls at each round of the cycle. Assumes nothing.
-use Prim.Native.Nat.{_+_, _*_, _-_}
+use Prim.Native.Nat.{ℕ, _+_, _*_, _<_}
 use native.Mathlib.Nat.{add-mul, one-mul}
 use native.Mathlib.Omega.{arith}
 use mathlib.Core.Path.{sym, _∙_}
@@ -10,7 +10,6 @@ use Rattle.node.specs.Spans.{Spans}
 use Rattle.node.specs.Splice.{Spliced}
 use Rattle.htree.specs.Told.{Ready}
 use Rattle.htree.specs.Cycle.{Drains, Rooms, rooms, area-fits, lower, drains-start, drains-ready, drains-length, drains-small, drains-sent, drains-none, drains-on, drains-stop, flush-fails, flush-back, flush-done, insert-bad, loads-few, insert-flat, insert-stops, went-ready, went-few, insert-goes}
-use Prim.Native.Nat.{ℕ, _<_}
 use borrow.Fn.Kinds.{In}
 use borrow.Fn.PlainCycle.{Measures, is, falls, and}
 use Rattle.htree.proofs.insert.drain.Reads as drain

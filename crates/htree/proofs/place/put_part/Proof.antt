@@ -1,19 +1,17 @@
 -- `put_part` meets its contract: too tall, then no room, then one page past those written. Assumes nothing.
-use native.Mathlib.Nat.{div-le-self}
-use Rattle.rules.specs.Page.{encodePage, Node}
+use native.Mathlib.Nat.{div-le-self, add-mul, one-mul, le-div-iff-mul-le}
+use Rattle.rules.specs.Page.{encodePage, Node, nodeOf}
 use Rattle.rules.specs.Node.{partOf}
-use Rattle.htree.specs.Wrote.{Wrote}
+use Rattle.rules.specs.Round.{encoded-length}
+use Rattle.htree.specs.Wrote.{Wrote, wrote-one}
 use Prim.Native.Nat.{suc, _+_, _*_, _-_, _≤_}
-use native.Mathlib.Nat.{add-mul, one-mul, le-div-iff-mul-le}
 use native.Mathlib.Omega.{arith}
 use mathlib.Core.Path.{sym, _∙_, ap}
 use lib.ListN.{length, length-take, length-drop}
 use Rattle.store.specs.Laws.{Known}
-use Rattle.rules.specs.Page.{nodeOf}
 use Rattle.memory_store.specs.FetchLaws.{InOrder, in-order}
-use Rattle.htree.specs.Wrote.{wrote-one}
 use Rattle.htree.specs.Told.{Ready}
-use Rattle.htree.specs.PutLaws.{part-back, encoded-length, part-few, part-lens, put-tall, put-full, put-done, one-fits}
+use Rattle.htree.specs.PutLaws.{part-back, part-few, part-lens, put-tall, put-full, put-done, one-fits}
 use borrow.Author.Needs.{needs}
 use Rattle.htree.proofs.place.put_part.Statement.{statement}
 use Rattle.htree.proofs.place.put_part.Tie as tie

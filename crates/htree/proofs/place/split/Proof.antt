@@ -1,5 +1,5 @@
 -- `split` meets its contract: the loop stands halfway, whatever was written before, and the last part ends it. Assumes nothing.
-use Rattle.htree.specs.Split.{looping-length, looping-next, looping-on, looping-end, looping-stop, looping-refused}
+use Rattle.htree.specs.Split.{looping-length, looping-next, looping-on, looping-end, looping-stop, looping-refused, Divided, divided, Looping, halfway-start, looping-ready, looping-same, looping-few, looping-share, looping-inner, looping-last}
 use borrow.Author.Needs.{needs}
 use Prim.Native.Nat.{_-_}
 use native.Mathlib.Omega.{arith}
@@ -7,7 +7,6 @@ use mathlib.Core.Path.{refl}
 use Rattle.store.specs.Laws.{Known}
 use Rattle.memory_store.specs.FetchLaws.{InOrder, in-order}
 use Rattle.htree.specs.Told.{Ready, tell-went, tell-stopped}
-use Rattle.htree.specs.Split.{Divided, divided, Looping, halfway-start, looping-ready, looping-same, looping-few, looping-share, looping-inner, looping-last}
 use Rattle.htree.proofs.place.split.Statement.{statement}
 use Rattle.htree.proofs.place.split.Tie as tie
 

@@ -1,8 +1,7 @@
 -- `bound_at` meets its contract. Assumes nothing.
-use Rattle.invariants.specs.Bounds.{bound-at-datom, bound-past}
+use Rattle.invariants.specs.Bounds.{bound-at-datom, bound-past, boundOf}
 use mathlib.Core.Path.{_∙_, ap}
 use Rattle.invariants.specs.declared.bound.Bound.the-variants.{At}
-use Rattle.invariants.specs.Bounds.{boundOf}
 use Rattle.datom.specs.declared.Datom.{Datom}
 use borrow.Author.Needs.{needs}
 use Rattle.invariants.proofs.bound.bound_at.Statement.{statement}

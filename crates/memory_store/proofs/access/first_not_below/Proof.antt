@@ -42,7 +42,7 @@ by-halving-requires-2 : tie.Need-by-halving-requires-2
 by-halving-requires-2 c κs = search needs
 
 returns-2 : tie.Need-returns-2
-returns-2 c = 
+returns-2 c =
     let a = c .before .before .before .before .before .before .args in
     let i = a .k - 1 in
     let e : named (cmpEavt (datomAt (a .s .now) (32 * i)) (a .d)) ≡ Less = cc (c .enum-told .given .1) in

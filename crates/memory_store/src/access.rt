@@ -45,24 +45,8 @@ pub fn next_midpoint(s: &[u8], m: usize, n: usize, from: usize) -> NextMidpoint
     NextMidpoint::Nothing
 }
 
-// The index of the first of k rising datoms that is not below d. The last datom is looked at first: behind it an ascending feed goes on
-// in every page of its way.
+// The index of the first of k rising datoms that is not below d, by halving.
 pub fn first_not_below(s: &[u8], k: usize, d: Datom) -> usize
-    requires { ⌜ (32 * k ≤ length (now s)) × (rising cmpEavt (datomsOf k (now s)) ≡ true) ⌝ }
-    ensures { λ r. ⌜ r ≡ rank cmpEavt d (datomsOf k (now (s .entry))) ⌝ }
-{
-    if k == 0 {
-        return 0;
-    }
-    match index::order_of(datom::datom_at(s, 32 * (k - 1)), d) {
-        Order::Less => k,
-        Order::Equal => by_halving(s, k, d),
-        Order::Greater => by_halving(s, k, d),
-    }
-}
-
-// The same by halving.
-fn by_halving(s: &[u8], k: usize, d: Datom) -> usize
     requires { ⌜ (32 * k ≤ length (now s)) × (rising cmpEavt (datomsOf k (now s)) ≡ true) ⌝ }
     ensures { λ r. ⌜ r ≡ rank cmpEavt d (datomsOf k (now (s .entry))) ⌝ }
 {

@@ -11,7 +11,7 @@ shown=0 missed=0
 while IFS='|' read -r name fault; do
     sed "s@^        MEDDLE;@        $fault;@" tests/fuzz/calls.h > "$out/calls.h"
     cp tests/fuzz/{entries,lent,page}.h tests/fuzz/fuzz.cpp "$out/"
-    clang++ -std=c++17 -O1 -DMEDDLE -fsanitize=fuzzer -fno-sanitize-coverage=trace-cmp,indirect-calls -o "$out/fuzz" "$out/fuzz.cpp" target/staticlib/libflorinwick.a
+    clang++ -std=c++17 -Iinclude -O1 -DMEDDLE -fsanitize=fuzzer -fno-sanitize-coverage=trace-cmp,indirect-calls -o "$out/fuzz" "$out/fuzz.cpp" target/staticlib/libflorinwick.a
     rm -rf "$out/corpus"
     cp -r tests/fuzz/corpus "$out/corpus"
     if "$out/fuzz" -runs=100000 -seed=1 -max_len=400 -entropic=0 -artifact_prefix="$out/" "$out/corpus" > "$out/log" 2>&1; then

@@ -7,7 +7,7 @@ set -euo pipefail
 cd "$(dirname "${BASH_SOURCE[0]}")/../.."
 rt staticlib florinwick > /dev/null
 mkdir -p build/fuzz
-clang++ -std=c++17 -O2 -g -Wall -Wextra -Werror -fsanitize=fuzzer -fno-sanitize-coverage=trace-cmp,indirect-calls -o build/fuzz/fuzz tests/fuzz/fuzz.cpp target/staticlib/libflorinwick.a
+clang++ -std=c++17 -Iinclude -O2 -g -Wall -Wextra -Werror -fsanitize=fuzzer -fno-sanitize-coverage=trace-cmp,indirect-calls -o build/fuzz/fuzz tests/fuzz/fuzz.cpp target/staticlib/libflorinwick.a
 rm -rf build/fuzz/corpus
 cp -r tests/fuzz/corpus build/fuzz/corpus
 build/fuzz/fuzz -runs="${1:-10000000}" -seed="${2:-1}" -max_len=400 -entropic=0 -print_final_stats=1 -verbosity=1 \

@@ -27,6 +27,8 @@ use Rattle.lookup.specs.declared.Path.{Path}
 use Rattle.lookup.specs.declared.Look.the-variants.{Met, Absent, Lost}
 use Rattle.lookup.specs.declared.Opened.the-variants as opened
 use Rattle.lookup.specs.Look.{lookOf, openedOf, pathOf}
+use Rattle.lookup.specs.declared.Gap.{Gap}
+use Rattle.lookup.specs.Gap.{narrowed, Alike, Free, gapIn, free-at, alike-down}
 use Rattle.lookup.specs.Steps.{node-opened, opened-node, metIn, nextIn, way-met, way-absent, way-stuck, way-lost, way-down}
 
 -- nothing was read
@@ -88,46 +90,56 @@ module _ {x : Extent} {s : List ℕ} {path : Path} (K : Kept x s path) (l : ℕ)
           let other = getD-set-other (path .pages) l j p (page 0) (eqb-false j l u) in
           rw (other, getD-set-other (path .counts) l j n 0 (eqb-false j l u)) (K .read j k (rw other at r))
 
--- the path of d from page `top` of level h has come to page p, of level l and k datoms
-pub record Going (x : Extent) (s : List ℕ) (d : Datom) (h : ℕ) (top : PageId) (path : Path) (p : PageId) (l k : ℕ) : Type 0 where
+-- the path of d from page `top` of level h has come to page p, of level l and k datoms, and so have those of the gap above d
+pub record Going (x : Extent) (s : List ℕ) (d : Datom) (h : ℕ) (top : PageId) (path : Path) (g : Gap) (p : PageId) (l k : ℕ) : Type 0 where
   pub kept : Kept x s path
   pub read : fetchPage eavt x s p ≡ fine (nodeAt x s p l k)
   pub rest : pathOf x s d l p ≡ pathOf x s d h top
+  pub alike : Alike x s d h top g l p
 
-module _ {x : Extent} {s : List ℕ} {d : Datom} {h : ℕ} {top : PageId} {path : Path} {p : PageId} {l k : ℕ} (g : Going x s d h top path p l k) where
-  -- what the calls on the page's part of the store say
-  pub met-is :
-      {part : List ℕ} {i : ℕ} {r b : Bool} → part ≡ pageAt x s p → i ≡ rank cmpEavt d (datomsOf k part) →
-      r ≡ headSame cmpEavt d (drop i (datomsOf k part)) → r ≡ b → metIn x s d p k ≡ b
-  met-is e f u v = rw (← e, ← f) (sym u ∙ v)
+module _ {x : Extent} {s : List ℕ} {d : Datom} {h : ℕ} {top : PageId} {path : Path} {gap : Gap} {p : PageId} {l k : ℕ}
+    (g : Going x s d h top path gap p l k)
+  where
+    -- what the calls on the page's part of the store say
+    pub gap-is : {part : List ℕ} {i : ℕ} {r : Gap} → part ≡ pageAt x s p → i ≡ rank cmpEavt d (datomsOf k part) → r ≡ narrowed gap (drop i (datomsOf k part)) → r ≡ gapIn x s d gap p k
+    gap-is e f u = u ∙ rw (← e, ← f)
 
-  pub next-is :
-      {part : List ℕ} {i c : ℕ} {r b : NextMidpoint} → part ≡ pageAt x s p → i ≡ rank cmpEavt d (datomsOf k part) → c ≡ capacity (x .size) →
-      r ≡ nextMidpoint (drop i (childrenOf c (suc k) part)) → r ≡ b → nextIn x s d p k ≡ b
-  next-is e f cap u v = rw (← e, ← f, ← cap) (sym u ∙ v)
+    pub met-is :
+        {part : List ℕ} {i : ℕ} {r b : Bool} → part ≡ pageAt x s p → i ≡ rank cmpEavt d (datomsOf k part) →
+        r ≡ headSame cmpEavt d (drop i (datomsOf k part)) → r ≡ b → metIn x s d p k ≡ b
+    met-is e f u v = rw (← e, ← f) (sym u ∙ v)
 
-  pub going-met : metIn x s d p k ≡ true → Met ≡ lookOf (pathOf x s d h top)
-  going-met m = way-met x s d p l k (g .read) m ∙ ap lookOf (g .rest)
+    pub next-is :
+        {part : List ℕ} {i c : ℕ} {r b : NextMidpoint} → part ≡ pageAt x s p → i ≡ rank cmpEavt d (datomsOf k part) → c ≡ capacity (x .size) →
+        r ≡ nextMidpoint (drop i (childrenOf c (suc k) part)) → r ≡ b → nextIn x s d p k ≡ b
+    next-is e f cap u v = rw (← e, ← f, ← cap) (sym u ∙ v)
 
-  module _ (other : metIn x s d p k ≡ false) where
-    pub going-absent : l ≡ 0 → Absent ≡ lookOf (pathOf x s d h top)
-    going-absent z = way-absent x s d p l k (g .read) other z ∙ ap lookOf (g .rest)
+    pub going-met : metIn x s d p k ≡ true → Met ≡ lookOf (pathOf x s d h top)
+    going-met m = way-met x s d p l k (g .read) m ∙ ap lookOf (g .rest)
 
-    module _ (up : l ≡ 0 → ⊥) where
-      pub going-stuck : x .count ≤ none .0 → nextIn x s d p k ≡ Nothing → Lost none ≡ lookOf (pathOf x s d h top)
-      going-stuck few next = way-stuck x s d p l k (g .read) other up few next ∙ ap lookOf (g .rest)
+    module _ (other : metIn x s d p k ≡ false) where
+      pub going-absent : l ≡ 0 → Absent ≡ lookOf (pathOf x s d h top)
+      going-absent z = way-absent x s d p l k (g .read) other z ∙ ap lookOf (g .rest)
 
-      module _ {c : PageId} (next : nextIn x s d p k ≡ Child c) where
-        pub going-lost : opened.Damaged ≡ openedOf (fetchAt (envOf eavt x s) (l - 1) c) → Lost c ≡ lookOf (pathOf x s d h top)
-        going-lost e = way-lost x s d p l k (g .read) other up c next e ∙ ap lookOf (g .rest)
+      pub going-free : l ≡ 0 → Free x s d h top (gapIn x s d gap p k)
+      going-free z = free-at (g .alike) k (g .read) z
 
-        pub going-down :
-            {n : ℕ} → opened.Node n ≡ openedOf (fetchAt (envOf eavt x s) (l - 1) c) → l - 1 < 8 →
-            Going x s d h top (withPage path (l - 1) c n) c (l - 1) n
-        going-down {n} e low =
-            let read = opened-node x s c (l - 1) n e in
-            record {
-              kept = kept-set (g .kept) (l - 1) low c n read;
-              read = read;
-              rest = way-down x s d p l k (g .read) other up c next n read ∙ g .rest;
-            }
+      module _ (up : l ≡ 0 → ⊥) where
+        pub going-stuck : x .count ≤ none .0 → nextIn x s d p k ≡ Nothing → Lost none ≡ lookOf (pathOf x s d h top)
+        going-stuck few next = way-stuck x s d p l k (g .read) other up few next ∙ ap lookOf (g .rest)
+
+        module _ {c : PageId} (next : nextIn x s d p k ≡ Child c) where
+          pub going-lost : opened.Damaged ≡ openedOf (fetchAt (envOf eavt x s) (l - 1) c) → Lost c ≡ lookOf (pathOf x s d h top)
+          going-lost e = way-lost x s d p l k (g .read) other up c next e ∙ ap lookOf (g .rest)
+
+          pub going-down :
+              {n : ℕ} → opened.Node n ≡ openedOf (fetchAt (envOf eavt x s) (l - 1) c) → l - 1 < 8 →
+              Going x s d h top (withPage path (l - 1) c n) (gapIn x s d gap p k) c (l - 1) n
+          going-down {n} e low =
+              let read = opened-node x s c (l - 1) n e in
+              record {
+                kept = kept-set (g .kept) (l - 1) low c n read;
+                read = read;
+                rest = way-down x s d p l k (g .read) other up c next n read ∙ g .rest;
+                alike = alike-down (g .alike) k (g .read) up c next n read;
+              }

@@ -9,21 +9,24 @@ use memory_store::access;
 use memory_store::found::Found;
 use store::Extent;
 use store::PageId;
-ghost use mathlib.Core.Bool.{false};
+ghost use mathlib.Core.Bool.{true, false};
 ghost use mathlib.Core.Path.{_≡_};
-ghost use Prim.Native.Nat.{_*_, _≤_, _<_};
+ghost use Prim.Native.Nat.{_+_, _*_, _≤_, _<_};
 ghost use lib.ListN.{length, drop};
 ghost use Rattle.store.specs.Page.{isNone};
 ghost use Rattle.store.specs.Size.{capacity};
 ghost use Rattle.datom.specs.Datom.{datomsOf};
 ghost use Rattle.index.specs.Order.{cmpEavt, eavt};
-ghost use Rattle.rules.specs.Node.{headSame};
+ghost use Rattle.rules.specs.Page.{rising};
+ghost use Rattle.rules.specs.Node.{headSame, rankBy};
 ghost use Rattle.rules.specs.Tree.{fine, fetchAt};
+ghost use Rattle.rules.specs.Lookup.{lookupAll};
 ghost use Rattle.rules.specs.Store.{badStore, pageAt, fetchPage, envOf};
 ghost use Rattle.batch.specs.Finding.{findingOf};
 ghost use Rattle.memory_store.specs.Readable.{nodeAt};
-ghost use Rattle.lookup.specs.Look.{lookOf, openedOf, pathOf, searchAll};
+ghost use Rattle.lookup.specs.Look.{lookOf, openedOf, pathOf};
 ghost use Rattle.lookup.specs.Path.{unread, Kept};
+ghost use Rattle.lookup.specs.Gap.{inside, narrowed, Leaves};
 
 // Where a datom's path ends: at an equal datom, at level 0 without one, or at a page that cannot be read.
 enum Look {
@@ -51,8 +54,19 @@ impl Path {
     }
 }
 
-// Where a path ends, and what was read on it.
-struct Looked(Look, Path);
+// The datoms above the one sought whose paths run through the same pages and meet an equal datom in none of them: those below the
+// least datom that stands next to it in these pages, or all of them where it is above every page.
+enum Gap {
+    Open,
+    Below(Datom),
+}
+
+// Where a path ends, what was read on it, and the gap that it leaves.
+struct Looked {
+    look: Look,
+    path: Path,
+    gap: Gap,
+}
 
 // How many datoms a page of the level that was asked for has.
 enum Opened {
@@ -83,6 +97,54 @@ fn is_met(page: &[u8], k: usize, i: usize, d: Datom) -> bool
         Order::Equal => true,
         Order::Greater => false,
     }
+}
+
+// The gap as far as the datom at index i, of k, of one more page.
+fn narrow(gap: Gap, page: &[u8], k: usize, i: usize) -> Gap
+    requires { ⌜ 32 * k ≤ length (now page) ⌝ }
+    ensures { λ r. ⌜ r ≡ narrowed gap (drop i (datomsOf k (now (page .entry)))) ⌝ }
+{
+    if k <= i {
+        return gap;
+    }
+    let next = datom::datom_at(page, 32 * i);
+    let Gap::Below(high) = gap else {
+        return Gap::Below(next);
+    };
+    match index::order_of(next, high) {
+        Order::Less => Gap::Below(next),
+        Order::Equal => Gap::Below(high),
+        Order::Greater => Gap::Below(high),
+    }
+}
+
+// Whether d lies below the end of the gap.
+fn is_inside(gap: Gap, d: Datom) -> bool
+    ensures { λ r. ⌜ r ≡ inside gap d ⌝ }
+{
+    let Gap::Below(high) = gap else {
+        return true;
+    };
+    match index::order_of(d, high) {
+        Order::Less => true,
+        Order::Equal => false,
+        Order::Greater => false,
+    }
+}
+
+// The index of the first datom of the batch of n, from an index on, that is past the end of the gap.
+fn skip(gap: Gap, b: &[u8], n: usize, from: usize) -> usize
+    requires { ⌜ (32 * n ≤ length (now b)) × (from ≤ n) ⌝ }
+    ensures { λ r. ⌜ r ≡ from + rankBy (inside gap) (drop from (datomsOf n (now (b .entry)))) ⌝ }
+{
+    let mut i = from;
+    while i < n {
+        if !is_inside(gap, datom::datom_at(b, 32 * i)) {
+            return i;
+        }
+        i += 1;
+    }
+    i
 }
 
 // Page `page`, which is to be of this level.
@@ -124,9 +186,10 @@ fn lookup_one(
     d: Datom,
 ) -> Looked
     requires { ⌜ (badStore extent (now store) ≡ false) × (c ≡ capacity (extent .size)) × Kept extent (now store) path × (fetchPage eavt extent (now store) root ≡ fine (nodeAt extent (now store) root level count)) ⌝ }
-    ensures { λ r. ⌜ (r .0 ≡ lookOf (pathOf extent (now (store .entry)) d level root)) × Kept extent (now (store .entry)) (r .1) ⌝ }
+    ensures { λ r. ⌜ (r .look ≡ lookOf (pathOf extent (now (store .entry)) d level root)) × Kept extent (now (store .entry)) (r .path) × Leaves extent (now (store .entry)) d level root (r .look) (r .gap) ⌝ }
 {
     let mut path = path;
+    let mut gap = Gap::Open;
     let mut page = root;
     let mut l = level;
     let mut k = count;
@@ -134,17 +197,34 @@ fn lookup_one(
         let part = part_of(store, extent, page);
         let i = access::first_not_below(part, k, d);
         if is_met(part, k, i, d) {
-            return Looked(Look::Met, path);
+            return Looked {
+                look: Look::Met,
+                path,
+                gap,
+            };
         }
+        gap = narrow(gap, part, k, i);
         if l == 0 {
-            return Looked(Look::Absent, path);
+            return Looked {
+                look: Look::Absent,
+                path,
+                gap,
+            };
         }
         let NextMidpoint::Child(child) = access::next_midpoint(part, c, k, i) else {
-            return Looked(Look::Lost(PageId::max()), path);
+            return Looked {
+                look: Look::Lost(PageId::max()),
+                path,
+                gap,
+            };
         };
         l -= 1;
         let Opened::Node(n) = open_at(store, extent, c, path, l, child) else {
-            return Looked(Look::Lost(child), path);
+            return Looked {
+                look: Look::Lost(child),
+                path,
+                gap,
+            };
         };
         path.pages[l] = child;
         path.counts[l] = n;
@@ -153,35 +233,35 @@ fn lookup_one(
     }
 }
 
-// Whether a datom of the batch of n is met on its path from the root, or a page there cannot be read: the first such finding. A root
-// that cannot be read is one for an empty batch too.
+// Whether a datom of the batch of n is met on its path from the root, or a page there cannot be read: the first such finding. The root
+// is of this level and count. The batch rises, so the datoms that follow one in its gap need no search of their own.
 pub fn lookup_all(
     store: &[u8],
     extent: Extent,
     c: usize,
     root: PageId,
+    level: usize,
+    count: usize,
     b: &[u8],
     n: usize,
 ) -> Finding
-    requires { ⌜ (badStore extent (now store) ≡ false) × (c ≡ capacity (extent .size)) × (32 * n ≤ length (now b)) ⌝ }
-    ensures { λ r. ⌜ findingOf r ≡ searchAll (envOf eavt extent (now (store .entry))) root (datomsOf n (now (b .entry))) (fetchPage eavt extent (now (store .entry)) root) ⌝ }
+    requires { ⌜ (badStore extent (now store) ≡ false) × (c ≡ capacity (extent .size)) × (fetchPage eavt extent (now store) root ≡ fine (nodeAt extent (now store) root level count)) × (32 * n ≤ length (now b)) × (rising cmpEavt (datomsOf n (now b)) ≡ true) ⌝ }
+    ensures { λ r. ⌜ findingOf r ≡ lookupAll (envOf eavt extent (now (store .entry))) level root (fetchPage eavt extent (now (store .entry)) root) 0 (datomsOf n (now (b .entry))) ⌝ }
 {
-    let Found::Fine { level, count } = memory_store::found::node_at(store, extent, c, root) else {
-        return Finding::Found(Refusal::Damaged(root));
-    };
     let mut path = Path::new();
     let mut i = 0;
     while i < n {
         let d = datom::datom_at(b, 32 * i);
         let looked = lookup_one(store, extent, c, root, level, count, path, d);
-        let look = looked.0;
+        let look = looked.look;
         match look {
             Look::Met => {
                 return Finding::Found(Refusal::Repeated(i));
             }
             Look::Absent => {
-                path = looked.1;
-                i += 1;
+                let gap = looked.gap;
+                path = looked.path;
+                i = skip(gap, b, n, i + 1);
             }
             Look::Lost(page) => {
                 return Finding::Found(Refusal::Damaged(page));

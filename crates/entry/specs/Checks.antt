@@ -1,7 +1,7 @@
 -- The refusals before anything is written, one after another, as the entries find them.
-use Prim.Native.Nat.{ℕ, _*_, _≤_, _<_}
+use Prim.Native.Nat.{ℕ, suc, _*_, _≤_, _<_}
 use mathlib.Core.Bool.{Bool, true, false, cond}
-use mathlib.Core.List.{List, []}
+use mathlib.Core.List.{List, [], _∷_}
 use mathlib.Core.Logic.{inl, inr}
 use mathlib.Core.Path.{_≡_, refl, sym, _∙_, ap}
 use borrow.Author.Tests.{ltb-false, lt-ltb, le-ltb}
@@ -14,34 +14,24 @@ use Rattle.store.specs.Size.{capacity, scratchNeed}
 use Rattle.store.specs.Laws.{apart}
 use Rattle.datom.specs.declared.Datom.{Datom}
 use Rattle.datom.specs.Datom.{datomsOf, storedDatom}
-use Rattle.index.specs.Order.{cmpEavt, eavt}
+use Rattle.index.specs.Order.{isLess, cmpEavt, eavt}
 use Rattle.answer.specs.declared.Refusal.{Refusal}
-use Rattle.answer.specs.declared.Refusal.the-variants.{BadStore, NoPage}
-use Rattle.rules.specs.Tree.{Env}
+use Rattle.answer.specs.declared.Refusal.the-variants.{BadStore, OutOfOrder, NoPage}
+use Rattle.rules.specs.Page.{above, rising}
 use Rattle.rules.specs.Lookup.{Finding, clear, found}
 use Rattle.rules.specs.Store.{orElse, badStore, badScratch, badRoot, fetchPage, envOf}
-use Rattle.rules.specs.Insert.{Outcome, refuse, outcome, storeFault, countFault, formFault, orderFault, twinFault, rootFault, sort, writeFresh, insertUnder, insert, initialise, bytesFault, batchOf, insertBytes, initialiseBytes}
+use Rattle.rules.specs.Insert.{Outcome, refuse, storeFault, countFault, formFault, lowFault, orderFault, twinFault, rootFault, sort, writeFresh, insertAt, insertUnder, insert, initialise, bytesFault, batchOf, insertBytes, initialiseBytes}
 use Rattle.batch.specs.declared.Count.{Count}
 use Rattle.batch.specs.declared.Count.the-variants.{Datoms, Refused}
 use Rattle.batch.specs.Finding.{counted, Given, given-count, refused-count}
-use Rattle.lookup.specs.Look.{searchAll}
-use Rattle.entry.specs.Under.{writeUnder, under-is}
 
 -- 1 and 2, or how many datoms
 unfoldable pub countFor : Extent → List ℕ → ℕ → List ℕ → Count
 countFor x s scratch b = orElse Refused (storeFault x s scratch) (counted b)
 
--- 6 and 7 before writing: under no root there is nothing to look up
-unfoldable pub lookFault : Extent → List ℕ → PageId → List Datom → Finding
-lookFault x s root ds = cond (isNone root) clear (searchAll (envOf eavt x s) root ds (fetchPage eavt x s root))
-
--- 5 to 7
-unfoldable pub repeatFault : Extent → List ℕ → PageId → List Datom → Finding
-repeatFault x s root ds = orElse found (rootFault x root) (lookFault x s root ds)
-
--- 3 to 7
-unfoldable pub insertFault : Extent → List ℕ → PageId → List Datom → Finding
-insertFault x s root ds = orElse found (formFault storedDatom 0 ds) (orElse found (orderFault cmpEavt ds) (repeatFault x s root ds))
+-- 3 and 4 of an insert
+unfoldable pub insertFault : List Datom → Finding
+insertFault ds = orElse found (formFault storedDatom 0 ds) (orderFault cmpEavt ds)
 
 -- 3 and 4 of an initialise
 unfoldable pub initialiseFault : List Datom → Finding
@@ -152,34 +142,15 @@ module _ (x : Extent) (s : List ℕ) (L : ℕ) (b : List ℕ) where
     unfolding initialiseBytes initialise initialiseRest eavt
     initialise-counted = rw (← datoms-given n e) (given-begun n e _ .0)
 
--- the ways through 5 to 7
-module _ (x : Extent) (s : List ℕ) (root : PageId) (ds : List Datom) where
-  pub repeat-none : isNone root ≡ true → clear ≡ repeatFault x s root ds
-  unfolding repeatFault rootFault badRoot lookFault
-  repeat-none h = rw h
-
-  module _ (some : isNone root ≡ false) where
-    pub repeat-missing : x .count ≤ root .0 → found NoPage ≡ repeatFault x s root ds
-    unfolding repeatFault rootFault badRoot
-    repeat-missing h = rw (some, le-ltb (root .0) (x .count) h)
-
-    pub repeat-looks : root .0 < x .count → searchAll (envOf eavt x s) root ds (fetchPage eavt x s root) ≡ repeatFault x s root ds
-    unfolding repeatFault rootFault badRoot lookFault
-    repeat-looks h = rw (some, lt-ltb (root .0) (x .count) h)
-
-  -- and from 3 on
-  pub fault-form : (r : Refusal) → found r ≡ formFault storedDatom 0 ds → found r ≡ insertFault x s root ds
+-- the ways through 3 and 4
+module _ (ds : List Datom) where
+  pub fault-form : (r : Refusal) → found r ≡ formFault storedDatom 0 ds → found r ≡ insertFault ds
   unfolding insertFault
   fault-form r h = rw (← h)
 
-  module _ (form : clear ≡ formFault storedDatom 0 ds) where
-    pub fault-order : (r : Refusal) → found r ≡ orderFault cmpEavt ds → found r ≡ insertFault x s root ds
-    unfolding insertFault
-    fault-order r h = rw (← form, ← h)
-
-    pub fault-rest : clear ≡ orderFault cmpEavt ds → (f : Finding) → f ≡ repeatFault x s root ds → f ≡ insertFault x s root ds
-    unfolding insertFault
-    fault-rest h f e = rw (← form, ← h) e
+  pub fault-order : clear ≡ formFault storedDatom 0 ds → (f : Finding) → f ≡ orderFault cmpEavt ds → f ≡ insertFault ds
+  unfolding insertFault
+  fault-order h f e = rw (← h) e
 
 -- of an initialise
 module _ (ds : List Datom) where
@@ -196,37 +167,52 @@ both : (a b : Finding) (k : Outcome) → orElse refuse (orElse found a b) k ≡ 
 both (found r) b k = refl
 both clear b k = refl
 
--- what an insert writes when nothing is found
-unfoldable pub written : Extent → List ℕ → PageId → List Datom → Outcome
-written x s root ds =
-    cond (isNone root) (writeFresh (envOf eavt x s) ds) (outcome (writeUnder (envOf eavt x s) root ds (fetchPage eavt x s root) []))
+-- a batch in which 4 finds nothing rises
+low-rises : (i : ℕ) (p : Datom) (ds : List Datom) → clear ≡ lowFault cmpEavt i p ds → above cmpEavt p ds ≡ true
+unfolding lowFault above
+low-rises i p [] e = refl
+low-rises i p (d ∷ ds) e = side (isLess (cmpEavt p d)) refl (low-rises (suc i) d ds)
+  where
+    side : (b : Bool) → isLess (cmpEavt p d) ≡ b → (clear ≡ lowFault cmpEavt (suc i) d ds → above cmpEavt d ds ≡ true) → above cmpEavt p (d ∷ ds) ≡ true
+    side true u ih = rw u (ih (rw u at e))
+    side false u ih = let k : clear ≡ found (OutOfOrder i) = rw u at e in absurd (apart (cc))
+
+order-rises : (ds : List Datom) → clear ≡ orderFault cmpEavt ds → rising cmpEavt ds ≡ true
+unfolding orderFault rising
+order-rises [] e = refl
+order-rises (d ∷ ds) e = low-rises 1 d ds e
+
+pub fault-rises : (ds : List Datom) → clear ≡ insertFault ds → rising cmpEavt ds ≡ true
+unfolding insertFault
+fault-rises ds e = side (formFault storedDatom 0 ds) refl
+  where
+    side : (f : Finding) → formFault storedDatom 0 ds ≡ f → rising cmpEavt ds ≡ true
+    side (found r) u = let k : clear ≡ found r = rw u at e in absurd (apart (cc))
+    side clear u = order-rises ds (rw u at e)
 
 module _ (x : Extent) (s : List ℕ) (root : PageId) (n : ℕ) (b : List ℕ) where
-  looked : insertUnder eavt x s root (datomsOf n b) ≡ orElse refuse (lookFault x s root (datomsOf n b)) (written x s root (datomsOf n b))
-  unfolding insertUnder lookFault written
-  looked = side (isNone root) refl
-    where
-      side : (p : Bool) → isNone root ≡ p → insertUnder eavt x s root (datomsOf n b) ≡ orElse refuse (lookFault x s root (datomsOf n b)) (written x s root (datomsOf n b))
-      side true q = rw q
-      side false q = rw q (under-is (envOf eavt x s) root (datomsOf n b) (fetchPage eavt x s root))
+  rest-is :
+      insertRest x s root n b
+      ≡ orElse refuse (insertFault (datomsOf n b)) (orElse refuse (rootFault x root) (insertUnder eavt x s root (datomsOf n b)))
+  unfolding insertRest insertFault
+  rest-is = sym (both (formFault storedDatom 0 (datomsOf n b)) _ _)
 
-  rest-is : insertRest x s root n b ≡ orElse refuse (insertFault x s root (datomsOf n b)) (written x s root (datomsOf n b))
-  unfolding insertRest insertFault repeatFault
-  rest-is =
-      let ds = datomsOf n b in
-      rw (looked, both (formFault storedDatom 0 ds) _ (written x s root ds), both (orderFault cmpEavt ds) _ (written x s root ds), both (rootFault x root) _ (written x s root ds))
-
-  pub rest-found : (r : Refusal) → found r ≡ insertFault x s root (datomsOf n b) → insertRest x s root n b ≡ refuse r
+  pub rest-found : (r : Refusal) → found r ≡ insertFault (datomsOf n b) → insertRest x s root n b ≡ refuse r
   rest-found r h = rest-is ∙ rw (← h)
 
-  module _ (free : clear ≡ insertFault x s root (datomsOf n b)) where
+  module _ (free : clear ≡ insertFault (datomsOf n b)) where
     pub rest-fresh : isNone root ≡ true → insertRest x s root n b ≡ writeFresh (envOf eavt x s) (datomsOf n b)
-    unfolding written
+    unfolding rootFault badRoot insertUnder
     rest-fresh h = rest-is ∙ rw (← free, h)
 
-    pub rest-under : isNone root ≡ false → insertRest x s root n b ≡ outcome (writeUnder (envOf eavt x s) root (datomsOf n b) (fetchPage eavt x s root) [])
-    unfolding written
-    rest-under h = rest-is ∙ rw (← free, h)
+    module _ (some : isNone root ≡ false) where
+      pub rest-missing : x .count ≤ root .0 → insertRest x s root n b ≡ refuse NoPage
+      unfolding rootFault badRoot
+      rest-missing h = rest-is ∙ rw (← free, some, le-ltb (root .0) (x .count) h)
+
+      pub rest-at : root .0 < x .count → insertRest x s root n b ≡ insertAt (envOf eavt x s) root (datomsOf n b) (fetchPage eavt x s root)
+      unfolding rootFault badRoot insertUnder
+      rest-at h = rest-is ∙ rw (← free, some, lt-ltb (root .0) (x .count) h)
 
 module _ (x : Extent) (s : List ℕ) (n : ℕ) (b : List ℕ) where
   sorted-is : initialiseRest x s n b ≡ orElse refuse (initialiseFault (datomsOf n b)) (writeFresh (envOf eavt x s) (sort cmpEavt (datomsOf n b)))

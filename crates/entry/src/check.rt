@@ -3,16 +3,13 @@ use answer::Refusal;
 use batch::Count;
 use batch::Finding;
 use store::Extent;
-use store::PageId;
-ghost use mathlib.Core.Bool.{false};
 ghost use mathlib.Core.Path.{_≡_};
 ghost use Prim.Native.Nat.{_*_, _≤_};
 ghost use lib.ListN.{length};
-ghost use Rattle.store.specs.Size.{capacity, roomFor, scratchNeed};
+ghost use Rattle.store.specs.Size.{roomFor, scratchNeed};
 ghost use Rattle.datom.specs.Datom.{datomsOf};
-ghost use Rattle.rules.specs.Store.{badStore};
 ghost use Rattle.batch.specs.Finding.{findingOf};
-ghost use Rattle.entry.specs.Checks.{countFor, repeatFault, insertFault, initialiseFault};
+ghost use Rattle.entry.specs.Checks.{countFor, insertFault, initialiseFault};
 
 // How many datoms a node in the scratch has room for.
 pub fn room_for(c: usize) -> usize
@@ -44,38 +41,14 @@ pub fn count_of(store: &[u8], extent: Extent, b: &[u8], scratch: usize) -> Count
     batch::count_of(b)
 }
 
-// Refusals 6 and 7 of an insert, before it writes. There is nothing to look up under no root.
-fn repeat_fault(store: &[u8], extent: Extent, c: usize, root: PageId, b: &[u8], n: usize) -> Finding
-    requires { ⌜ (badStore extent (now store) ≡ false) × (c ≡ capacity (extent .size)) × (32 * n ≤ length (now b)) ⌝ }
-    ensures { λ r. ⌜ findingOf r ≡ repeatFault extent (now (store .entry)) root (datomsOf n (now (b .entry))) ⌝ }
-{
-    if root.is_none() {
-        return Finding::Clear;
-    }
-    if extent.count <= root.0 {
-        return Finding::Found(Refusal::NoPage);
-    }
-    lookup::lookup_all(store, extent, c, root, b, n)
-}
-
-// Refusals 3 to 7 of an insert.
-pub fn insert_fault(
-    store: &[u8],
-    extent: Extent,
-    c: usize,
-    root: PageId,
-    b: &[u8],
-    n: usize,
-) -> Finding
-    requires { ⌜ (badStore extent (now store) ≡ false) × (c ≡ capacity (extent .size)) × (32 * n ≤ length (now b)) ⌝ }
-    ensures { λ r. ⌜ findingOf r ≡ insertFault extent (now (store .entry)) root (datomsOf n (now (b .entry))) ⌝ }
+// Refusals 3 and 4 of an insert.
+pub fn insert_fault(b: &[u8], n: usize) -> Finding
+    requires { ⌜ 32 * n ≤ length (now b) ⌝ }
+    ensures { λ r. ⌜ findingOf r ≡ insertFault (datomsOf n (now (b .entry))) ⌝ }
 {
     match batch::form_fault(b, n) {
         Finding::Found(refusal) => Finding::Found(refusal),
-        Finding::Clear => match batch::order_fault(b, n) {
-            Finding::Found(refusal) => Finding::Found(refusal),
-            Finding::Clear => repeat_fault(store, extent, c, root, b, n),
-        },
+        Finding::Clear => batch::order_fault(b, n),
     }
 }
 

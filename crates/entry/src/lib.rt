@@ -3,15 +3,21 @@ pub mod check;
 pub mod write;
 
 use answer::Answer;
+use answer::Refusal;
 use batch::Count;
 use batch::Finding;
 use htree::root::Rooted;
+use memory_store::found::Found;
 use store::Extent;
 use store::PageId;
+ghost use mathlib.Core.Bool.{true};
 ghost use mathlib.Core.Path.{_≡_};
 ghost use lib.ListN.{length};
-ghost use Rattle.index.specs.Order.{eavt};
-ghost use Rattle.rules.specs.Insert.{insertBytes, initialiseBytes};
+ghost use Rattle.datom.specs.Datom.{datomsOf};
+ghost use Rattle.index.specs.Order.{cmpEavt, eavt};
+ghost use Rattle.rules.specs.Page.{rising};
+ghost use Rattle.rules.specs.Store.{fetchPage, envOf};
+ghost use Rattle.rules.specs.Insert.{insertAt, insertBytes, initialiseBytes};
 ghost use Rattle.entry.specs.Reply.{Replies, answerOf};
 ghost use Rattle.entry.specs.Checks.{Passed, insertRest, initialiseRest};
 
@@ -31,6 +37,29 @@ fn answer_of(r: Rooted) -> Answer
     }
 }
 
+// Refusals 6 to 9, of a batch that ascends, at a root that is a page. The root's page is read once: the lookup and the insert are handed
+// what was found.
+fn insert_at(
+    store: &mut [u8],
+    extent: Extent,
+    c: usize,
+    root: PageId,
+    b: &[u8],
+    n: usize,
+    s: &mut [u8],
+) -> Answer
+    requires { ⌜ Passed extent (now store) c (now b) n (length (now s)) × (rising cmpEavt (datomsOf n (now b)) ≡ true) ⌝ }
+    ensures { λ r. ⌜ Replies extent (now (store .entry)) (now (store .exit)) r (insertAt (envOf eavt extent (now (store .entry))) root (datomsOf n (now (b .entry))) (fetchPage eavt extent (now (store .entry)) root)) ⌝ }
+{
+    let Found::Fine { level, count } = memory_store::found::node_at(store, extent, c, root) else {
+        return Answer::Refused(Refusal::Damaged(root));
+    };
+    match lookup::lookup_all(store, extent, c, root, level, count, b, n) {
+        Finding::Found(refusal) => Answer::Refused(refusal),
+        Finding::Clear => answer_of(write::under(store, extent, c, root, level, count, b, n, s)),
+    }
+}
+
 // Refusals 3 to 9, of a batch of n datoms.
 fn insert_counted(
     store: &mut [u8],
@@ -44,13 +73,16 @@ fn insert_counted(
     requires { ⌜ Passed extent (now store) c (now b) n (length (now s)) ⌝ }
     ensures { λ r. ⌜ Replies extent (now (store .entry)) (now (store .exit)) r (insertRest extent (now (store .entry)) root n (now (b .entry))) ⌝ }
 {
-    match check::insert_fault(store, extent, c, root, b, n) {
+    match check::insert_fault(b, n) {
         Finding::Found(refusal) => Answer::Refused(refusal),
         Finding::Clear => {
             if root.is_none() {
                 return answer_of(write::fresh(store, extent, c, b, n, s));
             }
-            answer_of(write::under(store, extent, c, root, b, n, s))
+            if extent.count <= root.0 {
+                return Answer::Refused(Refusal::NoPage);
+            }
+            insert_at(store, extent, c, root, b, n, s)
         }
     }
 }

@@ -1,9 +1,7 @@
 // What is written of a batch that passed the checks. The batch is laid into the scratch, where the nodes are.
 use crate::check;
-use answer::Refusal;
 use htree::place::Inserted;
 use htree::root::Rooted;
-use memory_store::found::Found;
 use store::Extent;
 use store::PageId;
 ghost use mathlib.Core.Path.{_≡_};
@@ -12,11 +10,13 @@ ghost use lib.ListN.{length};
 ghost use Rattle.datom.specs.Datom.{datomsOf};
 ghost use Rattle.index.specs.Order.{cmpEavt, eavt};
 ghost use Rattle.rules.specs.Insert.{sort};
+ghost use Rattle.rules.specs.Tree.{fine};
 ghost use Rattle.rules.specs.Store.{fetchPage, envOf};
+ghost use Rattle.memory_store.specs.Readable.{nodeAt};
 ghost use Rattle.htree.specs.Root.{Roots};
+ghost use Rattle.htree.specs.Raise.{raised};
 ghost use Rattle.entry.specs.Checks.{Roomy, Passed};
 ghost use Rattle.entry.specs.Leaf.{Cleared, freshTree};
-ghost use Rattle.entry.specs.Under.{writeUnder};
 
 // The n datoms at the front of the area become those of a leaf: no child beside any of them.
 fn clear_children(s: &mut [u8], m: usize, n: usize)
@@ -66,26 +66,21 @@ pub fn sorted(
     leaf(store, extent, c, n, s)
 }
 
-// A batch that ascends goes in under a root.
+// A batch that ascends goes in under a root of this level and count.
 pub fn under(
     store: &mut [u8],
     extent: Extent,
     c: usize,
     root: PageId,
+    level: usize,
+    count: usize,
     b: &[u8],
     n: usize,
     s: &mut [u8],
 ) -> Rooted
-    requires { ⌜ Passed extent (now store) c (now b) n (length (now s)) ⌝ }
-    ensures { λ r. ⌜ Roots extent (now (store .entry)) (now (store .exit)) 0 r (writeUnder (envOf eavt extent (now (store .entry))) root (datomsOf n (now (b .entry))) (fetchPage eavt extent (now (store .entry)) root)) ⌝ }
+    requires { ⌜ Passed extent (now store) c (now b) n (length (now s)) × (fetchPage eavt extent (now store) root ≡ fine (nodeAt extent (now store) root level count)) ⌝ }
+    ensures { λ r. ⌜ Roots extent (now (store .entry)) (now (store .exit)) 0 r (raised (envOf eavt extent (now (store .entry))) level root (datomsOf n (now (b .entry)))) ⌝ }
 {
-    let Found::Fine { level, count: _ } = memory_store::found::node_at(store, extent, c, root)
-    else {
-        return Rooted::Failed {
-            refusal: Refusal::Damaged(root),
-            written: 0,
-        };
-    };
     let m = check::room_for(c);
     store::put(s, 40 * m + 8, b);
     match htree::insert::insert_into(store, extent, c, 0, level, root, s, m, n) {

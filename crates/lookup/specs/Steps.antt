@@ -34,7 +34,7 @@ use Rattle.memory_store.specs.Reading.{told}
 use Rattle.memory_store.specs.Readable.{nodeAt, told-fine}
 use Rattle.lookup.specs.declared.Look.the-variants.{Met, Absent, Lost}
 use Rattle.lookup.specs.declared.Opened.the-variants as opened
-use Rattle.lookup.specs.Look.{lookOf, openedOf, pathOf, searchAll}
+use Rattle.lookup.specs.Look.{lookOf, openedOf, pathOf}
 
 -- the equal datom at an index, and past the end
 module _ (cmp : Datom → Datom → Ordering) (d : Datom) (n i : ℕ) (s : List ℕ) where
@@ -205,16 +205,3 @@ module _ (e : Env) (l : ℕ) (root : PageId) (r : Fetched) (i : ℕ) where
   pub all-end : (n : ℕ) (b : List ℕ) → n ≤ i → lookupAll e l root r i (drop i (datomsOf n b)) ≡ clear
   unfolding lookupAll
   all-end n b h = rw (cells-end datomOf 32 n i b h)
-
--- the start of a search
-module _ (x : Extent) (s : List ℕ) (root : PageId) (ds : List Datom) where
-  pub search-faulty :
-      (f : Fault) → told x s root (Faulty f) ≡ fetchPage eavt x s root → found (Damaged root) ≡ searchAll (envOf eavt x s) root ds (fetchPage eavt x s root)
-  unfolding told searchAll
-  search-faulty f e = rw (← e)
-
-  pub search-fine :
-      (l k : ℕ) → fetchPage eavt x s root ≡ fine (nodeAt x s root l k) →
-      lookupAll (envOf eavt x s) l root (fetchPage eavt x s root) 0 ds ≡ searchAll (envOf eavt x s) root ds (fetchPage eavt x s root)
-  unfolding searchAll nodeOf
-  search-fine l k e = rw e

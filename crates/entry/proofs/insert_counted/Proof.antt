@@ -1,10 +1,11 @@
--- `insert_counted` meets its contract: what the checks find is refused, else the batch is written. Assumes nothing.
+-- `insert_counted` meets its contract: what the checks find is refused, and a root that is no page; else the batch is written. Assumes nothing.
+use native.Mathlib.Omega.{arith}
 use mathlib.Core.Path.{refl, sym, _∙_, ap}
 use mathlib.Core.List.{[]}
 use Rattle.batch.specs.Finding.{findingOf}
 use Rattle.entry.specs.Reply.{Replies, replies-refused, replies}
 use Rattle.entry.specs.Leaf.{fresh-is}
-use Rattle.entry.specs.Checks.{rest-found, rest-fresh, rest-under}
+use Rattle.entry.specs.Checks.{fault-rises, rest-found, rest-fresh, rest-missing, rest-at}
 use borrow.Author.Needs.{needs}
 use Rattle.entry.proofs.insert_counted.Statement.{statement}
 use Rattle.entry.proofs.insert_counted.Tie as tie
@@ -35,37 +36,40 @@ same-length-2 c = search needs
 
 returns : tie.Need-returns
 returns c =
-    let a = c .before .before .before .before .before .before .before .before .before .before .before .before .before .before .before .before .before .args in
+    let a = c .before .before .before .before .before .before .before .before .before .before .before .before .before .before .before .before .args in
     let free = sym (ap findingOf (c .before .before .before .before .before .before .before .before .before .before .enum-told .given .1)) ∙ c .before .before .before .before .before .before .before .before .before .before .before .before .insert-fault .ensures in
     let none = sym (c .before .before .before .before .before .before .before .before .before .is-none .ensures) ∙ c .before .before .before .before .before .before .before .before .if1 .taken in
     rw (c .answer-of .ensures, rest-fresh (a .extent) (a .store .now) (a .root) (a .n) (a .b .now) free none ∙ fresh-is _ _) (replies _ _ _ _ _ (c .before .before .before .before .before .fresh .ensures [] refl))
 
-under-requires : tie.Need-under-requires
-under-requires c κs = search needs
+returns-2 : tie.Need-returns-2
+returns-2 c =
+    let a = c .before .before .before .before .before .before .before .before .before .before .before .args in
+    let free = sym (ap findingOf (c .before .before .before .before .before .enum-told .given .1)) ∙ c .before .before .before .before .before .before .before .insert-fault .ensures in
+    let some = sym (c .before .before .before .before .is-none .ensures) ∙ c .before .before .before .if1 .left in
+    replies-refused _ _ _ _ (rest-missing (a .extent) (a .store .now) (a .root) (a .n) (a .b .now) free some (omega arith))
 
-answer-of-requires-2 : tie.Need-answer-of-requires-2
-answer-of-requires-2 c κs = search needs
+insert-at-requires : tie.Need-insert-at-requires
+insert-at-requires c κs =
+    let free = sym (ap findingOf (c .before .before .before .before .before .before .before .enum-told .given .1)) ∙ c .before .before .before .before .before .before .before .before .before .insert-fault .ensures in
+    (c .before .before .before .before .before .before .before .before .before .before .before .before .before .pre, fault-rises _ free)
+
+returns-3 : tie.Need-returns-3
+returns-3 c =
+    let a = c .before .before .before .before .before .before .before .args in
+    replies-refused _ _ _ _ (rest-found (a .extent) (a .store .now) (a .root) (a .n) (a .b .now) _ (sym (ap findingOf (c .before .refusal .given .1)) ∙ c .before .before .before .insert-fault .ensures))
 
 same-length-3 : tie.Need-same-length-3
 same-length-3 c = search needs
 
-returns-2 : tie.Need-returns-2
-returns-2 c =
-    let a = c .before .before .before .before .before .before .before .before .args in
-    replies-refused _ _ _ _ (rest-found (a .extent) (a .store .now) (a .root) (a .n) (a .b .now) _ (sym (ap findingOf (c .before .refusal .given .1)) ∙ c .before .before .before .insert-fault .ensures))
-
 same-length-4 : tie.Need-same-length-4
 same-length-4 c = search needs
 
-same-length-5 : tie.Need-same-length-5
-same-length-5 c = search needs
-
-returns-3 : tie.Need-returns-3
-returns-3 c =
-    let a = c .before .before .before .before .before .before .before .before .before .before .before .before .before .before .before .before .before .args in
-    let free = sym (ap findingOf (c .before .before .before .before .before .before .before .before .before .before .enum-told .given .1)) ∙ c .before .before .before .before .before .before .before .before .before .before .before .before .insert-fault .ensures in
-    let some = sym (c .before .before .before .before .before .before .before .before .before .is-none .ensures) ∙ c .before .before .before .before .before .before .before .before .if1 .left in
-    rw (c .answer-of2 .ensures, rest-under (a .extent) (a .store .now) (a .root) (a .n) (a .b .now) free some) (replies _ _ _ _ _ (c .before .before .before .before .before .under .ensures [] refl))
+returns-4 : tie.Need-returns-4
+returns-4 c =
+    let a = c .before .before .before .before .before .before .before .before .before .before .before .before .before .before .before .before .before .before .args in
+    let free = sym (ap findingOf (c .before .before .before .before .before .before .before .before .before .before .before .before .enum-told .given .1)) ∙ c .before .before .before .before .before .before .before .before .before .before .before .before .before .before .insert-fault .ensures in
+    let some = sym (c .before .before .before .before .before .before .before .before .before .before .before .is-none .ensures) ∙ c .before .before .before .before .before .before .before .before .before .before .if1 .left in
+    rw (rest-at (a .extent) (a .store .now) (a .root) (a .n) (a .b .now) free some (omega arith)) (c .before .before .before .before .insert-at .ensures)
 
 pub insert-counted-spec : {M : Type 1} → statement M
 insert-counted-spec =
@@ -80,10 +84,9 @@ insert-counted-spec =
     same-length
     same-length-2
     returns
-    under-requires
-    answer-of-requires-2
-    same-length-3
     returns-2
+    insert-at-requires
+    returns-3
+    same-length-3
     same-length-4
-    same-length-5
-    returns-3)
+    returns-4)

@@ -1,7 +1,7 @@
--- `insert_fault` meets its contract: 3, then 4, then 5 to 7. Assumes nothing.
+-- `insert_fault` meets its contract: the form is tested before the order. Assumes nothing.
 use mathlib.Core.Path.{sym, _∙_, ap}
 use Rattle.batch.specs.Finding.{findingOf}
-use Rattle.entry.specs.Checks.{fault-form, fault-order, fault-rest}
+use Rattle.entry.specs.Checks.{fault-form, fault-order}
 use borrow.Author.Needs.{needs}
 use Rattle.entry.proofs.check.insert_fault.Statement.{statement}
 use Rattle.entry.proofs.check.insert_fault.Tie as tie
@@ -18,27 +18,11 @@ enum-told c = search needs
 order-fault-requires : tie.Need-order-fault-requires
 order-fault-requires c κs = search needs
 
-enum-known-refusal-2 : tie.Need-enum-known-refusal-2
-enum-known-refusal-2 c = search needs
-
-enum-told-2 : tie.Need-enum-told-2
-enum-told-2 c = search needs
-
-repeat-fault-requires : tie.Need-repeat-fault-requires
-repeat-fault-requires c κs = search needs
-
 returns : tie.Need-returns
-returns c = fault-form _ _ _ _ _ (sym (ap findingOf (c .before .refusal .given .1)) ∙ c .before .before .before .form-fault .ensures)
+returns c = fault-form _ _ (sym (ap findingOf (c .before .refusal .given .1)) ∙ c .before .before .before .form-fault .ensures)
 
 returns-2 : tie.Need-returns-2
-returns-2 c =
-    fault-order _ _ _ _ (sym (ap findingOf (c .before .before .before .before .enum-told .given .1)) ∙ c .before .before .before .before .before .before .form-fault .ensures) _
-    (sym (ap findingOf (c .before .refusal2 .given .1)) ∙ c .before .before .before .order-fault .ensures)
-
-returns-3 : tie.Need-returns-3
-returns-3 c =
-    fault-rest _ _ _ _ (sym (ap findingOf (c .before .before .before .before .enum-told .given .1)) ∙ c .before .before .before .before .before .before .form-fault .ensures)
-    (sym (ap findingOf (c .before .enum-told2 .given .1)) ∙ c .before .before .before .order-fault .ensures) _ (c .repeat-fault .ensures)
+returns-2 c = fault-order _ (sym (ap findingOf (c .before .enum-told .given .1)) ∙ c .before .before .before .form-fault .ensures) _ (c .order-fault .ensures)
 
 pub insert-fault-spec : {M : Type 1} → statement M
 insert-fault-spec =
@@ -48,9 +32,5 @@ insert-fault-spec =
     enum-known-refusal
     enum-told
     order-fault-requires
-    enum-known-refusal-2
-    enum-told-2
-    repeat-fault-requires
     returns
-    returns-2
-    returns-3)
+    returns-2)

@@ -26,8 +26,8 @@ use Rattle.rules.specs.Lookup.{Finding, lookupAll}
 use Rattle.rules.specs.Store.{pageAt, fetchPage, envOf}
 use Rattle.memory_store.specs.Readable.{nodeAt}
 use Rattle.memory_store.specs.RankLaws.{rank-most}
-use Rattle.lookup.specs.declared.Gap.{Gap}
-use Rattle.lookup.specs.declared.Gap.the-variants.{Open, Below}
+use Rattle.lookup.specs.declared.gap.Gap.{Gap}
+use Rattle.lookup.specs.declared.gap.Gap.the-variants.{Open, Below}
 use Rattle.lookup.specs.declared.Look.{Look}
 use Rattle.lookup.specs.declared.Look.the-variants.{Met, Absent, Lost}
 use Rattle.lookup.specs.Look.{lookOf, pathOf}

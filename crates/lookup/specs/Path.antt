@@ -27,7 +27,7 @@ use Rattle.lookup.specs.declared.Path.{Path}
 use Rattle.lookup.specs.declared.Look.the-variants.{Met, Absent, Lost}
 use Rattle.lookup.specs.declared.Opened.the-variants as opened
 use Rattle.lookup.specs.Look.{lookOf, openedOf, pathOf}
-use Rattle.lookup.specs.declared.Gap.{Gap}
+use Rattle.lookup.specs.declared.gap.Gap.{Gap}
 use Rattle.lookup.specs.Gap.{narrowed, Alike, Free, gapIn, free-at, alike-down}
 use Rattle.lookup.specs.Steps.{node-opened, opened-node, metIn, nextIn, way-met, way-absent, way-stuck, way-lost, way-down}
 

@@ -1,5 +1,8 @@
 // The search for a batch that repeats a datom of the tree. Document 01: "Before writing, insert looks every batch datom up along its
 // path, in batch order."
+pub mod gap;
+
+use crate::gap::Gap;
 use answer::NextMidpoint;
 use answer::Refusal;
 use batch::Finding;
@@ -11,14 +14,14 @@ use store::Extent;
 use store::PageId;
 ghost use mathlib.Core.Bool.{true, false};
 ghost use mathlib.Core.Path.{_≡_};
-ghost use Prim.Native.Nat.{_+_, _*_, _≤_, _<_};
+ghost use Prim.Native.Nat.{_*_, _≤_, _<_};
 ghost use lib.ListN.{length, drop};
 ghost use Rattle.store.specs.Page.{isNone};
 ghost use Rattle.store.specs.Size.{capacity};
 ghost use Rattle.datom.specs.Datom.{datomsOf};
 ghost use Rattle.index.specs.Order.{cmpEavt, eavt};
 ghost use Rattle.rules.specs.Page.{rising};
-ghost use Rattle.rules.specs.Node.{headSame, rankBy};
+ghost use Rattle.rules.specs.Node.{headSame};
 ghost use Rattle.rules.specs.Tree.{fine, fetchAt};
 ghost use Rattle.rules.specs.Lookup.{lookupAll};
 ghost use Rattle.rules.specs.Store.{badStore, pageAt, fetchPage, envOf};
@@ -26,7 +29,7 @@ ghost use Rattle.batch.specs.Finding.{findingOf};
 ghost use Rattle.memory_store.specs.Readable.{nodeAt};
 ghost use Rattle.lookup.specs.Look.{lookOf, openedOf, pathOf};
 ghost use Rattle.lookup.specs.Path.{unread, Kept};
-ghost use Rattle.lookup.specs.Gap.{inside, narrowed, Leaves};
+ghost use Rattle.lookup.specs.Gap.{Leaves};
 
 // Where a datom's path ends: at an equal datom, at level 0 without one, or at a page that cannot be read.
 enum Look {
@@ -52,13 +55,6 @@ impl Path {
             counts: [0; 8],
         }
     }
-}
-
-// The datoms above the one sought whose paths run through the same pages and meet an equal datom in none of them: those below the
-// least datom that stands next to it in these pages, or all of them where it is above every page.
-enum Gap {
-    Open,
-    Below(Datom),
 }
 
 // Where a path ends, what was read on it, and the gap that it leaves.
@@ -97,54 +93,6 @@ fn is_met(page: &[u8], k: usize, i: usize, d: Datom) -> bool
         Order::Equal => true,
         Order::Greater => false,
     }
-}
-
-// The gap as far as the datom at index i, of k, of one more page.
-fn narrow(gap: Gap, page: &[u8], k: usize, i: usize) -> Gap
-    requires { ⌜ 32 * k ≤ length (now page) ⌝ }
-    ensures { λ r. ⌜ r ≡ narrowed gap (drop i (datomsOf k (now (page .entry)))) ⌝ }
-{
-    if k <= i {
-        return gap;
-    }
-    let next = datom::datom_at(page, 32 * i);
-    let Gap::Below(high) = gap else {
-        return Gap::Below(next);
-    };
-    match index::order_of(next, high) {
-        Order::Less => Gap::Below(next),
-        Order::Equal => Gap::Below(high),
-        Order::Greater => Gap::Below(high),
-    }
-}
-
-// Whether d lies below the end of the gap.
-fn is_inside(gap: Gap, d: Datom) -> bool
-    ensures { λ r. ⌜ r ≡ inside gap d ⌝ }
-{
-    let Gap::Below(high) = gap else {
-        return true;
-    };
-    match index::order_of(d, high) {
-        Order::Less => true,
-        Order::Equal => false,
-        Order::Greater => false,
-    }
-}
-
-// The index of the first datom of the batch of n, from an index on, that is past the end of the gap.
-fn skip(gap: Gap, b: &[u8], n: usize, from: usize) -> usize
-    requires { ⌜ (32 * n ≤ length (now b)) × (from ≤ n) ⌝ }
-    ensures { λ r. ⌜ r ≡ from + rankBy (inside gap) (drop from (datomsOf n (now (b .entry)))) ⌝ }
-{
-    let mut i = from;
-    while i < n {
-        if !is_inside(gap, datom::datom_at(b, 32 * i)) {
-            return i;
-        }
-        i += 1;
-    }
-    i
 }
 
 // Page `page`, which is to be of this level.
@@ -203,7 +151,7 @@ fn lookup_one(
                 gap,
             };
         }
-        gap = narrow(gap, part, k, i);
+        gap = gap::narrow(gap, part, k, i);
         if l == 0 {
             return Looked {
                 look: Look::Absent,
@@ -261,7 +209,7 @@ pub fn lookup_all(
             Look::Absent => {
                 let gap = looked.gap;
                 path = looked.path;
-                i = skip(gap, b, n, i + 1);
+                i = gap::skip(gap, b, n, i + 1);
             }
             Look::Lost(page) => {
                 return Finding::Found(Refusal::Damaged(page));

@@ -8,8 +8,8 @@ use Rattle.rules.specs.Node.{rankBy}
 use borrow.Author.Tests.{not-true, not-false}
 use Rattle.lookup.specs.Gap.{inside, pass-on, pass-stop, pass-end}
 use borrow.Author.Needs.{needs}
-use Rattle.lookup.proofs.skip.Statement.{statement}
-use Rattle.lookup.proofs.skip.Tie as tie
+use Rattle.lookup.proofs.gap.skip.Statement.{statement}
+use Rattle.lookup.proofs.gap.skip.Tie as tie
 
 abbrev Inv-loop : tie.InvT-loop
 Inv-loop gap b n from i₀ i = (i ≤ n) × (i + rankBy (inside gap) (drop i (datomsOf n b)) ≡ from + rankBy (inside gap) (drop from (datomsOf n b)))

@@ -5,8 +5,8 @@ use Rattle.index.specs.Order.{cmpEavt, named}
 use Rattle.index.specs.Named.{less-named, equal-named, greater-named}
 use Rattle.lookup.specs.Gap.{inside}
 use borrow.Author.Needs.{needs}
-use Rattle.lookup.proofs.is_inside.Statement.{statement}
-use Rattle.lookup.proofs.is_inside.Tie as tie
+use Rattle.lookup.proofs.gap.is_inside.Statement.{statement}
+use Rattle.lookup.proofs.gap.is_inside.Tie as tie
 
 enum-known-gap : tie.Need-enum-known-gap
 enum-known-gap c = search needs

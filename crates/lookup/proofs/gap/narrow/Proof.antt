@@ -10,8 +10,8 @@ use Rattle.index.specs.Order.{cmpEavt, named}
 use Rattle.index.specs.Named.{less-named, equal-named, greater-named}
 use Rattle.lookup.specs.Gap.{narrowed}
 use borrow.Author.Needs.{needs}
-use Rattle.lookup.proofs.narrow.Statement.{statement}
-use Rattle.lookup.proofs.narrow.Tie as tie
+use Rattle.lookup.proofs.gap.narrow.Statement.{statement}
+use Rattle.lookup.proofs.gap.narrow.Tie as tie
 
 returns : tie.Need-returns
 unfolding narrowed

@@ -32,7 +32,7 @@ shown=0 missed=0
 while IFS='|' read -r file name script; do
     rm -rf "$out"
     mkdir -p "$out"
-    cp -r "$sound/source" "$sound"/*.rlib tests/oracle/harness "$home" "$out/"
+    cp -r "$sound/source" "$sound"/*.rlib tests/oracle/harness tests/archive.rs "$home" "$out/"
     put_fault "$(file_of "$file")" "$script" "$file"
     case $file in
         htree | datom)

@@ -1,10 +1,13 @@
 -- One step of each test along a list, as the reader's loops take it.
-use Prim.Native.Nat.{ℕ, _+_, _<_, _≤_, Ordering}
-use mathlib.Core.Bool.{Bool, true, false}
-use mathlib.Core.List.{List, _∷_}
-use mathlib.Core.Path.{_≡_, refl, sym, ap}
-use borrow.Author.Tests.{eq-eqb, ne-eqb, lt-ltb, le-ltb}
+use Prim.Native.Nat.{ℕ, _+_, _*_, _%_, _^_, _<_, _≤_, zero-le, Ordering}
+use native.Mathlib.Decide.{decLe}
+use native.Mathlib.Omega.{arith}
+use mathlib.Core.Bool.{Bool, true, false, _||_, or-false}
+use mathlib.Core.List.{List, [], _∷_}
+use mathlib.Core.Path.{_≡_, refl, ap, _∙_}
+use borrow.Author.Tests.{eq-eqb, ne-eqb, le-ltb, le-leb, lt-leb, eqb-true, eqb-false, ltb-true, ltb-false}
 use lib.ListN.{drop}
+use lib.Dec.{leb, ltb, eqb}
 use Rattle.store.specs.declared.PageId.{PageId}
 use Rattle.store.specs.Words.{wordAt, cells}
 use Rattle.store.specs.Page.{page, isNone, pageOf}
@@ -32,30 +35,32 @@ module _ {A : Type 0} (ok : A → Bool) where
   unfolding all
   all-end f w n i s h = rw (cells-end f w n i s h)
 
--- `above` likewise
-module _ (cmp : Datom → Datom → Ordering) (p : Datom) where
-  pub above-on : {l : List Datom} {x : Datom} {r : List Datom} → l ≡ x ∷ r → isLess (cmp p x) ≡ true → above cmp p l ≡ above cmp x r
-  unfolding above
-  above-on e h = rw (e, above, h)
+-- `rising` likewise: a datom and the next one
+module _ (cmp : Datom → Datom → Ordering) (k i : ℕ) (s : List ℕ) where
+  two : i + 1 < k → drop i (datomsOf k s) ≡ datomAt s (32 * i) ∷ (datomAt s (32 * i + 32) ∷ drop (i + 1 + 1) (datomsOf k s))
+  two h =
+      let e : 32 * (i + 1) ≡ 32 * i + 32 = omega arith in
+      datoms-from k i s (omega arith) ∙ ap (_∷_ (datomAt s (32 * i))) (rw e at (datoms-from k (i + 1) s h))
 
-  pub above-stop : {l : List Datom} {x : Datom} {r : List Datom} → l ≡ x ∷ r → isLess (cmp p x) ≡ false → above cmp p l ≡ false
-  unfolding above
-  above-stop e h = rw (e, above, h)
+  pub rising-on :
+      i + 1 < k → isLess (cmp (datomAt s (32 * i)) (datomAt s (32 * i + 32))) ≡ true →
+      rising cmp (drop i (datomsOf k s)) ≡ rising cmp (drop (i + 1) (datomsOf k s))
+  unfolding rising above
+  rising-on h l =
+      let e : 32 * (i + 1) ≡ 32 * i + 32 = omega arith in
+      rw (two h, rw e at (datoms-from k (i + 1) s h), l)
 
-  pub above-end : (k i : ℕ) (s : List ℕ) → k ≤ i → above cmp p (drop i (datomsOf k s)) ≡ true
-  unfolding above
-  above-end k i s h = rw (cells-end datomOf 32 k i s h)
+  pub rising-stop : i + 1 < k → isLess (cmp (datomAt s (32 * i)) (datomAt s (32 * i + 32))) ≡ false → rising cmp (drop i (datomsOf k s)) ≡ false
+  unfolding rising above
+  rising-stop h l = rw (two h, l)
 
-pub rising-none : (cmp : Datom → Datom → Ordering) (s : List ℕ) → true ≡ rising cmp (datomsOf 0 s)
-unfolding rising cells
-rising-none cmp s = refl
-
-pub rising-start :
-    (cmp : Datom → Datom → Ordering) (k : ℕ) (s : List ℕ) → 0 < k → above cmp (datomAt s 0) (drop 1 (datomsOf k s)) ≡ rising cmp (datomsOf k s)
-unfolding rising
-rising-start cmp k s h =
-    let e : datomsOf k s ≡ datomAt s 0 ∷ drop 1 (datomsOf k s) = datoms-from k 0 s h in
-    sym (ap (rising cmp) e)
+  -- no more than one is left
+  pub rising-end : k ≤ i + 1 → rising cmp (drop i (datomsOf k s)) ≡ true
+  unfolding rising above
+  rising-end h = elim (decLe k i) [
+    | yes a ↦ rw (cells-end datomOf 32 k i s a)
+    | no a ↦ rw (datoms-from k i s (omega (arith, a)), cells-end datomOf 32 k (i + 1) s h)
+  ]
 
 -- what the words of a page say
 pub stored-word : (s : List ℕ) (at : ℕ) (b : Bool) → storedValue (record { 0 = wordAt s (at + 16) }) ≡ b → storedDatom (datomAt s at) ≡ b
@@ -70,17 +75,21 @@ pub real-word : (w : ℕ) → (w ≡ 0xffff_ffff_ffff_ffff → ⊥) → isNone (
 unfolding isNone
 real-word w e = ne-eqb w 0xffff_ffff_ffff_ffff e
 
-pub older-none : (id c : PageId) → isNone c ≡ true → older id c ≡ true
-unfolding older
-older-none id c e = rw e
+-- none or below, by the number after it, which is 0 for none
+pub older-word : (id : PageId) (w : ℕ) → w < 2 ^ 64 → leb ((w + 1) % 2 ^ 64) (id .0) ≡ older id (page w)
+unfolding older isNone
+older-word id w h = side (eqb w 0xffff_ffff_ffff_ffff) refl (ltb w (id .0)) refl
+  where
+    side : (a : Bool) → eqb w 0xffff_ffff_ffff_ffff ≡ a → (b : Bool) → ltb w (id .0) ≡ b → leb ((w + 1) % 2 ^ 64) (id .0) ≡ (eqb w 0xffff_ffff_ffff_ffff || ltb w (id .0))
+    side true e b f = rw (e, le-leb ((w + 1) % 2 ^ 64) (id .0) (omega (arith, eqb-true w 0xffff_ffff_ffff_ffff e)))
+    side false e true f = rw (e, f, le-leb ((w + 1) % 2 ^ 64) (id .0) (omega (arith, eqb-false w 0xffff_ffff_ffff_ffff e, ltb-true w (id .0) f)))
+    side false e false f = rw (e, f, lt-leb ((w + 1) % 2 ^ 64) (id .0) (omega (arith, eqb-false w 0xffff_ffff_ffff_ffff e, ltb-false w (id .0) f)))
 
-pub older-real : (id c : PageId) → isNone c ≡ false → c .0 < id .0 → older id c ≡ true
-unfolding older
-older-real id c e h = rw (e, lt-ltb (c .0) (id .0) h)
-
-pub older-not : (id c : PageId) → isNone c ≡ false → id .0 ≤ c .0 → older id c ≡ false
-unfolding older
-older-not id c e h = rw (e, le-ltb (c .0) (id .0) h)
+-- no page is below page 0
+pub older-zero : (l : List PageId) → all (older (page 0)) l ≡ all isNone l
+unfolding all older
+older-zero [] = refl
+older-zero (c ∷ l) = rw (le-ltb (c .0) 0 zero-le, or-false (isNone c), older-zero l, all)
 
 -- the next midpoint at the head of a rest, and past the end
 pub next-on : {l : List PageId} {x : PageId} {r : List PageId} → l ≡ x ∷ r → isNone x ≡ true → nextMidpoint l ≡ nextMidpoint r

@@ -1,16 +1,19 @@
 // The page reader: the first rule that a page breaks, or its level and count.
 use answer::Rule;
+use datom::Value;
 use index::Order;
 use store::PageId;
+ghost use mathlib.Core.Bool.{true};
 ghost use mathlib.Core.Path.{_≡_};
 ghost use Prim.Native.Nat.{_+_, _*_, _≤_};
 ghost use lib.ListN.{length, drop};
-ghost use Rattle.store.specs.Words.{cells};
-ghost use Rattle.store.specs.Page.{isNone, pageOf};
+ghost use Rattle.store.specs.Words.{wordAt, cells};
+ghost use Rattle.store.specs.Page.{page, pageOf};
 ghost use Rattle.datom.specs.Datom.{datomsOf, storedDatom};
 ghost use Rattle.index.specs.Order.{cmpEavt, eavt};
 ghost use Rattle.rules.specs.Page.{nodeOf, all, rising, older, childRules, readPage};
 ghost use Rattle.memory_store.specs.Reading.{said};
+ghost use Rattle.memory_store.specs.Fours.{FourRise, FourIntegers, FourOlder, SameFrom};
 
 // A page is unreadable by a rule, or it has a level and a count.
 pub enum Reading {
@@ -18,14 +21,63 @@ pub enum Reading {
     Good { level: usize, count: usize },
 }
 
-// Every one of the k datoms may be stored: only their values are looked at.
-fn all_stored(s: &[u8], k: usize) -> bool
+// Whether four datoms from byte `at` on and the one behind them rise by their entities alone.
+fn four_rise(s: &[u8], at: usize) -> bool
+    requires { ⌜ at + 136 ≤ length (now s) ⌝ }
+    ensures { λ r. ⌜ (r ≡ true → FourRise (now (s .entry)) at) ⌝ }
+{
+    let second = store::word(s, at + 32);
+    if second <= store::word(s, at) {
+        return false;
+    }
+    let third = store::word(s, at + 64);
+    if third <= second {
+        return false;
+    }
+    let fourth = store::word(s, at + 96);
+    if fourth <= third {
+        return false;
+    }
+    fourth < store::word(s, at + 128)
+}
+
+// Whether the values of four datoms from byte `at` on are integers. The bits of all four are looked at as one number.
+fn four_integers(s: &[u8], at: usize) -> bool
+    requires { ⌜ at + 120 ≤ length (now s) ⌝ }
+    ensures { λ r. ⌜ (r ≡ true → FourIntegers (now (s .entry)) at) ⌝ }
+{
+    let front = store::word(s, at + 16) | store::word(s, at + 48);
+    let back = store::word(s, at + 80) | store::word(s, at + 112);
+    (front | back) < Value::TAG_EXTERNAL
+}
+
+// How many of the k datoms need no further look: four at a time, for as long as they are integers and rise by their entities. Of
+// most pages that leaves four datoms at most.
+fn plain_front(s: &[u8], k: usize) -> usize
     requires { ⌜ 32 * k ≤ length (now s) ⌝ }
-    ensures { λ r. ⌜ r ≡ all storedDatom (datomsOf k (now (s .entry))) ⌝ }
+    ensures { λ r. ⌜ (r ≤ k) × SameFrom k (now (s .entry)) 0 r ⌝ }
 {
     let mut i = 0;
+    while i + 4 < k {
+        if !four_rise(s, 32 * i) {
+            return i;
+        }
+        if !four_integers(s, 32 * i) {
+            return i;
+        }
+        i += 4;
+    }
+    i
+}
+
+// Every one of the k datoms from index `from` on may be stored: only their values are looked at.
+fn all_stored(s: &[u8], from: usize, k: usize) -> bool
+    requires { ⌜ 32 * k ≤ length (now s) ⌝ }
+    ensures { λ r. ⌜ r ≡ all storedDatom (drop from (datomsOf k (now (s .entry)))) ⌝ }
+{
+    let mut i = from;
     while i < k {
-        let value = datom::Value(store::word(s, 32 * i + 16));
+        let value = Value(store::word(s, 32 * i + 16));
         if !value.is_stored() {
             return false;
         }
@@ -34,21 +86,15 @@ fn all_stored(s: &[u8], k: usize) -> bool
     true
 }
 
-// The k datoms rise: each is decoded once and kept for the next.
-fn all_rising(s: &[u8], k: usize) -> bool
-    requires { ⌜ 32 * k ≤ length (now s) ⌝ }
-    ensures { λ r. ⌜ r ≡ rising cmpEavt (datomsOf k (now (s .entry))) ⌝ }
+// The k datoms from index `from` on rise. Each is compared with the next where they lie, so that nothing is carried from turn to turn.
+fn all_rising(s: &[u8], from: usize, k: usize) -> bool
+    requires { ⌜ (from ≤ k) × (32 * k ≤ length (now s)) ⌝ }
+    ensures { λ r. ⌜ r ≡ rising cmpEavt (drop from (datomsOf k (now (s .entry)))) ⌝ }
 {
-    if k == 0 {
-        return true;
-    }
-    let mut p = datom::datom_at(s, 0);
-    let mut i = 1;
-    while i < k {
-        let d = datom::datom_at(s, 32 * i);
-        match index::order_of(p, d) {
+    let mut i = from;
+    while i + 1 < k {
+        match index::order_of(datom::datom_at(s, 32 * i), datom::datom_at(s, 32 * i + 32)) {
             Order::Less => {
-                p = d;
                 i += 1;
             }
             Order::Equal => {
@@ -62,33 +108,55 @@ fn all_rising(s: &[u8], k: usize) -> bool
     true
 }
 
-// Every one of n children is none.
-fn all_none(s: &[u8], at: usize, n: usize) -> bool
-    requires { ⌜ at + 8 * n ≤ length (now s) ⌝ }
-    ensures { λ r. ⌜ r ≡ all isNone (cells pageOf 8 n (drop at (now (s .entry)))) ⌝ }
+// Whether the child at byte `at` is none or below id. None is the largest word, so the number after it is 0: one test tells for both.
+fn is_older(s: &[u8], at: usize, id: PageId) -> bool
+    requires { ⌜ at + 8 ≤ length (now s) ⌝ }
+    ensures { λ r. ⌜ r ≡ older id (page (wordAt (now (s .entry)) at)) ⌝ }
 {
-    let mut i = 0;
-    while i < n {
-        if store::word(s, at + 8 * i) != PageId::NONE {
-            return false;
-        }
-        i += 1;
-    }
-    true
+    std::num::wrapping_add_u64(store::word(s, at), 1) <= id.0
 }
 
-// Every one of n children is none or below the page's own id.
+// Whether the four children from byte `at` on are.
+fn four_older(s: &[u8], at: usize, id: PageId) -> bool
+    requires { ⌜ at + 32 ≤ length (now s) ⌝ }
+    ensures { λ r. ⌜ (r ≡ true → FourOlder id (now (s .entry)) at) ⌝ }
+{
+    if !is_older(s, at, id) {
+        return false;
+    }
+    if !is_older(s, at + 8, id) {
+        return false;
+    }
+    if !is_older(s, at + 16, id) {
+        return false;
+    }
+    is_older(s, at + 24, id)
+}
+
+// How many of n children need no further look, four at a time.
+fn older_front(s: &[u8], at: usize, n: usize, id: PageId) -> usize
+    requires { ⌜ at + 8 * n ≤ length (now s) ⌝ }
+    ensures { λ r. ⌜ (r ≤ n) × (all (older id) (drop r (cells pageOf 8 n (drop at (now (s .entry))))) ≡ all (older id) (cells pageOf 8 n (drop at (now (s .entry))))) ⌝ }
+{
+    let mut i = 0;
+    while i + 4 <= n {
+        if !four_older(s, at + 8 * i, id) {
+            return i;
+        }
+        i += 4;
+    }
+    i
+}
+
+// Every one of n children is none or below id.
 fn all_older(s: &[u8], at: usize, n: usize, id: PageId) -> bool
     requires { ⌜ at + 8 * n ≤ length (now s) ⌝ }
     ensures { λ r. ⌜ r ≡ all (older id) (cells pageOf 8 n (drop at (now (s .entry)))) ⌝ }
 {
-    let mut i = 0;
+    let mut i = older_front(s, at, n, id);
     while i < n {
-        let c = store::word(s, at + 8 * i);
-        if c != PageId::NONE {
-            if id.0 <= c {
-                return false;
-            }
+        if !is_older(s, at + 8 * i, id) {
+            return false;
         }
         i += 1;
     }
@@ -101,7 +169,8 @@ fn read_children(s: &[u8], c: usize, id: PageId, level: usize, k: usize) -> Read
     ensures { λ r. ⌜ said c (now (s .entry)) r ≡ childRules id (nodeOf c level k (now (s .entry))) ⌝ }
 {
     if level == 0 {
-        if !all_none(s, 32 * c, k + 1) {
+        // No page is below page 0, so every child is none.
+        if !all_older(s, 32 * c, k + 1, PageId(0)) {
             return Reading::Broken(Rule::LeafChild);
         }
         return Reading::Good { level, count: k };
@@ -128,10 +197,11 @@ pub fn read_page(s: &[u8], c: usize, id: PageId) -> Reading
     if c < k {
         return Reading::Broken(Rule::Count);
     }
-    if !all_stored(s, k) {
+    let plain = plain_front(s, k);
+    if !all_stored(s, plain, k) {
         return Reading::Broken(Rule::Form);
     }
-    if !all_rising(s, k) {
+    if !all_rising(s, plain, k) {
         return Reading::Broken(Rule::Order);
     }
     read_children(s, c, id, level, k)

@@ -1,44 +1,44 @@
 -- `all_older` meets its contract: the test on the rest of the list is the test on the whole. Assumes nothing.
 use borrow.Author.Needs.{needs}
-use Prim.Native.Nat.{_-_, _≤_}
+use Prim.Native.Nat.{_-_}
 use native.Mathlib.Omega.{arith}
-use mathlib.Core.Bool.{true, false}
-use mathlib.Core.Path.{_≡_, refl, sym, _∙_}
+use mathlib.Core.Path.{_≡_, sym, _∙_}
 use lib.ListN.{drop}
-use mathlib.Core.Logic.{⊎-elim}
+use borrow.Author.Tests.{not-true, not-false}
 use Rattle.store.specs.Words.{cells}
-use Rattle.store.specs.Page.{page, pageOf}
+use Rattle.store.specs.Page.{pageOf}
 use Rattle.store.specs.Cells.{pages-from}
 use Rattle.rules.specs.Page.{all, older}
-use Rattle.memory_store.specs.Steps.{all-on, all-stop, all-end, none-word, real-word, older-none, older-real, older-not}
+use Rattle.memory_store.specs.Steps.{all-on, all-stop, all-end}
 use Rattle.memory_store.proofs.reader.all_older.Statement.{statement}
 use Rattle.memory_store.proofs.reader.all_older.Tie as tie
 
 abbrev Inv-loop : tie.InvT-loop
-Inv-loop s at n id i₀ i = (i ≤ n) × (all (older id) (drop i (cells pageOf 8 n (drop at s))) ≡ all (older id) (cells pageOf 8 n (drop at s)))
+Inv-loop s at n id i₀ i = all (older id) (drop i (cells pageOf 8 n (drop at s))) ≡ all (older id) (cells pageOf 8 n (drop at s))
 
 abbrev μ-loop : tie.MeasureT-loop
 μ-loop s at n id i₀ i = n - i
 
+older-front-requires : tie.Need-older-front-requires Inv-loop μ-loop
+older-front-requires c κs = search needs
+
 loop-holds : tie.Need-loop-holds Inv-loop μ-loop
-loop-holds c = (search needs, refl)
+loop-holds c = c .older-front .ensures .1
 
-mul-word : tie.Need-mul-word Inv-loop μ-loop
-mul-word c = search needs
+mul-is-older : tie.Need-mul-is-older Inv-loop μ-loop
+mul-is-older c = search needs
 
-add-word : tie.Need-add-word Inv-loop μ-loop
-add-word c = search needs
+add-is-older : tie.Need-add-is-older Inv-loop μ-loop
+add-is-older c = search needs
 
-word-requires : tie.Need-word-requires Inv-loop μ-loop
-word-requires c κs = search needs
+is-older-requires : tie.Need-is-older-requires Inv-loop μ-loop
+is-older-requires c κs = search needs
 
 returns : tie.Need-returns Inv-loop μ-loop
 returns c =
-    let a = c .before .before .before .before .before .before .before .args in
-    let l = c .before .before .before .before .before .loop in
-    let w = c .before .before .before .word .result in
-    let e : older (a .id) (page w) ≡ false = older-not (a .id) (page w) (real-word w (c .before .before .if1 .taken)) (omega arith) in
-    sym (all-stop (older (a .id)) (pages-from (a .n) (l .i) (a .at) (a .s .now) (omega arith)) (rw (c .before .before .before .word .ensures) at e)) ∙ l .inv .1
+    let a = c .before .before .before .before .before .before .args in
+    let l = c .before .before .before .loop in
+    sym (all-stop (older (a .id)) (pages-from (a .n) (l .i) (a .at) (a .s .now) (omega arith)) (sym (c .before .is-older .ensures) ∙ not-true _ (c .if1 .taken))) ∙ l .inv
 
 add-i : tie.Need-add-i Inv-loop μ-loop
 add-i c = search needs
@@ -48,15 +48,12 @@ loop-less c = search needs
 
 loop-again : tie.Need-loop-again Inv-loop μ-loop
 loop-again c =
-    let a = c .before .before .before .before .before .args in
+    let a = c .before .before .before .before .before .before .args in
     let l = c .before .before .before .loop in
-    let w = c .before .word .result in
-    let e : older (a .id) (page w) ≡ true =
-    ⊎-elim (λ v. older-real (a .id) (page w) (real-word w (v .0 .taken)) (omega arith)) (λ v. older-none (a .id) (page w) (none-word w (v .left))) (c .if1 .came) in
-    (omega arith, sym (all-on (older (a .id)) (pages-from (a .n) (l .i) (a .at) (a .s .now) (omega arith)) (rw (c .before .word .ensures) at e)) ∙ l .inv .1)
+    sym (all-on (older (a .id)) (pages-from (a .n) (l .i) (a .at) (a .s .now) (omega arith)) (sym (c .before .is-older .ensures) ∙ not-false _ (c .if1 .left))) ∙ l .inv
 
 returns-2 : tie.Need-returns-2 Inv-loop μ-loop
-returns-2 c = let l = c .before .loop in sym (all-end (older (c .before .before .before .args .id)) pageOf 8 _ (l .i) _ (omega arith)) ∙ l .inv .1
+returns-2 c = let l = c .before .loop in sym (all-end (older (c .before .before .before .before .args .id)) pageOf 8 _ (l .i) _ (omega arith)) ∙ l .inv
 
 pub all-older-spec : {M : Type 1} → statement M
 all-older-spec =
@@ -64,10 +61,11 @@ all-older-spec =
     (tie.spec
     Inv-loop
     μ-loop
+    older-front-requires
     loop-holds
-    mul-word
-    add-word
-    word-requires
+    mul-is-older
+    add-is-older
+    is-older-requires
     returns
     add-i
     loop-less

@@ -1,6 +1,6 @@
 -- `all_stored` meets its contract: the test on the rest of the list is the test on the whole. Assumes nothing.
 use borrow.Author.Needs.{needs}
-use Prim.Native.Nat.{_+_, _*_, _-_, _≤_}
+use Prim.Native.Nat.{_+_, _*_, _-_}
 use native.Mathlib.Omega.{arith}
 use mathlib.Core.Bool.{true, false}
 use mathlib.Core.Path.{_≡_, refl, sym, _∙_}
@@ -16,13 +16,13 @@ use Rattle.memory_store.proofs.reader.all_stored.Statement.{statement}
 use Rattle.memory_store.proofs.reader.all_stored.Tie as tie
 
 abbrev Inv-loop : tie.InvT-loop
-Inv-loop s k i₀ i = (i ≤ k) × (all storedDatom (drop i (datomsOf k s)) ≡ all storedDatom (datomsOf k s))
+Inv-loop s «from» k i₀ i = all storedDatom (drop i (datomsOf k s)) ≡ all storedDatom (drop «from» (datomsOf k s))
 
 abbrev μ-loop : tie.MeasureT-loop
-μ-loop s k i₀ i = k - i
+μ-loop s «from» k i₀ i = k - i
 
 loop-holds : tie.Need-loop-holds Inv-loop μ-loop
-loop-holds c = (search needs, refl)
+loop-holds c = refl
 
 mul-word : tie.Need-mul-word Inv-loop μ-loop
 mul-word c = search needs
@@ -41,7 +41,7 @@ returns c =
     let a = c .before .before .before .before .before .before .args in
     let l = c .before .before .before .before .loop in
     let e : storedValue (record { 0 = wordAt (a .s .now) (32 * l .i + 16) }) ≡ false = cc (not-true (c .before .is-stored .result) (c .if1 .taken)) in
-    sym (all-stop storedDatom (datoms-from (a .k) (l .i) (a .s .now) (omega arith)) (stored-word (a .s .now) (32 * l .i) false e)) ∙ l .inv .1
+    sym (all-stop storedDatom (datoms-from (a .k) (l .i) (a .s .now) (omega arith)) (stored-word (a .s .now) (32 * l .i) false e)) ∙ l .inv
 
 add-i : tie.Need-add-i Inv-loop μ-loop
 add-i c = search needs
@@ -54,10 +54,10 @@ loop-again c =
     let a = c .before .before .before .before .before .before .args in
     let l = c .before .before .before .before .loop in
     let e : storedValue (record { 0 = wordAt (a .s .now) (32 * l .i + 16) }) ≡ true = cc (not-false (c .before .is-stored .result) (c .if1 .left)) in
-    (omega arith, sym (all-on storedDatom (datoms-from (a .k) (l .i) (a .s .now) (omega arith)) (stored-word (a .s .now) (32 * l .i) true e)) ∙ l .inv .1)
+    sym (all-on storedDatom (datoms-from (a .k) (l .i) (a .s .now) (omega arith)) (stored-word (a .s .now) (32 * l .i) true e)) ∙ l .inv
 
 returns-2 : tie.Need-returns-2 Inv-loop μ-loop
-returns-2 c = let l = c .before .loop in sym (all-end storedDatom datomOf 32 _ (l .i) _ (omega arith)) ∙ l .inv .1
+returns-2 c = let l = c .before .loop in sym (all-end storedDatom datomOf 32 _ (l .i) _ (omega arith)) ∙ l .inv
 
 pub all-stored-spec : {M : Type 1} → statement M
 all-stored-spec =

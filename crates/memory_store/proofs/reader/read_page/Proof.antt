@@ -41,27 +41,34 @@ returns-2 : tie.Need-returns-2
 unfolding said
 returns-2 c = way-count _ _ _ (omega arith) (omega arith)
 
+plain-front-requires : tie.Need-plain-front-requires
+plain-front-requires c κs = search needs
+
 all-stored-requires : tie.Need-all-stored-requires
 all-stored-requires c κs = search needs
 
 returns-3 : tie.Need-returns-3
 unfolding said
-returns-3 c = way-form _ _ _ (omega arith) (omega arith) (sym (c .before .all-stored .ensures) ∙ not-true _ (c .if3 .taken))
+returns-3 c =
+    way-form _ _ _ (omega arith) (omega arith) (c .before .before .plain-front .ensures .1 .0 ∙ sym (c .before .all-stored .ensures) ∙ not-true _ (c .if3 .taken))
 
 all-rising-requires : tie.Need-all-rising-requires
 all-rising-requires c κs = search needs
 
 returns-4 : tie.Need-returns-4
 unfolding said
-returns-4 c = way-order _ _ _ (omega arith) (omega arith) (sym (c .before .before .before .all-stored .ensures) ∙ not-false _ (c .before .before .if3 .left)) (sym (c .before .all-rising .ensures) ∙ not-true _ (c .if4 .taken))
+returns-4 c =
+    let same = c .before .before .before .before .plain-front .ensures .1 in
+    way-order _ _ _ (omega arith) (omega arith) (same .0 ∙ sym (c .before .before .before .all-stored .ensures) ∙ not-false _ (c .before .before .if3 .left)) (same .1 ∙ sym (c .before .all-rising .ensures) ∙ not-true _ (c .if4 .taken))
 
 read-children-requires : tie.Need-read-children-requires
 read-children-requires c κs = search needs
 
 returns-5 : tie.Need-returns-5
 returns-5 c =
+    let same = c .before .before .before .before .before .plain-front .ensures .1 in
     c .read-children .ensures
-    ∙ way-on _ _ _ (omega arith) (omega arith) (sym (c .before .before .before .before .all-stored .ensures) ∙ not-false _ (c .before .before .before .if3 .left)) (sym (c .before .before .all-rising .ensures) ∙ not-false _ (c .before .if4 .left))
+    ∙ way-on _ _ _ (omega arith) (omega arith) (same .0 ∙ sym (c .before .before .before .before .all-stored .ensures) ∙ not-false _ (c .before .before .before .if3 .left)) (same .1 ∙ sym (c .before .before .all-rising .ensures) ∙ not-false _ (c .before .if4 .left))
 
 pub read-page-spec : {M : Type 1} → statement M
 read-page-spec =
@@ -77,6 +84,7 @@ read-page-spec =
     cast-k
     returns
     returns-2
+    plain-front-requires
     all-stored-requires
     returns-3
     all-rising-requires

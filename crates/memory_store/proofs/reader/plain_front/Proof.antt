@@ -1,0 +1,74 @@
+-- `plain_front` meets its contract: both rules on the rest of the list are the rules on the whole. Assumes nothing.
+use borrow.Author.Needs.{needs}
+use Prim.Native.Nat.{_-_, _≤_}
+use native.Mathlib.Omega.{arith}
+use mathlib.Core.Path.{refl, _∙_}
+use borrow.Author.Tests.{not-false}
+use Rattle.memory_store.specs.Fours.{SameFrom, four-on}
+use Rattle.memory_store.proofs.reader.plain_front.Statement.{statement}
+use Rattle.memory_store.proofs.reader.plain_front.Tie as tie
+
+abbrev Inv-loop : tie.InvT-loop
+Inv-loop s k i₀ i = (i ≤ k) × SameFrom k s 0 i
+
+abbrev μ-loop : tie.MeasureT-loop
+μ-loop s k i₀ i = k - i
+
+loop-holds : tie.Need-loop-holds Inv-loop μ-loop
+loop-holds c = (search needs, (refl, refl))
+
+add-loop : tie.Need-add-loop Inv-loop μ-loop
+add-loop c = search needs
+
+mul-four-rise : tie.Need-mul-four-rise Inv-loop μ-loop
+mul-four-rise c = search needs
+
+four-rise-requires : tie.Need-four-rise-requires Inv-loop μ-loop
+four-rise-requires c κs = search needs
+
+returns : tie.Need-returns Inv-loop μ-loop
+returns c = c .before .before .before .loop .inv
+
+mul-four-integers : tie.Need-mul-four-integers Inv-loop μ-loop
+mul-four-integers c = search needs
+
+four-integers-requires : tie.Need-four-integers-requires Inv-loop μ-loop
+four-integers-requires c κs = search needs
+
+returns-2 : tie.Need-returns-2 Inv-loop μ-loop
+returns-2 c = c .before .before .before .before .before .loop .inv
+
+add-i : tie.Need-add-i Inv-loop μ-loop
+add-i c = search needs
+
+loop-less : tie.Need-loop-less Inv-loop μ-loop
+loop-less c = search needs
+
+loop-again : tie.Need-loop-again Inv-loop μ-loop
+loop-again c =
+    let a = c .before .before .before .before .before .before .before .args in
+    let l = c .before .before .before .before .before .loop in
+    let s = four-on (a .k) (a .s .now) (l .i) (omega arith) (c .before .before .before .four-rise .ensures (not-false _ (c .before .before .if1 .left))) (c .before .four-integers .ensures (not-false _ (c .if2 .left))) in
+    (omega arith, (l .inv .1 .0 ∙ s .0, l .inv .1 .1 ∙ s .1))
+
+returns-3 : tie.Need-returns-3 Inv-loop μ-loop
+returns-3 c = c .before .loop .inv
+
+pub plain-front-spec : {M : Type 1} → statement M
+plain-front-spec =
+    tie.close
+    (tie.spec
+    Inv-loop
+    μ-loop
+    loop-holds
+    add-loop
+    mul-four-rise
+    four-rise-requires
+    returns
+    mul-four-integers
+    four-integers-requires
+    returns-2
+    add-i
+    loop-less
+    loop-again
+    returns-3)

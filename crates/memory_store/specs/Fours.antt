@@ -1,0 +1,95 @@
+-- What the reader's tests of four datoms, or four children, at once say of the list.
+use Prim.Native.Nat.{ℕ, _+_, _*_, _^_, _<_, _≤_}
+use native.Mathlib.Omega.{arith}
+use mathlib.Core.Bool.{true, false}
+use mathlib.Core.List.{List}
+use mathlib.Core.Path.{_≡_, sym, _∙_}
+use borrow.Author.Tests.{lt-ltb}
+use lib.Bits.{bitOr, and-le-l, and-le-r, or-add-and}
+use lib.ListN.{drop}
+use Rattle.store.specs.declared.PageId.{PageId}
+use Rattle.store.specs.Words.{wordAt, cells}
+use Rattle.store.specs.Page.{page, pageOf}
+use Rattle.store.specs.Cells.{pages-from}
+use Rattle.store.specs.Laws.{apart}
+use Rattle.datom.specs.Value.{isInt, storedValue}
+use Rattle.datom.specs.Datom.{datomAt, datomsOf, storedDatom}
+use Rattle.datom.specs.Laws.{datoms-from}
+use Rattle.index.specs.Order.{cmpEavt}
+use Rattle.index.specs.Named.{less-named}
+use Rattle.index.specs.Ways.{less-entity}
+use Rattle.rules.specs.Page.{all, rising, older}
+use Rattle.memory_store.specs.Steps.{all-on, rising-on, stored-word}
+
+-- the entities of five datoms rise
+abbrev pub FourRise : List ℕ → ℕ → Type 0
+FourRise s at =
+    (wordAt s at < wordAt s (at + 32)) × (wordAt s (at + 32) < wordAt s (at + 64)) × (wordAt s (at + 64) < wordAt s (at + 96))
+    × (wordAt s (at + 96) < wordAt s (at + 128))
+
+-- the values of four datoms are integers
+abbrev pub FourIntegers : List ℕ → ℕ → Type 0
+FourIntegers s at =
+    (wordAt s (at + 16) < 2 ^ 62) × (wordAt s (at + 48) < 2 ^ 62) × (wordAt s (at + 80) < 2 ^ 62) × (wordAt s (at + 112) < 2 ^ 62)
+
+-- four children are none or below id
+abbrev pub FourOlder : PageId → List ℕ → ℕ → Type 0
+FourOlder id s at =
+    (older id (page (wordAt s at)) ≡ true) × (older id (page (wordAt s (at + 8))) ≡ true) × (older id (page (wordAt s (at + 16))) ≡ true)
+    × (older id (page (wordAt s (at + 24))) ≡ true)
+
+-- the rules of form and order say the same of the k datoms from index i on as from index j on
+abbrev pub SameFrom : ℕ → List ℕ → ℕ → ℕ → Type 0
+SameFrom k s i j =
+    (all storedDatom (drop i (datomsOf k s)) ≡ all storedDatom (drop j (datomsOf k s)))
+    × (rising cmpEavt (drop i (datomsOf k s)) ≡ rising cmpEavt (drop j (datomsOf k s)))
+
+-- a number is no larger than its bits with those of another
+pub or-left : (a b : ℕ) → a ≤ bitOr a b
+or-left a b = omega (arith, or-add-and a b, and-le-r a b)
+
+pub or-right : (a b : ℕ) → b ≤ bitOr a b
+or-right a b = omega (arith, or-add-and a b, and-le-l a b)
+
+-- a test that failed says nothing
+pub never : {A : Type 0} → false ≡ true → A
+never e = absurd (apart (cc))
+
+module _ (k : ℕ) (s : List ℕ) where
+  -- one datom further, by its words: it lies at byte a, the next one at byte b
+  plain-on :
+      (i j a b v : ℕ) → j ≡ i + 1 → a ≡ 32 * i → b ≡ 32 * i + 32 → v ≡ 32 * i + 16 → j < k → wordAt s a < wordAt s b → wordAt s v < 2 ^ 62 →
+      SameFrom k s i j
+  unfolding datomAt storedValue isInt
+  plain-on i j a b v e ea eb ev h l f =
+      let less = less-named _ (sym (less-entity (datomAt s (32 * i)) (datomAt s (32 * i + 32)) (rw (ea, eb) at l))) .0 in
+      let stored : storedValue (record { 0 = wordAt s (32 * i + 16) }) ≡ true = rw (lt-ltb _ _ (rw ev at f)) in
+      rw e (
+        all-on storedDatom (datoms-from k i s (omega arith)) (stored-word s (32 * i) true stored),
+        rising-on cmpEavt k i s (omega arith) less,
+      )
+
+  -- four datoms further
+  pub four-on : (i : ℕ) → i + 4 < k → FourRise s (32 * i) → FourIntegers s (32 * i) → SameFrom k s i (i + 4)
+  four-on i h u v =
+      let p = plain-on i (i + 1) _ _ _ (omega arith) (omega arith) (omega arith) (omega arith) (omega arith) (u .0) (v .0) in
+      let q = plain-on (i + 1) (i + 2) _ _ _ (omega arith) (omega arith) (omega arith) (omega arith) (omega arith) (u .1) (v .1) in
+      let r = plain-on (i + 2) (i + 3) _ _ _ (omega arith) (omega arith) (omega arith) (omega arith) (omega arith) (u .2) (v .2) in
+      let t = plain-on (i + 3) (i + 4) _ _ _ (omega arith) (omega arith) (omega arith) (omega arith) (omega arith) (u .3) (v .3) in
+      (p .0 ∙ q .0 ∙ r .0 ∙ t .0, p .1 ∙ q .1 ∙ r .1 ∙ t .1)
+
+module _ (id : PageId) (n at : ℕ) (s : List ℕ) where
+  older-next :
+      (i j a : ℕ) → j ≡ i + 1 → a ≡ at + 8 * i → i < n → older id (page (wordAt s a)) ≡ true →
+      all (older id) (drop i (cells pageOf 8 n (drop at s))) ≡ all (older id) (drop j (cells pageOf 8 n (drop at s)))
+  older-next i j a e ea h o = rw e (all-on (older id) (pages-from n i at s h) (rw ea at o))
+
+  -- four children further
+  pub older-on :
+      (i : ℕ) → i + 4 ≤ n → FourOlder id s (at + 8 * i) →
+      all (older id) (drop i (cells pageOf 8 n (drop at s))) ≡ all (older id) (drop (i + 4) (cells pageOf 8 n (drop at s)))
+  older-on i h o =
+      older-next i (i + 1) _ (omega arith) (omega arith) (omega arith) (o .0)
+      ∙ older-next (i + 1) (i + 2) _ (omega arith) (omega arith) (omega arith) (o .1)
+      ∙ older-next (i + 2) (i + 3) _ (omega arith) (omega arith) (omega arith) (o .2)
+      ∙ older-next (i + 3) (i + 4) _ (omega arith) (omega arith) (omega arith) (o .3)

@@ -4,5 +4,6 @@ pub mod RankLaws
 pub mod Steps
 pub mod FetchLaws
 pub mod Readable
+pub mod Opened
 pub mod Ways
 pub mod WriterLaws

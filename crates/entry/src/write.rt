@@ -4,6 +4,7 @@ use answer::Refusal;
 use htree::place::Inserted;
 use htree::root::Rooted;
 use memory_store::found::Found;
+use memory_store::found::Opened;
 use store::Extent;
 use store::PageId;
 ghost use mathlib.Core.Path.{_≡_};
@@ -79,8 +80,7 @@ pub fn under(
     requires { ⌜ Passed extent (now store) c (now b) n (length (now s)) ⌝ }
     ensures { λ r. ⌜ Roots extent (now (store .entry)) (now (store .exit)) 0 r (writeUnder (envOf eavt extent (now (store .entry))) root (datomsOf n (now (b .entry))) (fetchPage eavt extent (now (store .entry)) root)) ⌝ }
 {
-    let Found::Fine { level, count: _ } = memory_store::found::node_at(store, extent, c, root)
-    else {
+    let Found::Fine { level, count } = memory_store::found::node_at(store, extent, c, root) else {
         return Rooted::Failed {
             refusal: Refusal::Damaged(root),
             written: 0,
@@ -88,7 +88,8 @@ pub fn under(
     };
     let m = check::room_for(c);
     store::put(s, 40 * m + 8, b);
-    match htree::insert::insert_into(store, extent, c, 0, level, root, s, m, n) {
+    let opened = Opened::Node(count);
+    match htree::insert::insert_into(store, extent, c, 0, level, root, opened, s, m, n) {
         Inserted::Placed { datoms, written } => {
             htree::root::write_root(store, extent, c, written, level + 1, s, m, datoms)
         }

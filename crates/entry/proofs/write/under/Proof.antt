@@ -6,6 +6,8 @@ use Rattle.store.specs.Laws.{Known}
 use Rattle.datom.specs.Datom.{datomsOf}
 use Rattle.memory_store.specs.Reading.{told}
 use Rattle.memory_store.specs.FetchLaws.{InOrder}
+use Rattle.memory_store.specs.Readable.{told-fine}
+use Rattle.memory_store.specs.Opened.{node-opened}
 use Rattle.htree.specs.Raise.{raise-stops, raise-ready, raise-few, raise-goes}
 use Rattle.entry.specs.Checks.{Passed}
 use Rattle.entry.specs.Scratch.{roomy-known, roomy-few, roomy-ready, roomy-small, roomy-area, roomy-node, roomy-areas}
@@ -69,8 +71,12 @@ insert-into-requires c κs =
     let l = c .before .before .before .before .before .before .before .before .level .given .0 .0 in
     let e = sym (ap (told (a .extent) (a .store .now) (a .root)) (c .before .before .before .before .before .before .before .before .level .given .1)) ∙ c .before .before .before .before .before .before .before .before .before .before .node-at .ensures in
     let low = under-low (a .extent) (a .store .now) (a .root) (datomsOf (a .n) (a .b .now)) l _ e in
-    let m = c .before .before .before .before .before .before .room-for .ensures in
-    (roomy-ready R, roomy-node R _ m l low, omega (arith, roomy-areas R _ m l low))
+    let m = c .before .before .before .before .before .before .room-for .ensures in (
+      roomy-ready R,
+      roomy-node R _ m l low,
+      omega (arith, roomy-areas R _ m l low),
+      node-opened (a .extent) (a .store .now) (a .root) l _ (told-fine (a .extent) (a .store .now) (a .root) l _ e),
+    )
 
 enum-known-datoms : tie.Need-enum-known-datoms
 enum-known-datoms c = search needs

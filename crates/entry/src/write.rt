@@ -2,6 +2,7 @@
 use crate::check;
 use htree::place::Inserted;
 use htree::root::Rooted;
+use memory_store::found::Opened;
 use store::Extent;
 use store::PageId;
 ghost use mathlib.Core.Path.{_≡_};
@@ -83,7 +84,8 @@ pub fn under(
 {
     let m = check::room_for(c);
     store::put(s, 40 * m + 8, b);
-    match htree::insert::insert_into(store, extent, c, 0, level, root, s, m, n) {
+    let opened = Opened::Node(count);
+    match htree::insert::insert_into(store, extent, c, 0, level, root, opened, s, m, n) {
         Inserted::Placed { datoms, written } => {
             htree::root::write_root(store, extent, c, written, level + 1, s, m, datoms)
         }

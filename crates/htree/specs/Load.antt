@@ -1,27 +1,25 @@
 -- What loading a page with a batch leaves for the insert into it.
-use Prim.Native.Nat.{ℕ, _+_, _*_, _≤_, _<_}
+use Prim.Native.Nat.{ℕ, _+_, _*_, _≤_}
 use native.Mathlib.Omega.{arith}
 use mathlib.Core.Bool.{true, false}
 use mathlib.Core.List.{List}
-use mathlib.Core.Path.{_≡_, refl, sym}
-use borrow.Author.Tests.{eq-eqb, ne-eqb}
+use mathlib.Core.Path.{_≡_, refl, _∙_}
 use lib.ListN.{length, drop}
 use Rattle.store.specs.declared.PageId.{PageId}
 use Rattle.store.specs.declared.Extent.{Extent}
 use Rattle.store.specs.Size.{capacity}
-use Rattle.store.specs.Laws.{cells-length}
+use Rattle.store.specs.Laws.{apart}
 use Rattle.datom.specs.declared.Datom.{Datom}
-use Rattle.datom.specs.Datom.{datomOf, datomsOf}
+use Rattle.datom.specs.Datom.{datomsOf}
 use Rattle.index.specs.Order.{cmpEavt, eavt}
-use Rattle.answer.specs.declared.Fault.{Fault}
 use Rattle.answer.specs.declared.Refusal.the-variants.{Damaged}
 use Rattle.rules.specs.Page.{Node, nodeOf}
 use Rattle.rules.specs.Node.{meets, mergeNode}
-use Rattle.rules.specs.Tree.{fine, Env, Stage, stop, then, atLevel, fetchAt, settle, insertMerged}
-use Rattle.rules.specs.Store.{pageAt, fetchPage, envOf}
-use Rattle.rules.specs.Reads.{Readable, fetch-tells, read-count}
-use Rattle.memory_store.specs.Reading.{told}
-use Rattle.memory_store.specs.declared.found.Found.the-variants.{Faulty, Fine}
+use Rattle.rules.specs.Tree.{Fetched, faulty, fine, Env, Stage, stop, then, fetchAt, settle, insertMerged}
+use Rattle.rules.specs.Store.{badStore, pageAt, envOf}
+use Rattle.memory_store.specs.Readable.{nodeAt, Opens, opens}
+use Rattle.memory_store.specs.declared.found.Opened.the-variants as opened
+use Rattle.memory_store.specs.Opened.{openedOf, at-level, opened-node}
 use Rattle.htree.specs.declared.insert.Loaded.{Loaded}
 use Rattle.htree.specs.declared.insert.Loaded.the-variants as loaded
 
@@ -59,31 +57,26 @@ datoms-are : (c l k : ℕ) (s : List ℕ) → nodeOf c l k s .datoms ≡ datomsO
 unfolding nodeOf
 datoms-are c l k s = refl
 
+-- no merge with a page that was opened as damaged
+not-merged :
+    (e : Env) (p : PageId) (ds : List Datom) (g : Node → List Node → Stage Node) (r : Fetched) (o : List Node) → opened.Damaged ≡ openedOf r →
+    insertMerged e p ds g r o ≡ stop (Damaged p) o
+unfolding insertMerged openedOf
+not-merged e p ds g (faulty f) o h = refl
+not-merged e p ds g (fine N) o h = absurd (apart (cc))
+
+-- by what the page was opened as
 module _ (x : Extent) (s : List ℕ) (l : ℕ) (p : PageId) (a : List ℕ) (m n : ℕ) where
-  pub load-faulty : (f : Fault) → told x s p (Faulty f) ≡ fetchPage eavt x s p → Loads x s l p a m n a loaded.Damaged
-  unfolding told insertMerged fetchAt atLevel envOf
-  load-faulty f e = loads-bad refl λ k o. rw (← e)
+  pub load-damaged : opened.Damaged ≡ openedOf (fetchAt (envOf eavt x s) l p) → Loads x s l p a m n a loaded.Damaged
+  load-damaged h = loads-bad refl λ g o. not-merged (envOf eavt x s) p (batchAt m n a) g (fetchAt (envOf eavt x s) l p) o h
 
-  module _ (f k : ℕ) (e : told x s p (Fine f k) ≡ fetchPage eavt x s p) where
-    pub load-other : (f ≡ l → ⊥) → Loads x s l p a m n a loaded.Damaged
-    unfolding told insertMerged fetchAt atLevel envOf nodeOf
-    load-other h = loads-bad refl λ g o. rw (← e, ne-eqb f l h)
+  module _ (k : ℕ) (ok : badStore x s ≡ false) (e : opened.Node k ≡ openedOf (fetchAt (envOf eavt x s) l p)) where
+    pub load-opens : Opens x s p l k
+    load-opens = opens x s p l k ok (opened-node x s p l k e)
 
-    -- the count of a readable page is at most C
-    pub load-few : k ≤ capacity (x .size)
-    unfolding told nodeOf
-    load-few =
-        let R = fetch-tells eavt x s p (nodeOf (capacity (x .size)) f k (pageAt x s p)) (sym e) .1 in
-        omega (arith, R .few, read-count eavt (capacity (x .size)) p (pageAt x s p) _ R, cells-length datomOf 32 k (pageAt x s p))
-
-    pub load-below : p .0 < x .count
-    unfolding told
-    load-below = fetch-tells eavt x s p (nodeOf (capacity (x .size)) f k (pageAt x s p)) (sym e) .0
-
-    module _ (h : f ≡ l) (a₁ : List ℕ) (same : length a₁ ≡ length a) where
-      read : fetchAt (envOf eavt x s) l p ≡ fine (nodeOf (capacity (x .size)) l k (pageAt x s p))
-      unfolding told fetchAt atLevel envOf nodeOf
-      read = rw (← e, eq-eqb f l h, h)
+    module _ (a₁ : List ℕ) (same : length a₁ ≡ length a) where
+      read : fetchAt (envOf eavt x s) l p ≡ fine (nodeAt x s p l k)
+      read = let r = opened-node x s p l k e in at-level x s p l k r ∙ r
 
       pub load-met : meets cmpEavt (datomsOf k (pageAt x s p)) (batchAt m n a) ≡ true → Loads x s l p a m n a₁ loaded.Damaged
       unfolding insertMerged nodeOf eavt envOf
@@ -91,8 +84,7 @@ module _ (x : Extent) (s : List ℕ) (l : ℕ) (p : PageId) (a : List ℕ) (m n 
 
       pub load-whole :
           meets cmpEavt (datomsOf k (pageAt x s p)) (batchAt m n a) ≡ false →
-          nodeOf m l (k + n) a₁ ≡ mergeNode cmpEavt (nodeOf (capacity (x .size)) l k (pageAt x s p)) (batchAt m n a) →
-          Loads x s l p a m n a₁ (loaded.Node (k + n))
+          nodeOf m l (k + n) a₁ ≡ mergeNode cmpEavt (nodeAt x s p l k) (batchAt m n a) → Loads x s l p a m n a₁ (loaded.Node (k + n))
       load-whole q w =
-          loads-node {k = k + n} (omega (arith, load-few)) same
-          λ g o. rw (read, w) (merged (envOf eavt x s) (env-cmp x s) p (nodeOf (capacity (x .size)) l k (pageAt x s p)) (batchAt m n a) (rw (datoms-are (capacity (x .size)) l k (pageAt x s p)) q) g o)
+          loads-node {k = k + n} (omega (arith, load-opens .few)) same
+          λ g o. rw (read, w) (merged (envOf eavt x s) (env-cmp x s) p (nodeAt x s p l k) (batchAt m n a) (rw (datoms-are (capacity (x .size)) l k (pageAt x s p)) q) g o)

@@ -2,7 +2,8 @@
 use crate::place;
 use crate::place::Inserted;
 use answer::Refusal;
-use memory_store::found::Found;
+use memory_store::found;
+use memory_store::found::Opened;
 use node::Merged;
 use store::Extent;
 use store::PageId;
@@ -13,8 +14,9 @@ ghost use lib.ListN.{length};
 ghost use Rattle.store.specs.Size.{capacity};
 ghost use Rattle.index.specs.Order.{eavt};
 ghost use Rattle.rules.specs.Page.{nodeOf};
-ghost use Rattle.rules.specs.Tree.{flush, flushAll, insertInto};
+ghost use Rattle.rules.specs.Tree.{fetchAt, flush, flushAll, insertInto};
 ghost use Rattle.rules.specs.Store.{badStore, envOf};
+ghost use Rattle.memory_store.specs.Opened.{openedOf};
 ghost use Rattle.htree.specs.Told.{Ready, Tells};
 ghost use Rattle.htree.specs.Load.{Loads, batchAt};
 ghost use Rattle.htree.specs.Flush.{below};
@@ -25,30 +27,24 @@ pub enum Loaded {
     Damaged,
 }
 
-// Page `page`, which is to be of this level, is merged into the area with the batch of n datoms that lies behind it.
+// Page `page`, which was opened at this level, is merged into the area with the batch of n datoms that lies behind it.
 fn load(
     store: &[u8],
     extent: Extent,
     c: usize,
     level: usize,
     page: PageId,
+    opened: Opened,
     s: &mut [u8],
     m: usize,
     n: usize,
 ) -> Loaded
-    requires { ⌜ (badStore extent (now store) ≡ false) × (c ≡ capacity (extent .size)) × (c + n ≤ m) × (40 * m + 8 + 32 * n ≤ length (now s)) ⌝ }
+    requires { ⌜ (badStore extent (now store) ≡ false) × (c ≡ capacity (extent .size)) × (c + n ≤ m) × (40 * m + 8 + 32 * n ≤ length (now s)) × (opened ≡ openedOf (fetchAt (envOf eavt extent (now store)) level page)) ⌝ }
     ensures { λ r. ⌜ Loads extent (now (store .entry)) level page (now (s .entry)) m n (now (s .exit)) r ⌝ }
 {
-    let Found::Fine {
-        level: found,
-        count: k,
-    } = memory_store::found::node_at(store, extent, c, page)
-    else {
+    let Opened::Node(k) = opened else {
         return Loaded::Damaged;
     };
-    if found != level {
-        return Loaded::Damaged;
-    }
     let size = extent.size as usize;
     let at = page.0 as usize * size;
     match node::merge(&store[at..at + size], c, k, s, m, 40 * m + 8, n) {
@@ -57,8 +53,8 @@ fn load(
     }
 }
 
-// Insert into page `page`, of this level, the batch of n datoms that lies behind the area. What goes up stays in the area. The scratch
-// behind the area is the next deeper call's.
+// Insert into page `page`, which the caller has opened at this level, the batch of n datoms that lies behind the area. What goes up
+// stays in the area. The scratch behind the area is the next deeper call's.
 pub fn insert_into(
     store: &mut [u8],
     extent: Extent,
@@ -66,14 +62,15 @@ pub fn insert_into(
     written: u64,
     level: usize,
     page: PageId,
+    opened: Opened,
     s: &mut [u8],
     m: usize,
     n: usize,
 ) -> Inserted
-    requires { ⌜ Ready extent (now store) c written × ((level + 1) * c + n ≤ m) × ((level + 1) * (40 * m + 8) + 32 * m ≤ length (now s)) ⌝ }
+    requires { ⌜ Ready extent (now store) c written × ((level + 1) * c + n ≤ m) × ((level + 1) * (40 * m + 8) + 32 * m ≤ length (now s)) × (opened ≡ openedOf (fetchAt (envOf eavt extent (now store)) level page)) ⌝ }
     ensures { λ r. ⌜ Tells extent (now (store .entry)) (now (store .exit)) m (now (s .exit)) written r (insertInto (envOf eavt extent (now (store .entry))) level page (batchAt m n (now (s .entry)))) ⌝ }
 {
-    match load(store, extent, c, level, page, s, m, n) {
+    match load(store, extent, c, level, page, opened, s, m, n) {
         Loaded::Damaged => Inserted::Failed {
             refusal: Refusal::Damaged(page),
             written,
@@ -174,6 +171,8 @@ fn flush(
     let from = span.from;
     let upto = span.upto;
     let child = node::child_at(s, m, upto);
+    let lower = level - 1;
+    let opened = found::open_at(store, extent, c, lower, child);
     let own = 40 * m + 8;
     node::move_span(s, 32 * from, own + own, upto - from);
     match insert_into(
@@ -181,8 +180,9 @@ fn flush(
         extent,
         c,
         written,
-        level - 1,
+        lower,
         child,
+        opened,
         &mut s[own..],
         m,
         upto - from,

@@ -23,13 +23,14 @@ use Rattle.rules.specs.Node.{rank, headSame, nextMidpoint}
 use Rattle.rules.specs.Tree.{fine, fetchAt}
 use Rattle.rules.specs.Store.{pageAt, fetchPage, envOf}
 use Rattle.memory_store.specs.Readable.{nodeAt}
+use Rattle.memory_store.specs.declared.found.Opened.the-variants as opened
+use Rattle.memory_store.specs.Opened.{openedOf, node-opened, opened-node}
 use Rattle.lookup.specs.declared.Path.{Path}
 use Rattle.lookup.specs.declared.Look.the-variants.{Met, Absent, Lost}
-use Rattle.lookup.specs.declared.Opened.the-variants as opened
-use Rattle.lookup.specs.Look.{lookOf, openedOf, pathOf}
+use Rattle.lookup.specs.Look.{lookOf, pathOf}
 use Rattle.lookup.specs.declared.gap.Gap.{Gap}
 use Rattle.lookup.specs.Gap.{narrowed, Alike, Free, gapIn, free-at, alike-down}
-use Rattle.lookup.specs.Steps.{node-opened, opened-node, metIn, nextIn, way-met, way-absent, way-stuck, way-lost, way-down}
+use Rattle.lookup.specs.Steps.{metIn, nextIn, way-met, way-absent, way-stuck, way-lost, way-down}
 
 -- nothing was read
 abbrev pub unread : Path

@@ -9,7 +9,8 @@ use batch::Finding;
 use datom::Datom;
 use index::Order;
 use memory_store::access;
-use memory_store::found::Found;
+use memory_store::found;
+use memory_store::found::Opened;
 use store::Extent;
 use store::PageId;
 ghost use mathlib.Core.Bool.{true, false};
@@ -27,7 +28,8 @@ ghost use Rattle.rules.specs.Lookup.{lookupAll};
 ghost use Rattle.rules.specs.Store.{badStore, pageAt, fetchPage, envOf};
 ghost use Rattle.batch.specs.Finding.{findingOf};
 ghost use Rattle.memory_store.specs.Readable.{nodeAt};
-ghost use Rattle.lookup.specs.Look.{lookOf, openedOf, pathOf};
+ghost use Rattle.memory_store.specs.Opened.{openedOf};
+ghost use Rattle.lookup.specs.Look.{lookOf, pathOf};
 ghost use Rattle.lookup.specs.Path.{unread, Kept};
 ghost use Rattle.lookup.specs.Gap.{Leaves};
 
@@ -64,12 +66,6 @@ struct Looked {
     gap: Gap,
 }
 
-// How many datoms a page of the level that was asked for has.
-enum Opened {
-    Node(usize),
-    Damaged,
-}
-
 // The page's own part of the store.
 fn part_of(store: &[u8], extent: Extent, page: PageId) -> &[u8]
     requires { ⌜ (badStore extent (now store) ≡ false) × (page .0 < extent .count) ⌝ }
@@ -95,22 +91,8 @@ fn is_met(page: &[u8], k: usize, i: usize, d: Datom) -> bool
     }
 }
 
-// Page `page`, which is to be of this level.
-fn read_at(store: &[u8], extent: Extent, c: usize, level: usize, page: PageId) -> Opened
-    requires { ⌜ (badStore extent (now store) ≡ false) × (c ≡ capacity (extent .size)) ⌝ }
-    ensures { λ r. ⌜ r ≡ openedOf (fetchAt (envOf eavt extent (now (store .entry))) level page) ⌝ }
-{
-    let Found::Fine { level: l, count: k } = memory_store::found::node_at(store, extent, c, page)
-    else {
-        return Opened::Damaged;
-    };
-    if l != level {
-        return Opened::Damaged;
-    }
-    Opened::Node(k)
-}
-
-// The same, of a page that may have been read on the last path. Its answer is then known, since the store is the same.
+// Page `page`, which is to be of this level. It may have been read on the last path: what it is opened as is then known, since the store
+// is the same.
 fn open_at(store: &[u8], extent: Extent, c: usize, path: Path, level: usize, page: PageId) -> Opened
     requires { ⌜ (badStore extent (now store) ≡ false) × (c ≡ capacity (extent .size)) × Kept extent (now store) path × (level < 8) × (isNone page ≡ false) ⌝ }
     ensures { λ r. ⌜ r ≡ openedOf (fetchAt (envOf eavt extent (now (store .entry))) level page) ⌝ }
@@ -119,7 +101,7 @@ fn open_at(store: &[u8], extent: Extent, c: usize, path: Path, level: usize, pag
     if last.0 == page.0 {
         return Opened::Node(path.counts[level]);
     }
-    read_at(store, extent, c, level, page)
+    found::open_at(store, extent, c, level, page)
 }
 
 // The path of d from the root, which is of this level and count.

@@ -5,5 +5,6 @@ pub mod Steps
 pub mod Fours
 pub mod FetchLaws
 pub mod Readable
+pub mod Opened
 pub mod Ways
 pub mod WriterLaws

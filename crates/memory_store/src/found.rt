@@ -7,13 +7,21 @@ ghost use mathlib.Core.Bool.{false};
 ghost use mathlib.Core.Path.{_≡_};
 ghost use Rattle.store.specs.Size.{capacity};
 ghost use Rattle.index.specs.Order.{eavt};
-ghost use Rattle.rules.specs.Store.{badStore, fetchPage};
+ghost use Rattle.rules.specs.Tree.{fetchAt};
+ghost use Rattle.rules.specs.Store.{badStore, fetchPage, envOf};
 ghost use Rattle.memory_store.specs.Reading.{told};
+ghost use Rattle.memory_store.specs.Opened.{openedOf};
 
 // What is wrong with the page, or its level and count.
 pub enum Found {
     Faulty(Fault),
     Fine { level: usize, count: usize },
+}
+
+// How many datoms a page of the level that was asked for has.
+pub enum Opened {
+    Node(usize),
+    Damaged,
 }
 
 // Page `page` of a store in order, whose pages hold c datoms.
@@ -30,4 +38,18 @@ pub fn node_at(store: &[u8], extent: Extent, c: usize, page: PageId) -> Found
         Reading::Broken(rule) => Found::Faulty(Fault::Breaks(rule)),
         Reading::Good { level, count } => Found::Fine { level, count },
     }
+}
+
+// Page `page`, which is to be of this level.
+pub fn open_at(store: &[u8], extent: Extent, c: usize, level: usize, page: PageId) -> Opened
+    requires { ⌜ (badStore extent (now store) ≡ false) × (c ≡ capacity (extent .size)) ⌝ }
+    ensures { λ r. ⌜ r ≡ openedOf (fetchAt (envOf eavt extent (now (store .entry))) level page) ⌝ }
+{
+    let Found::Fine { level: l, count: k } = node_at(store, extent, c, page) else {
+        return Opened::Damaged;
+    };
+    if l != level {
+        return Opened::Damaged;
+    }
+    Opened::Node(k)
 }

@@ -21,8 +21,8 @@ returns c =
     let a = c .before .before .before .before .before .before .args in
     kept-hit (c .before .before .before .before .before .before .pre .2) (a .level) (c .before .before .before .before .before .before .pre .3) (a .page) (c .before .before .before .before .before .before .pre .4) (c .before .if1 .taken)
 
-read-at-requires : tie.Need-read-at-requires
-read-at-requires c κs = search needs
+open-at-requires : tie.Need-open-at-requires
+open-at-requires c κs = search needs
 
 returns-2 : tie.Need-returns-2
 returns-2 c = search needs
@@ -36,5 +36,5 @@ open-at-spec =
     mul-t14
     element-copy-out-t17
     returns
-    read-at-requires
+    open-at-requires
     returns-2)

@@ -5,6 +5,7 @@ use Prim.Native.Nat.{_+_, _*_}
 use Rattle.store.specs.Laws.{Known}
 use Rattle.datom.specs.Datom.{datomsOf}
 use Rattle.memory_store.specs.Readable.{Opens, opens}
+use Rattle.memory_store.specs.Opened.{node-opened}
 use Rattle.memory_store.specs.FetchLaws.{InOrder}
 use Rattle.htree.specs.Raise.{raise-stops, raise-ready, raise-few, raise-goes}
 use Rattle.entry.specs.Checks.{Passed}
@@ -47,8 +48,12 @@ insert-into-requires c κs =
     let P = c .before .before .before .before .before .before .before .before .before .before .pre .0 in
     let R = P .roomy in
     let low = opens (a .extent) (a .store .now) (a .root) (a .level) (a .count) (R .good) (c .before .before .before .before .before .before .before .before .before .before .pre .1) .low in
-    let m = c .before .before .before .before .before .before .room-for .ensures in
-    (roomy-ready R, roomy-node R _ m (a .level) low, omega (arith, roomy-areas R _ m (a .level) low))
+    let m = c .before .before .before .before .before .before .room-for .ensures in (
+      roomy-ready R,
+      roomy-node R _ m (a .level) low,
+      omega (arith, roomy-areas R _ m (a .level) low),
+      node-opened (a .extent) (a .store .now) (a .root) (a .level) (a .count) (c .before .before .before .before .before .before .before .before .before .before .pre .1),
+    )
 
 enum-known-datoms : tie.Need-enum-known-datoms
 enum-known-datoms c = search needs

@@ -23,6 +23,7 @@ use Rattle.htree.proofs.insert.insert_into.Kinds as insert-into-kinds
 use Rattle.htree.proofs.insert.+drain+flush+insert_into.Lts-insert_into as insert-into-lts
 use Rattle.htree.proofs.insert.load.Reads as load-reads
 use Rattle.htree.proofs.place.settle.Reads as settle-reads
+use Rattle.memory_store.proofs.found.open_at.Reads as open-at-reads
 use Rattle.node.proofs.child_at.Reads as child-at-reads
 use Rattle.node.proofs.has_pending.Reads as has-pending-reads
 use Rattle.node.proofs.longest_pending_span.Reads as longest-pending-span-reads
@@ -75,6 +76,8 @@ flush-calls t = (
   longest-pending-span-reads.Learnt,
   child-at-reads.Asked,
   child-at-reads.Learnt,
+  open-at-reads.Asked,
+  open-at-reads.Learnt,
   move-span-reads.Asked,
   move-span-reads.Learnt,
   insert-into-below t,
@@ -205,103 +208,102 @@ flush-child-at-requires t c κs =
     let Q = c .before .longest-pending-span .ensures in
     (omega arith, omega (arith, P .2, Q .within))
 
+flush-sub-lower : (t : ℕ) → flush-lts.Need-sub-lower (flush-calls t) (flush-at t) flush.Post
+flush-sub-lower t c = omega (arith, c .before .before .before .before .before .before .pre .1 .1)
+
+flush-open-at-requires : (t : ℕ) → flush-lts.Need-open-at-requires (flush-calls t) (flush-at t) flush.Post
+flush-open-at-requires t c κs = let P = c .before .before .before .before .before .before .before .pre .1 in (P .0 .good, P .0 .cap)
+
 flush-mul-own : (t : ℕ) → flush-lts.Need-mul-own (flush-calls t) (flush-at t) flush.Post
 flush-mul-own t c =
-    let a = c .before .before .before .before .before .before .args in
-    let P = c .before .before .before .before .before .before .pre .1 in
+    let a = c .before .before .before .before .before .before .before .before .args in
+    let P = c .before .before .before .before .before .before .before .before .pre .1 in
     let g = rooms (a .level) (40 * a .m + 8) (32 * a .m) (length (a .s .now)) (P .1) (P .3) in
     omega arith
 
 flush-add-own : (t : ℕ) → flush-lts.Need-add-own (flush-calls t) (flush-at t) flush.Post
 flush-add-own t c =
-    let a = c .before .before .before .before .before .before .args in
-    let P = c .before .before .before .before .before .before .pre .1 in
+    let a = c .before .before .before .before .before .before .before .before .args in
+    let P = c .before .before .before .before .before .before .before .before .pre .1 in
     let g = rooms (a .level) (40 * a .m + 8) (32 * a .m) (length (a .s .now)) (P .1) (P .3) in
     omega arith
 
 flush-mul-move-span : (t : ℕ) → flush-lts.Need-mul-move-span (flush-calls t) (flush-at t) flush.Post
 flush-mul-move-span t c =
-    let a = c .before .before .before .before .before .before .before .args in
-    let P = c .before .before .before .before .before .before .before .pre .1 in
+    let a = c .before .before .before .before .before .before .before .before .before .args in
+    let P = c .before .before .before .before .before .before .before .before .before .pre .1 in
     let g = rooms (a .level) (40 * a .m + 8) (32 * a .m) (length (a .s .now)) (P .1) (P .3) in
-    let Q = c .before .before .before .longest-pending-span .ensures in
+    let Q = c .before .before .before .before .before .longest-pending-span .ensures in
     omega (arith, P .2, Q .rises, Q .within)
 
 flush-add-move-span : (t : ℕ) → flush-lts.Need-add-move-span (flush-calls t) (flush-at t) flush.Post
 flush-add-move-span t c =
-    let a = c .before .before .before .before .before .before .before .args in
-    let P = c .before .before .before .before .before .before .before .pre .1 in
+    let a = c .before .before .before .before .before .before .before .before .before .args in
+    let P = c .before .before .before .before .before .before .before .before .before .pre .1 in
     let g = rooms (a .level) (40 * a .m + 8) (32 * a .m) (length (a .s .now)) (P .1) (P .3) in
-    let Q = c .before .before .before .longest-pending-span .ensures in
+    let Q = c .before .before .before .before .before .longest-pending-span .ensures in
     omega (arith, P .2, Q .rises, Q .within)
 
 flush-sub-move-span : (t : ℕ) → flush-lts.Need-sub-move-span (flush-calls t) (flush-at t) flush.Post
 flush-sub-move-span t c =
-    let a = c .before .before .before .before .before .before .before .args in
-    let P = c .before .before .before .before .before .before .before .pre .1 in
+    let a = c .before .before .before .before .before .before .before .before .before .args in
+    let P = c .before .before .before .before .before .before .before .before .before .pre .1 in
     let g = rooms (a .level) (40 * a .m + 8) (32 * a .m) (length (a .s .now)) (P .1) (P .3) in
-    let Q = c .before .before .before .longest-pending-span .ensures in
+    let Q = c .before .before .before .before .before .longest-pending-span .ensures in
     omega (arith, Q .rises)
 
 flush-move-span-requires : (t : ℕ) → flush-lts.Need-move-span-requires (flush-calls t) (flush-at t) flush.Post
 flush-move-span-requires t c κs =
-    let a = c .before .before .before .before .before .before .before .args in
-    let P = c .before .before .before .before .before .before .before .pre .1 in
+    let a = c .before .before .before .before .before .before .before .before .before .args in
+    let P = c .before .before .before .before .before .before .before .before .before .pre .1 in
     let g = rooms (a .level) (40 * a .m + 8) (32 * a .m) (length (a .s .now)) (P .1) (P .3) in
-    let Q = c .before .before .before .longest-pending-span .ensures in
+    let Q = c .before .before .before .before .before .longest-pending-span .ensures in
     (omega (arith, P .2, Q .rises, Q .within), (omega (arith, P .2, Q .rises, Q .within), λ z. omega (arith, P .2, Q .rises, Q .within)))
 
 flush-sub-insert-into : (t : ℕ) → flush-lts.Need-sub-insert-into (flush-calls t) (flush-at t) flush.Post
 flush-sub-insert-into t c =
-    let a = c .before .before .before .before .before .before .before .before .before .before .before .args in
-    let P = c .before .before .before .before .before .before .before .before .before .before .before .pre .1 in
+    let a = c .before .before .before .before .before .before .before .before .before .before .before .before .before .args in
+    let P = c .before .before .before .before .before .before .before .before .before .before .before .before .before .pre .1 in
     let g = rooms (a .level) (40 * a .m + 8) (32 * a .m) (length (a .s .now)) (P .1) (P .3) in
-    let Q = c .before .before .before .before .before .before .before .longest-pending-span .ensures in
-    omega (arith, P .1)
-
-flush-sub-insert-into-2 : (t : ℕ) → flush-lts.Need-sub-insert-into-2 (flush-calls t) (flush-at t) flush.Post
-flush-sub-insert-into-2 t c =
-    let a = c .before .before .before .before .before .before .before .before .before .before .before .args in
-    let P = c .before .before .before .before .before .before .before .before .before .before .before .pre .1 in
-    let g = rooms (a .level) (40 * a .m + 8) (32 * a .m) (length (a .s .now)) (P .1) (P .3) in
-    let Q = c .before .before .before .before .before .before .before .longest-pending-span .ensures in
+    let Q = c .before .before .before .before .before .before .before .before .before .longest-pending-span .ensures in
     omega arith
 
 flush-part-insert-into-start : (t : ℕ) → flush-lts.Need-part-insert-into-start (flush-calls t) (flush-at t) flush.Post
 flush-part-insert-into-start t c =
-    let a = c .before .before .before .before .before .before .before .before .before .before .before .args in
-    let P = c .before .before .before .before .before .before .before .before .before .before .before .pre .1 in
+    let a = c .before .before .before .before .before .before .before .before .before .before .before .before .before .args in
+    let P = c .before .before .before .before .before .before .before .before .before .before .before .before .before .pre .1 in
     let g = rooms (a .level) (40 * a .m + 8) (32 * a .m) (length (a .s .now)) (P .1) (P .3) in
-    let Q = c .before .before .before .before .before .before .before .longest-pending-span .ensures in
+    let Q = c .before .before .before .before .before .before .before .before .before .longest-pending-span .ensures in
     omega arith
 
 flush-part-insert-into-end : (t : ℕ) → flush-lts.Need-part-insert-into-end (flush-calls t) (flush-at t) flush.Post
 flush-part-insert-into-end t c =
-    let a = c .before .before .before .before .before .before .before .before .before .before .before .args in
-    let P = c .before .before .before .before .before .before .before .before .before .before .before .pre .1 in
+    let a = c .before .before .before .before .before .before .before .before .before .before .before .before .before .args in
+    let P = c .before .before .before .before .before .before .before .before .before .before .before .before .before .pre .1 in
     let g = rooms (a .level) (40 * a .m + 8) (32 * a .m) (length (a .s .now)) (P .1) (P .3) in
-    let Q = c .before .before .before .before .before .before .before .longest-pending-span .ensures in
+    let Q = c .before .before .before .before .before .before .before .before .before .longest-pending-span .ensures in
     search needs
 
-flush-sub-insert-into-3 : (t : ℕ) → flush-lts.Need-sub-insert-into-3 (flush-calls t) (flush-at t) flush.Post
-flush-sub-insert-into-3 t c =
-    let a = c .before .before .before .before .before .before .before .before .before .before .before .before .args in
-    let P = c .before .before .before .before .before .before .before .before .before .before .before .before .pre .1 in
+flush-sub-insert-into-2 : (t : ℕ) → flush-lts.Need-sub-insert-into-2 (flush-calls t) (flush-at t) flush.Post
+flush-sub-insert-into-2 t c =
+    let a = c .before .before .before .before .before .before .before .before .before .before .before .before .before .before .args in
+    let P = c .before .before .before .before .before .before .before .before .before .before .before .before .before .before .pre .1 in
     let g = rooms (a .level) (40 * a .m + 8) (32 * a .m) (length (a .s .now)) (P .1) (P .3) in
-    let Q = c .before .before .before .before .before .before .before .before .longest-pending-span .ensures in
+    let Q = c .before .before .before .before .before .before .before .before .before .before .longest-pending-span .ensures in
     omega (arith, Q .rises)
 
 flush-insert-into-requires : (t : ℕ) → flush-lts.Need-insert-into-requires (flush-calls t) (flush-at t) flush.Post
 flush-insert-into-requires t c κs =
-    let a = c .before .before .before .before .before .before .before .before .before .before .before .before .args in
-    let P = c .before .before .before .before .before .before .before .before .before .before .before .before .pre .1 in
+    let a = c .before .before .before .before .before .before .before .before .before .before .before .before .before .before .args in
+    let P = c .before .before .before .before .before .before .before .before .before .before .before .before .before .before .pre .1 in
     let g = rooms (a .level) (40 * a .m + 8) (32 * a .m) (length (a .s .now)) (P .1) (P .3) in
-    let Q = c .before .before .before .before .before .before .before .before .longest-pending-span .ensures in (
+    let Q = c .before .before .before .before .before .before .before .before .before .before .longest-pending-span .ensures in (
       omega (arith, P .1),
       (
         P .0,
         rw (lower (a .level) (P .1)) (omega (arith, P .2, Q .rises, Q .within)),
         rw (lower (a .level) (P .1)) (simp (length-take, length-drop) (omega arith)),
+        c .before .before .before .before .before .before .open-at .ensures,
       ),
     )
 
@@ -310,38 +312,38 @@ flush-enum-known-datoms t c = search needs
 
 flush-splice-requires : (t : ℕ) → flush-lts.Need-splice-requires (flush-calls t) (flush-at t) flush.Post
 flush-splice-requires t c κs =
-    let a = c .before .before .before .before .before .before .before .before .before .before .before .before .before .before .before .before .before .before .before .before .before .args in
-    let P = c .before .before .before .before .before .before .before .before .before .before .before .before .before .before .before .before .before .before .before .before .before .pre .1 in
+    let a = c .before .before .before .before .before .before .before .before .before .before .before .before .before .before .before .before .before .before .before .before .before .before .before .args in
+    let P = c .before .before .before .before .before .before .before .before .before .before .before .before .before .before .before .before .before .before .before .before .before .before .before .pre .1 in
     let g = rooms (a .level) (40 * a .m + 8) (32 * a .m) (length (a .s .now)) (P .1) (P .3) in
-    let Q = c .before .before .before .before .before .before .before .before .before .before .before .before .before .before .before .before .before .longest-pending-span .ensures in
-    let T = rw (c .before .before .before .before .before .before .before .before .before .before .before .before .before .move-span .ensures, c .before .before .before .before .before .before .before .before .before .before .before .before .before .before .before .child-at .ensures, c .before .before .datoms .given .1) at (c .before .before .before .before .before .before .before .before .insert-into .ensures) in
-    let J = flush-back (a .extent) (a .store .now) (a .c) (a .written) (a .level) (a .m) (a .n) (a .s .now) (P .0) (c .before .before .before .before .before .before .before .before .before .before .before .before .before .before .before .before .before .longest-pending-span .result) Q (omega (arith, P .2)) (omega arith) _ _ _ _ T in
+    let Q = c .before .before .before .before .before .before .before .before .before .before .before .before .before .before .before .before .before .before .before .longest-pending-span .ensures in
+    let T = rw (c .before .before .before .before .before .before .before .before .before .before .before .before .before .move-span .ensures, c .before .before .before .before .before .before .before .before .before .before .before .before .before .before .before .before .before .child-at .ensures, c .before .before .datoms .given .1) at (c .before .before .before .before .before .before .before .before .insert-into .ensures) in
+    let J = flush-back (a .extent) (a .store .now) (a .c) (a .written) (a .level) (a .m) (a .n) (a .s .now) (P .0) (c .before .before .before .before .before .before .before .before .before .before .before .before .before .before .before .before .before .before .before .longest-pending-span .result) Q (omega (arith, P .2)) (omega arith) _ _ _ _ T in
     (omega (arith, J, Q .rises), (Q .within, (omega (arith, P .2), omega arith)))
 
-flush-sub-t38 : (t : ℕ) → flush-lts.Need-sub-t38 (flush-calls t) (flush-at t) flush.Post
-flush-sub-t38 t c =
-    let a = c .before .before .before .before .before .before .before .before .before .before .before .before .before .before .before .before .before .before .before .before .before .before .before .before .args in
-    let P = c .before .before .before .before .before .before .before .before .before .before .before .before .before .before .before .before .before .before .before .before .before .before .before .before .pre .1 in
+flush-sub-t42 : (t : ℕ) → flush-lts.Need-sub-t42 (flush-calls t) (flush-at t) flush.Post
+flush-sub-t42 t c =
+    let a = c .before .before .before .before .before .before .before .before .before .before .before .before .before .before .before .before .before .before .before .before .before .before .before .before .before .before .args in
+    let P = c .before .before .before .before .before .before .before .before .before .before .before .before .before .before .before .before .before .before .before .before .before .before .before .before .before .before .pre .1 in
     let g = rooms (a .level) (40 * a .m + 8) (32 * a .m) (length (a .s .now)) (P .1) (P .3) in
-    let Q = c .before .before .before .before .before .before .before .before .before .before .before .before .before .before .before .before .before .before .before .before .longest-pending-span .ensures in
+    let Q = c .before .before .before .before .before .before .before .before .before .before .before .before .before .before .before .before .before .before .before .before .before .before .longest-pending-span .ensures in
     omega (arith, Q .rises)
 
-flush-sub-t39 : (t : ℕ) → flush-lts.Need-sub-t39 (flush-calls t) (flush-at t) flush.Post
-flush-sub-t39 t c =
-    let a = c .before .before .before .before .before .before .before .before .before .before .before .before .before .before .before .before .before .before .before .before .before .before .before .before .args in
-    let P = c .before .before .before .before .before .before .before .before .before .before .before .before .before .before .before .before .before .before .before .before .before .before .before .before .pre .1 in
+flush-sub-t43 : (t : ℕ) → flush-lts.Need-sub-t43 (flush-calls t) (flush-at t) flush.Post
+flush-sub-t43 t c =
+    let a = c .before .before .before .before .before .before .before .before .before .before .before .before .before .before .before .before .before .before .before .before .before .before .before .before .before .before .args in
+    let P = c .before .before .before .before .before .before .before .before .before .before .before .before .before .before .before .before .before .before .before .before .before .before .before .before .before .before .pre .1 in
     let g = rooms (a .level) (40 * a .m + 8) (32 * a .m) (length (a .s .now)) (P .1) (P .3) in
-    let Q = c .before .before .before .before .before .before .before .before .before .before .before .before .before .before .before .before .before .before .before .before .longest-pending-span .ensures in
+    let Q = c .before .before .before .before .before .before .before .before .before .before .before .before .before .before .before .before .before .before .before .before .before .before .longest-pending-span .ensures in
     omega (arith, Q .rises, Q .within)
 
-flush-add-t40 : (t : ℕ) → flush-lts.Need-add-t40 (flush-calls t) (flush-at t) flush.Post
-flush-add-t40 t c =
-    let a = c .before .before .before .before .before .before .before .before .before .before .before .before .before .before .before .before .before .before .before .before .before .before .before .before .args in
-    let P = c .before .before .before .before .before .before .before .before .before .before .before .before .before .before .before .before .before .before .before .before .before .before .before .before .pre .1 in
+flush-add-t44 : (t : ℕ) → flush-lts.Need-add-t44 (flush-calls t) (flush-at t) flush.Post
+flush-add-t44 t c =
+    let a = c .before .before .before .before .before .before .before .before .before .before .before .before .before .before .before .before .before .before .before .before .before .before .before .before .before .before .args in
+    let P = c .before .before .before .before .before .before .before .before .before .before .before .before .before .before .before .before .before .before .before .before .before .before .before .before .before .before .pre .1 in
     let g = rooms (a .level) (40 * a .m + 8) (32 * a .m) (length (a .s .now)) (P .1) (P .3) in
-    let Q = c .before .before .before .before .before .before .before .before .before .before .before .before .before .before .before .before .before .before .before .before .longest-pending-span .ensures in
-    let T = rw (c .before .before .before .before .before .before .before .before .before .before .before .before .before .before .before .before .move-span .ensures, c .before .before .before .before .before .before .before .before .before .before .before .before .before .before .before .before .before .before .child-at .ensures, c .before .before .before .before .before .datoms .given .1) at (c .before .before .before .before .before .before .before .before .before .before .before .insert-into .ensures) in
-    omega (arith, flush-back (a .extent) (a .store .now) (a .c) (a .written) (a .level) (a .m) (a .n) (a .s .now) (P .0) (c .before .before .before .before .before .before .before .before .before .before .before .before .before .before .before .before .before .before .before .before .longest-pending-span .result) Q (omega (arith, P .2)) (omega arith) _ _ _ _ T, Q .rises, Q .within, c .before .before .before .before .before .before .before .before .before .before .before .before .before .before .before .before .before .before .before .before .before .before .before .before .fits .n .fits)
+    let Q = c .before .before .before .before .before .before .before .before .before .before .before .before .before .before .before .before .before .before .before .before .before .before .longest-pending-span .ensures in
+    let T = rw (c .before .before .before .before .before .before .before .before .before .before .before .before .before .before .before .before .move-span .ensures, c .before .before .before .before .before .before .before .before .before .before .before .before .before .before .before .before .before .before .before .before .child-at .ensures, c .before .before .before .before .before .datoms .given .1) at (c .before .before .before .before .before .before .before .before .before .before .before .insert-into .ensures) in
+    omega (arith, flush-back (a .extent) (a .store .now) (a .c) (a .written) (a .level) (a .m) (a .n) (a .s .now) (P .0) (c .before .before .before .before .before .before .before .before .before .before .before .before .before .before .before .before .before .before .before .before .before .before .longest-pending-span .result) Q (omega (arith, P .2)) (omega arith) _ _ _ _ T, Q .rises, Q .within, c .before .before .before .before .before .before .before .before .before .before .before .before .before .before .before .before .before .before .before .before .before .before .before .before .before .before .fits .n .fits)
 
 flush-enum-known-refusal : (t : ℕ) → flush-lts.Need-enum-known-refusal (flush-calls t) (flush-at t) flush.Post
 flush-enum-known-refusal t c = search needs
@@ -354,12 +356,12 @@ flush-same-length-2 t c = search needs
 
 flush-returns : (t : ℕ) → flush-lts.Need-returns (flush-calls t) (flush-at t) flush.Post
 flush-returns t c =
-    let a = c .before .before .before .before .before .before .before .before .before .before .before .before .before .before .before .before .before .before .before .before .before .before .before .before .args in
-    let P = c .before .before .before .before .before .before .before .before .before .before .before .before .before .before .before .before .before .before .before .before .before .before .before .before .pre .1 in
+    let a = c .before .before .before .before .before .before .before .before .before .before .before .before .before .before .before .before .before .before .before .before .before .before .before .before .before .before .args in
+    let P = c .before .before .before .before .before .before .before .before .before .before .before .before .before .before .before .before .before .before .before .before .before .before .before .before .before .before .pre .1 in
     let g = rooms (a .level) (40 * a .m + 8) (32 * a .m) (length (a .s .now)) (P .1) (P .3) in
-    let Q = c .before .before .before .before .before .before .before .before .before .before .before .before .before .before .before .before .before .before .before .before .longest-pending-span .ensures in
-    let T = rw (c .before .before .before .before .before .before .before .before .before .before .before .before .before .before .before .before .move-span .ensures, c .before .before .before .before .before .before .before .before .before .before .before .before .before .before .before .before .before .before .child-at .ensures, c .before .before .before .before .before .datoms .given .1) at (c .before .before .before .before .before .before .before .before .before .before .before .insert-into .ensures) in
-    flush-done (a .extent) (a .store .now) (a .c) (a .written) (a .level) (a .m) (a .n) (a .s .now) (P .0) (c .before .before .before .before .before .before .before .before .before .before .before .before .before .before .before .before .before .before .before .before .longest-pending-span .result) Q (omega (arith, P .2)) (omega arith) _ _ _ _ _ T (rw (c .before .before .before .before .before .before .before .before .before .before .before .before .before .before .before .before .move-span .ensures) at (c .before .before .splice .ensures))
+    let Q = c .before .before .before .before .before .before .before .before .before .before .before .before .before .before .before .before .before .before .before .before .before .before .longest-pending-span .ensures in
+    let T = rw (c .before .before .before .before .before .before .before .before .before .before .before .before .before .before .before .before .move-span .ensures, c .before .before .before .before .before .before .before .before .before .before .before .before .before .before .before .before .before .before .before .before .child-at .ensures, c .before .before .before .before .before .datoms .given .1) at (c .before .before .before .before .before .before .before .before .before .before .before .insert-into .ensures) in
+    flush-done (a .extent) (a .store .now) (a .c) (a .written) (a .level) (a .m) (a .n) (a .s .now) (P .0) (c .before .before .before .before .before .before .before .before .before .before .before .before .before .before .before .before .before .before .before .before .before .before .longest-pending-span .result) Q (omega (arith, P .2)) (omega arith) _ _ _ _ _ T (rw (c .before .before .before .before .before .before .before .before .before .before .before .before .before .before .before .before .move-span .ensures) at (c .before .before .splice .ensures))
 
 flush-same-length-3 : (t : ℕ) → flush-lts.Need-same-length-3 (flush-calls t) (flush-at t) flush.Post
 flush-same-length-3 t c = search needs
@@ -369,12 +371,12 @@ flush-same-length-4 t c = search needs
 
 flush-returns-2 : (t : ℕ) → flush-lts.Need-returns-2 (flush-calls t) (flush-at t) flush.Post
 flush-returns-2 t c =
-    let a = c .before .before .before .before .before .before .before .before .before .before .before .before .before .before .before .before .before .before .before .before .args in
-    let P = c .before .before .before .before .before .before .before .before .before .before .before .before .before .before .before .before .before .before .before .before .pre .1 in
+    let a = c .before .before .before .before .before .before .before .before .before .before .before .before .before .before .before .before .before .before .before .before .before .before .args in
+    let P = c .before .before .before .before .before .before .before .before .before .before .before .before .before .before .before .before .before .before .before .before .before .before .pre .1 in
     let g = rooms (a .level) (40 * a .m + 8) (32 * a .m) (length (a .s .now)) (P .1) (P .3) in
-    let Q = c .before .before .before .before .before .before .before .before .before .before .before .before .before .before .before .before .longest-pending-span .ensures in
-    let T = rw (c .before .before .before .before .before .before .before .before .before .before .before .before .move-span .ensures, c .before .before .before .before .before .before .before .before .before .before .before .before .before .before .child-at .ensures, c .before .refusal .given .1) at (c .before .before .before .before .before .before .before .insert-into .ensures) in
-    flush-fails (a .extent) (a .store .now) (a .c) (a .written) (a .level) (a .m) (a .n) (a .s .now) (P .0) (c .before .before .before .before .before .before .before .before .before .before .before .before .before .before .before .before .longest-pending-span .result) Q (omega (arith, P .2)) (omega arith) _ _ _ _ _ T
+    let Q = c .before .before .before .before .before .before .before .before .before .before .before .before .before .before .before .before .before .before .longest-pending-span .ensures in
+    let T = rw (c .before .before .before .before .before .before .before .before .before .before .before .before .move-span .ensures, c .before .before .before .before .before .before .before .before .before .before .before .before .before .before .before .before .child-at .ensures, c .before .refusal .given .1) at (c .before .before .before .before .before .before .before .insert-into .ensures) in
+    flush-fails (a .extent) (a .store .now) (a .c) (a .written) (a .level) (a .m) (a .n) (a .s .now) (P .0) (c .before .before .before .before .before .before .before .before .before .before .before .before .before .before .before .before .before .before .longest-pending-span .result) Q (omega (arith, P .2)) (omega arith) _ _ _ _ _ T
 
 insert-into-load-requires : (t : ℕ) → insert-into-lts.Need-load-requires (insert-into-calls t) (insert-into-at t) insert-into.Post
 insert-into-load-requires t c κs = search needs
@@ -518,6 +520,8 @@ pub +drain+flush+insert-into-spec : {M : Type 1} → statement M
       longest-pending-span-reads.Learnt,
       child-at-reads.Asked,
       child-at-reads.Learnt,
+      open-at-reads.Asked,
+      open-at-reads.Learnt,
       move-span-reads.Asked,
       move-span-reads.Learnt,
       insert-into-below t,
@@ -529,6 +533,8 @@ pub +drain+flush+insert-into-spec : {M : Type 1} → statement M
     flush.Post
     (flush-longest-pending-span-requires t)
     (flush-child-at-requires t)
+    (flush-sub-lower t)
+    (flush-open-at-requires t)
     (flush-mul-own t)
     (flush-add-own t)
     (flush-mul-move-span t)
@@ -536,16 +542,15 @@ pub +drain+flush+insert-into-spec : {M : Type 1} → statement M
     (flush-sub-move-span t)
     (flush-move-span-requires t)
     (flush-sub-insert-into t)
-    (flush-sub-insert-into-2 t)
     (flush-part-insert-into-start t)
     (flush-part-insert-into-end t)
-    (flush-sub-insert-into-3 t)
+    (flush-sub-insert-into-2 t)
     (flush-insert-into-requires t)
     (flush-enum-known-datoms t)
     (flush-splice-requires t)
-    (flush-sub-t38 t)
-    (flush-sub-t39 t)
-    (flush-add-t40 t)
+    (flush-sub-t42 t)
+    (flush-sub-t43 t)
+    (flush-add-t44 t)
     (flush-enum-known-refusal t)
     (flush-same-length t)
     (flush-same-length-2 t)

@@ -1,10 +1,10 @@
--- `read_at` meets its contract: what the reader tells, at the level asked for. Assumes nothing.
+-- `open_at` meets its contract: what the reader tells, at the level asked for. Assumes nothing.
 use mathlib.Core.Path.{sym, _∙_, ap}
 use Rattle.memory_store.specs.Reading.{told}
-use Rattle.lookup.specs.Steps.{open-faulty, open-other, open-node}
+use Rattle.memory_store.specs.Opened.{open-faulty, open-other, open-node}
 use borrow.Author.Needs.{needs}
-use Rattle.lookup.proofs.read_at.Statement.{statement}
-use Rattle.lookup.proofs.read_at.Tie as tie
+use Rattle.memory_store.proofs.found.open_at.Statement.{statement}
+use Rattle.memory_store.proofs.found.open_at.Tie as tie
 
 node-at-requires : tie.Need-node-at-requires
 node-at-requires c κs = search needs
@@ -33,6 +33,6 @@ returns-3 c =
     let e = ap (told (a .extent) (a .store .now) (a .page)) (c .before .before .l .given .1) in
     open-node (a .extent) (a .store .now) (a .page) _ _ (sym e ∙ c .before .before .before .before .node-at .ensures) (a .level) (c .if1 .left)
 
-pub read-at-spec : {M : Type 1} → statement M
-read-at-spec =
+pub open-at-spec : {M : Type 1} → statement M
+open-at-spec =
     tie.close (tie.spec node-at-requires enum-known-l enum-told returns returns-2 returns-3)

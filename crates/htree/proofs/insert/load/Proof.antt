@@ -3,11 +3,9 @@ use native.Mathlib.Nat.{add-sub-cancel-left}
 use native.Mathlib.Omega.{arith}
 use mathlib.Core.Path.{sym, _∙_}
 use lib.ListN.{length-take, length-drop}
-use Rattle.store.specs.Laws.{Known}
 use Rattle.rules.specs.Store.{pageAt}
-use Rattle.memory_store.specs.FetchLaws.{InOrder, in-order, page-inside}
-use Rattle.memory_store.specs.Readable.{Opens}
-use Rattle.node.specs.Merge.{Merges, is-whole, is-met}
+use Rattle.memory_store.specs.FetchLaws.{in-order, page-inside}
+use Rattle.node.specs.Merge.{is-whole, is-met}
 use Rattle.htree.specs.Load.{load-damaged, load-opens, load-met, load-whole}
 use borrow.Author.Needs.{needs}
 use Rattle.htree.proofs.insert.load.Statement.{statement}

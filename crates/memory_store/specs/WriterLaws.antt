@@ -1,58 +1,60 @@
--- A page built by three stores into zeros is the encoding of the node whose bytes they are.
+-- A page laid down by three stores, each with zeros behind it, is the encoding of the node whose bytes they are.
 use Prim.Native.Nat.{ℕ, zero, suc, _+_, _-_, _*_, _<_, _≤_}
-use native.Mathlib.Nat.{mul-zero, mul-suc, sub-zero, zero-sub, suc-sub-suc}
+use native.Mathlib.Nat.{mul-zero, mul-suc}
+use native.Mathlib.Numerals.{add-one}
 use native.Mathlib.Omega.{arith}
 use mathlib.Core.List.{List, [], _∷_, _++_, append-assoc}
-use mathlib.Core.Path.{_≡_, refl, sym, ap, _∙_}
-use lib.ListN.{length, take, drop, getD, length-append, length-replicate, replicate-append-replicate, length-drop}
-use lib.Seq.{drop-drop, take-at, drop-at, length-take-le, take-add, getD-drop}
+use mathlib.Core.Path.{_≡_, ap, _∙_}
+use lib.ListN.{length, take, drop, getD, set, length-append, length-replicate, replicate-append-replicate, length-drop}
+use lib.Seq.{drop-drop, length-take-le, take-add, getD-drop, set-split}
 use Rattle.store.specs.Words.{cells, spread, zeros, pad, patch}
 use Rattle.store.specs.Page.{pageOf, pageBytes}
 use Rattle.store.specs.Laws.{bytes-little, pad-length, cells-length}
-use Rattle.store.specs.Cells.{cells-drop, cells-take}
+use Rattle.store.specs.Cells.{patch-none, patch-length, patch-patch, cells-drop, cells-take}
 use Rattle.datom.specs.Datom.{datomOf, datomBytes, datomsOf}
 use Rattle.datom.specs.Laws.{bytes-back}
 use Rattle.rules.specs.Page.{childrenOf, nodeOf, encodePage}
 use Rattle.rules.specs.Node.{partOf}
 
 -- zeros
-drop-zeros : (n k : ℕ) → drop k (zeros n) ≡ zeros (n - k)
-drop-zeros n zero = ap zeros (sym (sub-zero n))
-drop-zeros zero (suc k) = ap zeros (sym (zero-sub (suc k)))
-drop-zeros (suc n) (suc k) = drop-zeros n k ∙ ap zeros (sym (suc-sub-suc n k))
+zeros-length : (n : ℕ) → length (zeros n) ≡ n
+zeros-length n = length-replicate {A = ℕ} n 0
 
 zeros-more : (n m : ℕ) → zeros n ++ zeros m ≡ zeros (n + m)
 zeros-more n m = replicate-append-replicate {A = ℕ} n m 0
 
--- a store behind a padded list
-pad-put : (n at : ℕ) (p q : List ℕ) → length p ≤ at → at + length q ≤ n → patch (pad n p) at q ≡ pad n (pad at p ++ q)
-unfolding pad patch
-pad-put n at p q h l =
-    let z = at - length p in
-    let e : n - length p ≡ z + (n - at) = omega arith in
-    let s : zeros (n - length p) ≡ zeros z ++ zeros (n - at) = ap zeros e ∙ sym (zeros-more z (n - at)) in
-    let f : p ++ zeros (n - length p) ≡ (p ++ zeros z) ++ zeros (n - at) = ap (λ (t : List ℕ). p ++ t) s ∙ sym (append-assoc p _ _) in
-    let k : length (p ++ zeros z) ≡ at = simp (length-append, length-replicate) (omega arith) in
-    let k₂ : length ((p ++ zeros z) ++ q) ≡ at + length q = rw length-append (omega (arith, k)) in
-    let g : n - at - length q ≡ n - length ((p ++ zeros z) ++ q) = omega (arith, k₂) in
-    let t : drop (at + length q) ((p ++ zeros z) ++ zeros (n - at)) ≡ zeros (n - length ((p ++ zeros z) ++ q)) =
-    sym (drop-drop (length q) at _) ∙ ap (drop (length q)) (drop-at (p ++ zeros z) _ at k) ∙ drop-zeros (n - at) (length q) ∙ ap zeros g in
-    rw (f, take-at (p ++ zeros z) (zeros (n - at)) at k, t)
+-- a byte stored is a store of one byte
+set-one : (s : List ℕ) (i v : ℕ) → i < length s → set s i v ≡ patch s i (v ∷ [])
+unfolding patch
+set-one s i v h = rw (append-assoc, add-one) (set-split s i v h)
+
+-- no byte cleared yet, and one more
+pub cleared-none : (s : List ℕ) (at : ℕ) → s ≡ patch s at (zeros (at - at))
+cleared-none s at = let e : at - at ≡ 0 = omega arith in rw (e, patch-none s at)
+
+pub cleared : (s : List ℕ) (at i : ℕ) → at ≤ i → i < length s → set (patch s at (zeros (i - at))) i 0 ≡ patch s at (zeros (i + 1 - at))
+cleared s at i h l =
+    let z = zeros (i - at) in
+    let k : at + length z ≡ i = omega (arith, zeros-length (i - at)) in
+    let n : length (patch s at z) ≡ length s = patch-length s at z (omega arith) in
+    let e : i - at + 1 ≡ i + 1 - at = omega arith in
+    set-one (patch s at z) i 0 (omega arith) ∙ rw k at (patch-patch s at z (zeros 1) (omega arith))
+    ∙ ap (patch s at) (zeros-more (i - at) 1 ∙ ap zeros e)
+
+-- bytes, and zeros behind them
+pub padded :
+    (s : List ℕ) (at room : ℕ) (p : List ℕ) → length p ≤ room → at + room ≤ length s →
+    patch (patch s at p) (at + length p) (zeros (at + room - (at + length p))) ≡ patch s at (pad room p)
+unfolding pad
+padded s at room p h l =
+    let e : at + room - (at + length p) ≡ room - length p = omega arith in
+    rw e (patch-patch s at p (zeros (room - length p)) (omega (arith, zeros-length (room - length p))))
 
 pad-append : (n m : ℕ) (p q : List ℕ) → length p ≡ n → pad (n + m) (p ++ q) ≡ p ++ pad m q
 unfolding pad
 pad-append n m p q e =
     let k : n + m - length (p ++ q) ≡ m - length q = omega (arith, length-append p q) in
     rw (k, append-assoc)
-
--- the front of a padded list is the list padded less
-take-pad : (n m : ℕ) (p : List ℕ) → length p ≤ n → n ≤ m → take n (pad m p) ≡ pad n p
-unfolding pad
-take-pad n m p h l =
-    let e : m - length p ≡ n - length p + (m - n) = omega arith in
-    let s : p ++ zeros (m - length p) ≡ (p ++ zeros (n - length p)) ++ zeros (m - n) =
-    ap (λ (t : List ℕ). p ++ t) (ap zeros e ∙ sym (zeros-more (n - length p) (m - n))) ∙ sym (append-assoc p _ _) in
-    rw s (take-at (p ++ zeros (n - length p)) _ n (simp (length-append, length-replicate) (omega arith)))
 
 -- bytes decoded and encoded again
 abbrev Bytes : List ℕ → Type 0
@@ -89,40 +91,33 @@ cells-part : {A : Type 0} (f : List ℕ → A) (w n i a : ℕ) (s : List ℕ) �
 cells-part f w n i a s h =
     rw (cells-drop f w n i s (omega arith), cells-take f w (n - i) a (drop (w * i) s) (omega arith))
 
-none : (n : ℕ) → zeros n ≡ pad n []
-unfolding pad
-none n = ap zeros (sym (sub-zero n))
-
-front : (d : List ℕ) → pad 0 [] ++ d ≡ d
-unfolding pad
-front d = refl
-
--- what is laid into zeros by three stores
+-- what three stores lay down
 made :
-    (size c l a : ℕ) (d w : List ℕ) → 40 * c + 10 ≤ size → length d ≤ 32 * c → length w ≤ 8 * c + 8 →
-    patch (patch (patch (zeros size) 0 d) (32 * c) w) (40 * c + 8) (l ∷ a ∷ [])
-    ≡ pad size (pad (32 * c) d ++ (pad (8 * c + 8) w ++ (l ∷ a ∷ [])))
-made size c l a d w h hd hw =
-    let e₀ : zeros size ≡ pad size [] = none size in
-    let e₁ : patch (pad size []) 0 d ≡ pad size (pad 0 [] ++ d) = pad-put size 0 [] d (omega arith) (omega arith) in
-    let e₂ = pad-put size (32 * c) d w hd (omega arith) in
-    let k : length (pad (32 * c) d ++ w) ≡ 32 * c + length w = rw (length-append, pad-length (32 * c) d hd) in
-    let e₃ = pad-put size (40 * c + 8) (pad (32 * c) d ++ w) (l ∷ a ∷ []) (omega arith) (omega arith) in
-    let f : 40 * c + 8 ≡ 32 * c + (8 * c + 8) = omega arith in
-    let e₄ : pad (40 * c + 8) (pad (32 * c) d ++ w) ≡ pad (32 * c) d ++ pad (8 * c + 8) w =
-    ap (λ (j : ℕ). pad j (pad (32 * c) d ++ w)) f ∙ pad-append (32 * c) (8 * c + 8) (pad (32 * c) d) w (pad-length (32 * c) d hd) in
-    rw (e₀, e₁, front d, e₂, e₃, e₄) (ap (pad size) (append-assoc (pad (32 * c) d) (pad (8 * c + 8) w) (l ∷ a ∷ [])))
+    (f : List ℕ) (at size c l a : ℕ) (d w : List ℕ) → 40 * c + 10 ≤ size → at + size ≤ length f → length d ≤ 32 * c → length w ≤ 8 * c + 8 →
+    patch (patch (patch f at (pad (32 * c) d)) (at + 32 * c) (pad (8 * c + 8) w)) (at + (40 * c + 8)) (pad (size - (40 * c + 8)) (l ∷ a ∷ []))
+    ≡ patch f at (pad size (pad (32 * c) d ++ (pad (8 * c + 8) w ++ (l ∷ a ∷ []))))
+made f at size c l a d w h hf hd hw =
+    let p = pad (32 * c) d in
+    let q = pad (8 * c + 8) w in
+    let r = pad (size - (40 * c + 8)) (l ∷ a ∷ []) in
+    let kp : length p ≡ 32 * c = pad-length (32 * c) d hd in
+    let kq : length q ≡ 8 * c + 8 = pad-length (8 * c + 8) w hw in
+    let kr : length r ≡ size - (40 * c + 8) = pad-length (size - (40 * c + 8)) (l ∷ a ∷ []) (omega arith) in
+    let k : length (p ++ q) ≡ 40 * c + 8 = rw length-append (omega arith) in
+    let e₁ : patch (patch f at p) (at + 32 * c) q ≡ patch f at (p ++ q) = rw kp at (patch-patch f at p q (omega arith)) in
+    let e₂ : patch (patch f at (p ++ q)) (at + (40 * c + 8)) r ≡ patch f at ((p ++ q) ++ r) = rw k at (patch-patch f at (p ++ q) r (omega arith)) in
+    let s : 40 * c + 8 + (size - (40 * c + 8)) ≡ size = omega arith in
+    let e₃ : pad size ((p ++ q) ++ (l ∷ a ∷ [])) ≡ (p ++ q) ++ r = rw s at (pad-append (40 * c + 8) (size - (40 * c + 8)) (p ++ q) (l ∷ a ∷ []) k) in
+    rw (e₁, e₂, ← e₃, append-assoc p q (l ∷ a ∷ []))
 
-module _ (area : List ℕ) (b : Bytes area) (most size c l m n i a : ℕ) where
-  -- with room for `most` bytes aside, of which the page takes `size`
+module _ (free area : List ℕ) (b : Bytes area) (at size c l m n i a : ℕ) where
   pub page-made :
-      40 * c + 10 ≤ size → size ≤ most → 40 * m + 8 ≤ length area → n ≤ m → i + a ≤ n → a ≤ c →
-      take size
-      (patch (patch (patch (zeros most) 0 (take (32 * a) (drop (32 * i) area))) (32 * c) (take (8 * a + 8) (drop (32 * m + 8 * i) area))) (40 * c + 8)
-      (l ∷ a ∷ []))
-      ≡ encodePage size c (partOf i a (nodeOf m l n area))
+      40 * c + 10 ≤ size → at + size ≤ length free → 40 * m + 8 ≤ length area → n ≤ m → i + a ≤ n → a ≤ c →
+      patch (patch (patch free at (pad (32 * c) (take (32 * a) (drop (32 * i) area)))) (at + 32 * c) (pad (8 * c + 8) (take (8 * a + 8) (drop (32 * m + 8 * i) area))))
+      (at + (40 * c + 8)) (pad (size - (40 * c + 8)) (l ∷ a ∷ []))
+      ≡ patch free at (encodePage size c (partOf i a (nodeOf m l n area)))
   unfolding encodePage partOf nodeOf
-  page-made hs hm ha hn hi hc =
+  page-made hs hf ha hn hi hc =
       let d = take (32 * a) (drop (32 * i) area) in
       let w = take (8 * a + 8) (drop (32 * m + 8 * i) area) in
       let ld : length d ≡ 32 * a = length-take-le (32 * a) (drop (32 * i) area) (simp length-drop (omega arith)) in
@@ -136,8 +131,4 @@ module _ (area : List ℕ) (b : Bytes area) (most size c l m n i a : ℕ) where
       all-back pageOf pageBytes 8 page-back (suc a) (drop (8 * i) (drop (32 * m) area)) (bytes-drop (8 * i) _ (bytes-drop (32 * m) area b))
       (simp length-drop (omega arith))
       ∙ rw (mul-suc, drop-drop) in
-      let body = pad (32 * c) d ++ (pad (8 * c + 8) w ++ (l ∷ a ∷ [])) in
-      let lb : length body ≡ 40 * c + 10 =
-      simp (length-append, pad-length (32 * c) d (omega arith), pad-length (8 * c + 8) w (omega arith)) (omega arith) in
-      rw (pd, pw, cells-length datomOf 32 a (drop (32 * i) area), sd, sw)
-      (ap (take size) (made most c l a d w (omega arith) (omega arith) (omega arith)) ∙ take-pad size most body (omega arith) hm)
+      rw (pd, pw, cells-length datomOf 32 a (drop (32 * i) area), sd, sw) (made free at size c l a d w hs hf (omega arith) (omega arith))

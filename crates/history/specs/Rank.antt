@@ -1,6 +1,6 @@
 -- How many datoms of a page pass a test, and the first that does not: where a path goes on, and where a listing stands. Rests on the
 -- order's laws.
-use Prim.Native.Nat.{ℕ, zero, suc, _≤_, _<_, zero-le, suc-le-suc, Ordering, Ordering·lt}
+use Prim.Native.Nat.{ℕ, zero, suc, _<_, zero-le, suc-le-suc, Ordering, Ordering·lt}
 use mathlib.Core.Bool.{Bool, true, false}
 use mathlib.Core.List.{List, [], _∷_}
 use mathlib.Core.Logic.{inl, inr}
@@ -35,15 +35,6 @@ stop-fails p y (d ∷ ds) h = side (p d) refl (stop-fails p y ds)
     side : (b : Bool) → p d ≡ b → (Stop p ds y → p y ≡ false) → p y ≡ false
     side true e ih = ih (rw (e, rankBy) at h)
     side false e ih = let k : y ≡ d = rw (e, rankBy) at h in rw k e
-
-pub rank-le : (p : Datom → Bool) (ds : List Datom) → rankBy p ds ≤ length ds
-unfolding rankBy
-rank-le p [] = zero-le
-rank-le p (d ∷ ds) = side (p d) refl (rank-le p ds)
-  where
-    side : (b : Bool) → p d ≡ b → rankBy p ds ≤ length ds → rankBy p (d ∷ ds) ≤ suc (length ds)
-    side true e ih = rw (e, rankBy) (suc-le-suc ih)
-    side false e ih = rw (e, rankBy) zero-le
 
 pub stop-short : (p : Datom → Bool) (x : Datom) (ds : List Datom) → Stop p ds x → rankBy p ds < length ds
 unfolding rankBy

@@ -16,9 +16,9 @@ use Rattle.rules.specs.Page.{Node}
 use Rattle.rules.specs.Node.{rankBy, isMidpoint, nextMidpoint}
 use Rattle.rules.specs.Tree.{Fetched, faulty, fine, atLevel}
 use Rattle.rules.specs.Listing.{Path, path, longer, pathBy, never, Open, frameOf, opened, openOne, openFrames, Least, noneLeft, least, after, taking, choose, leastOf}
-use Rattle.rules.specs.Lists.{Rising, turned}
+use Rattle.rules.specs.Lists.{Rising, turned, rank-most}
 use Rattle.history.specs.Order.{clash, is-true, upTo, Front, AtMost, not-both, up-false, up-true, one-way, not-self, lower}
-use Rattle.history.specs.Rank.{Head, head-in, Stop, stop-fails, rank-le, stop-short, rank-agree, rank-next, own-cover}
+use Rattle.history.specs.Rank.{Head, head-in, Stop, stop-fails, stop-short, rank-agree, rank-next, own-cover}
 use Rattle.history.specs.Tree.{Tree, blank, last, item, InTree, own, Good, own-in, own-rising}
 use Rattle.history.specs.Pages.{page, Holds, hLast, hItem, Stored, holds-own, holds-lengths, child-real}
 use Rattle.history.specs.Child.{childBy, firstChild, nextChild, childAt, child-stored, child-leaf, or-in, first-in, child-in, child-good, cover}
@@ -55,7 +55,7 @@ module _ (f : PageId → Fetched) (p : Datom → Bool) where
   pub along : (l : ℕ) (q : PageId) (n : Node) (t : Tree) → Holds f (page l (n .datoms) (n .children)) t → Along f p l q n
   unfolding opensBy pathBy openFrames openOne
   along zero q n t h =
-      record { long = refl; way = refl; opens = λ e. rw (e, le-leb (rankBy p (n .datoms)) (length (n .datoms)) (rank-le p (n .datoms))) }
+      record { long = refl; way = refl; opens = λ e. rw (e, le-leb (rankBy p (n .datoms)) (length (n .datoms)) (rank-most p (n .datoms))) }
   along (suc l) q n t h = more (along l (down p n) (s .node) (childBy p t) (s .holds))
     where
       s : Stored f l (down p n) (childBy p t)
@@ -69,7 +69,7 @@ module _ (f : PageId → Fetched) (p : Datom → Bool) where
             opens = λ e.
                 let os = opensBy f p l (down p n) (fine (s .node)) in
                 let k : length (map frameOf os) ≡ suc l = length-map os frameOf ∙ a .long in
-                rw (s .read, k, e, le-leb (rankBy p (n .datoms)) (length (n .datoms)) (rank-le p (n .datoms)), a .opens (s .read));
+                rw (s .read, k, e, le-leb (rankBy p (n .datoms)) (length (n .datoms)) (rank-most p (n .datoms)), a .opens (s .read));
           }
 
 -- only what the test says of the tree's datoms counts

@@ -20,12 +20,11 @@ use Rattle.index.specs.Laws.{eavt-preorder}
 use Rattle.answer.specs.declared.NextMidpoint.the-variants.{Child}
 use Rattle.rules.specs.Page.{rising}
 use Rattle.rules.specs.Node.{rankBy, rank, headSame}
-use Rattle.rules.specs.Lists.{In, Rising, less, turned, rising-in}
+use Rattle.rules.specs.Lists.{In, Rising, less, turned, rising-in, rank-most}
 use Rattle.rules.specs.Tree.{fine}
 use Rattle.rules.specs.Lookup.{Finding, lookupAll}
 use Rattle.rules.specs.Store.{pageAt, fetchPage, envOf}
 use Rattle.memory_store.specs.Readable.{nodeAt}
-use Rattle.memory_store.specs.RankLaws.{rank-most}
 use Rattle.lookup.specs.declared.gap.Gap.{Gap}
 use Rattle.lookup.specs.declared.gap.Gap.the-variants.{Open, Below}
 use Rattle.lookup.specs.declared.Look.{Look}

@@ -14,18 +14,9 @@ use Rattle.index.specs.Order.{isLess, cmpEavt}
 use Rattle.index.specs.Laws.{Preorder, eavt-preorder}
 use Rattle.rules.specs.Page.{rising}
 use Rattle.rules.specs.Node.{rankBy, below, rank}
-use Rattle.rules.specs.Lists.{in-getD, Rising, less, rising-in}
+use Rattle.rules.specs.Lists.{in-getD, Rising, less, rising-in, rank-most}
 
 module _ (p : Datom → Bool) where
-  pub rank-most : (xs : List Datom) → rankBy p xs ≤ length xs
-  unfolding rankBy
-  rank-most [] = zero-le
-  rank-most (x ∷ xs) = side (p x) refl (rank-most xs)
-    where
-      side : (b : Bool) → p x ≡ b → rankBy p xs ≤ length xs → rankBy p (x ∷ xs) ≤ suc (length xs)
-      side true e h = rw (e, rankBy) (suc-le-suc h)
-      side false e h = rw (e, rankBy) zero-le
-
   -- it fails no later than where it fails
   pub rank-upto : (xs : List Datom) (i : ℕ) (d : Datom) → i < length xs → p (getD xs i d) ≡ false → rankBy p xs ≤ i
   unfolding rankBy

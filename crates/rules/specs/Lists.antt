@@ -1,7 +1,7 @@
 -- Lists of datoms: membership, and rising as a fact about every later datom; from the rules' tests to these and back.
-use Prim.Native.Nat.{ℕ, zero, suc, _<_, Ordering, Ordering·lt, Ordering·eq, Ordering·gt}
+use Prim.Native.Nat.{ℕ, zero, suc, _<_, _≤_, zero-le, suc-le-suc, Ordering, Ordering·lt, Ordering·eq, Ordering·gt}
 use native.Mathlib.Omega.{arith}
-use mathlib.Core.Bool.{Bool, true}
+use mathlib.Core.Bool.{Bool, true, false}
 use mathlib.Core.List.{List, [], _∷_, _++_}
 use mathlib.Core.Logic.{_⊎_, inl, inr}
 use mathlib.Core.Path.{_≡_, refl, _∙_, ap}
@@ -11,6 +11,7 @@ use Rattle.datom.specs.declared.Datom.{Datom}
 use Rattle.index.specs.Order.{isLess}
 use Rattle.index.specs.Laws.{flipped, Preorder}
 use Rattle.rules.specs.Page.{all, above, rising}
+use Rattle.rules.specs.Node.{rankBy}
 
 -- x stands in the list
 abbrev pub In : {A : Type 0} → A → List A → Type 0
@@ -98,3 +99,13 @@ module _ (cmp : Datom → Datom → Ordering) (L : Preorder cmp) where
       (d x : Datom) (xs : List Datom) → cmp d x ≡ Ordering·lt → Rising cmp (x ∷ xs) → (y : Datom) → In y (x ∷ xs) → cmp d y ≡ Ordering·lt
   below-all d x xs e r y (inl i) = rw i e
   below-all d x xs e r y (inr i) = L .trans d x y e (r .0 y i)
+
+-- no more datoms at the front pass a test than there are
+pub rank-most : (p : Datom → Bool) (ds : List Datom) → rankBy p ds ≤ length ds
+unfolding rankBy
+rank-most p [] = zero-le
+rank-most p (d ∷ ds) = side (p d) refl (rank-most p ds)
+  where
+    side : (b : Bool) → p d ≡ b → rankBy p ds ≤ length ds → rankBy p (d ∷ ds) ≤ suc (length ds)
+    side true e h = rw (e, rankBy) (suc-le-suc h)
+    side false e h = rw (e, rankBy) zero-le

@@ -3,8 +3,6 @@ pub mod Moves
 pub mod Stores
 pub mod Spans
 pub mod Merge
-pub mod Runs
-pub mod Pushes
 pub mod Turns
 pub mod Splice
 pub mod Frames

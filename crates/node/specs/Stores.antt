@@ -17,17 +17,17 @@ use Rattle.rules.specs.Page.{childrenOf}
 module _ (m p : ℕ) (s : List ℕ) (room : 40 * m + 8 ≤ length s) where
   -- a datom's bytes at index p
   module _ (b : List ℕ) (wide : length b ≡ 32) (within : p < m) where
-    datom-front : datomsOf (p + 1) (patch s (32 * p) b) ≡ datomsOf p s ++ (datomOf b ∷ [])
+    pub datom-front : datomsOf (p + 1) (patch s (32 * p) b) ≡ datomsOf p s ++ (datomOf b ∷ [])
     datom-front = cells-push datomOf 32 p s b wide (omega arith)
 
-    datom-past : (at : ℕ) → 32 * (p + 1) ≤ at → at ≤ length s → drop at (patch s (32 * p) b) ≡ drop at s
+    pub datom-past : (at : ℕ) → 32 * (p + 1) ≤ at → at ≤ length s → drop at (patch s (32 * p) b) ≡ drop at s
     datom-past at h l = drop-patch-le s (32 * p) b at (omega arith) l
 
-    datom-rest : (n j : ℕ) → p < j → j ≤ n → n ≤ m → drop j (datomsOf n (patch s (32 * p) b)) ≡ drop j (datomsOf n s)
+    pub datom-rest : (n j : ℕ) → p < j → j ≤ n → n ≤ m → drop j (datomsOf n (patch s (32 * p) b)) ≡ drop j (datomsOf n s)
     datom-rest n j h k l =
         rw (cells-drop datomOf 32 n j (patch s (32 * p) b) k, cells-drop datomOf 32 n j s k, datom-past (32 * j) (omega arith) (omega arith))
 
-    datom-children : (t : ℕ) → childrenOf m t (patch s (32 * p) b) ≡ childrenOf m t s
+    pub datom-children : (t : ℕ) → childrenOf m t (patch s (32 * p) b) ≡ childrenOf m t s
     datom-children t = ap (cells pageOf 8 t) (datom-past (32 * m) (omega arith) (omega arith))
 
   -- the datom at index i, at index p
@@ -58,7 +58,7 @@ module _ (m p : ℕ) (s : List ℕ) (room : 40 * m + 8 ≤ length s) where
         ∙ cells-push pageOf 8 p (drop (32 * m) s) (pageBytes id) (page-length id) (simp length-drop (omega arith))
         ∙ ap (λ (x : PageId). childrenOf m p s ++ (x ∷ [])) (page-back id small)
 
-    child-past : (at : ℕ) → 32 * m + 8 * (p + 1) ≤ at → at ≤ length s → drop at after ≡ drop at s
+    pub child-past : (at : ℕ) → 32 * m + 8 * (p + 1) ≤ at → at ≤ length s → drop at after ≡ drop at s
     child-past at h l = drop-patch-le s (32 * m + 8 * p) (pageBytes id) at (omega (arith, page-length id)) l
 
     pub child-rest : (t j : ℕ) → p < j → j ≤ t → t ≤ m + 1 → drop j (childrenOf m t after) ≡ drop j (childrenOf m t s)

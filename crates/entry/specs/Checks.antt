@@ -1,6 +1,6 @@
 -- The refusals before anything is written, one after another, as the entries find them.
 use Prim.Native.Nat.{ℕ, suc, _*_, _≤_, _<_}
-use mathlib.Core.Bool.{Bool, true, false, cond}
+use mathlib.Core.Bool.{Bool, true, false}
 use mathlib.Core.List.{List, [], _∷_}
 use mathlib.Core.Logic.{inl, inr}
 use mathlib.Core.Path.{_≡_, refl, sym, _∙_, ap}
@@ -23,7 +23,7 @@ use Rattle.rules.specs.Store.{orElse, badStore, badScratch, badRoot, fetchPage,
 use Rattle.rules.specs.Insert.{Outcome, refuse, storeFault, countFault, formFault, lowFault, orderFault, twinFault, rootFault, sort, writeFresh, insertAt, insertUnder, insert, initialise, bytesFault, batchOf, insertBytes, initialiseBytes}
 use Rattle.batch.specs.declared.Count.{Count}
 use Rattle.batch.specs.declared.Count.the-variants.{Datoms, Refused}
-use Rattle.batch.specs.Finding.{counted, Given, given-count, refused-count}
+use Rattle.batch.specs.Finding.{counted, given-count, refused-count}
 
 -- 1 and 2, or how many datoms
 unfoldable pub countFor : Extent → List ℕ → ℕ → List ℕ → Count

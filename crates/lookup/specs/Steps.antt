@@ -5,33 +5,28 @@ use native.Mathlib.Omega.{arith}
 use mathlib.Core.Bool.{Bool, true, false}
 use mathlib.Core.List.{List, [], _∷_}
 use mathlib.Core.Path.{_≡_, refl, sym, ap, _∙_}
-use borrow.Author.Tests.{eqb-true, eq-eqb, ne-eqb, le-ltb}
-use lib.Dec.{eqb}
-use lib.ListN.{length, drop}
+use borrow.Author.Tests.{le-ltb}
+use lib.ListN.{drop}
 use Rattle.store.specs.declared.PageId.{PageId}
 use Rattle.store.specs.declared.Extent.{Extent}
 use Rattle.store.specs.Page.{none, isNone}
 use Rattle.store.specs.Size.{capacity}
-use Rattle.store.specs.Laws.{apart, cells-length}
+use Rattle.store.specs.Laws.{apart}
 use Rattle.store.specs.Cells.{cells-end}
 use Rattle.datom.specs.declared.Datom.{Datom}
 use Rattle.datom.specs.Datom.{datomAt, datomOf, datomsOf}
 use Rattle.datom.specs.Laws.{datoms-from}
 use Rattle.index.specs.Order.{isSame, cmpEavt, eavt}
-use Rattle.answer.specs.declared.Fault.{Fault}
 use Rattle.answer.specs.declared.Refusal.the-variants.{Repeated, Damaged}
 use Rattle.answer.specs.declared.NextMidpoint.{NextMidpoint}
 use Rattle.answer.specs.declared.NextMidpoint.the-variants.{Child, Nothing}
-use Rattle.rules.specs.Page.{childrenOf, Node, nodeOf, levelOf, countOf}
+use Rattle.rules.specs.Page.{childrenOf, nodeOf}
 use Rattle.rules.specs.Node.{rank, headSame, nextMidpoint}
 use Rattle.rules.specs.Tree.{Fetched, faulty, fine, Env, atLevel, fetchAt}
 use Rattle.rules.specs.Lookup as rules
 use Rattle.rules.specs.Lookup.{clear, found, lookup, afterLook, lookupAll}
 use Rattle.rules.specs.Store.{pageAt, fetchPage, envOf}
-use Rattle.rules.specs.Reads.{read-count, fetch-tells}
-use Rattle.memory_store.specs.declared.found.Found.the-variants.{Faulty, Fine}
-use Rattle.memory_store.specs.Reading.{told}
-use Rattle.memory_store.specs.Readable.{nodeAt, told-fine}
+use Rattle.memory_store.specs.Readable.{nodeAt}
 use Rattle.lookup.specs.declared.Look.the-variants.{Met, Absent, Lost}
 use Rattle.memory_store.specs.declared.found.Opened.the-variants as opened
 use Rattle.memory_store.specs.Opened.{openedOf, at-level}

@@ -1,13 +1,12 @@
 -- `insert_at` meets its contract: an unreadable root and what the lookup finds are refused, else the batch is written. Assumes nothing.
 use native.Mathlib.Omega.{arith}
-use mathlib.Core.Path.{_≡_, refl, sym, _∙_, ap}
+use mathlib.Core.Path.{refl, sym, _∙_, ap}
 use mathlib.Core.List.{[]}
 use Rattle.datom.specs.Datom.{datomsOf}
 use Rattle.memory_store.specs.Reading.{told}
 use Rattle.memory_store.specs.Readable.{told-faulty, told-fine}
 use Rattle.batch.specs.Finding.{findingOf}
-use Rattle.entry.specs.Checks.{Passed}
-use Rattle.entry.specs.Reply.{Replies, replies-refused, replies}
+use Rattle.entry.specs.Reply.{replies-refused, replies}
 use Rattle.entry.specs.Under.{at-bad, at-found, at-clear}
 use borrow.Author.Needs.{needs}
 use Rattle.entry.proofs.insert_at.Statement.{statement}

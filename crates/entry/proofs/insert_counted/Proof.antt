@@ -3,7 +3,7 @@ use native.Mathlib.Omega.{arith}
 use mathlib.Core.Path.{refl, sym, _∙_, ap}
 use mathlib.Core.List.{[]}
 use Rattle.batch.specs.Finding.{findingOf}
-use Rattle.entry.specs.Reply.{Replies, replies-refused, replies}
+use Rattle.entry.specs.Reply.{replies-refused, replies}
 use Rattle.entry.specs.Leaf.{fresh-is}
 use Rattle.entry.specs.Checks.{fault-rises, rest-found, rest-fresh, rest-missing, rest-at}
 use borrow.Author.Needs.{needs}

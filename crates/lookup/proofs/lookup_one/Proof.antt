@@ -1,8 +1,8 @@
 -- `lookup_one` meets its contract: the path from the page at hand ends where the whole path ends, and so do those of the gap. Assumes nothing.
 use native.Mathlib.Omega.{arith}
 use mathlib.Core.Path.{refl, sym, _∙_}
-use Rattle.memory_store.specs.Readable.{Opens, opens}
-use Rattle.lookup.specs.Gap.{Alike, met-leaves, lost-leaves}
+use Rattle.memory_store.specs.Readable.{opens}
+use Rattle.lookup.specs.Gap.{met-leaves, lost-leaves}
 use Rattle.lookup.specs.Steps.{next-real}
 use Rattle.lookup.specs.Path.{Going, gap-is, met-is, next-is, going-met, going-absent, going-free, going-stuck, going-lost, going-down}
 use borrow.Author.Needs.{needs}

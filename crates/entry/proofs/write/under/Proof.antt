@@ -1,14 +1,10 @@
 -- `under` meets its contract: the batch lies behind the area, and what comes back is the top. Assumes nothing.
-use mathlib.Core.Path.{_≡_}
 use native.Mathlib.Omega.{arith}
 use Prim.Native.Nat.{_+_, _*_}
-use Rattle.store.specs.Laws.{Known}
 use Rattle.datom.specs.Datom.{datomsOf}
-use Rattle.memory_store.specs.Readable.{Opens, opens}
+use Rattle.memory_store.specs.Readable.{opens}
 use Rattle.memory_store.specs.Opened.{node-opened}
-use Rattle.memory_store.specs.FetchLaws.{InOrder}
 use Rattle.htree.specs.Raise.{raise-stops, raise-ready, raise-few, raise-goes}
-use Rattle.entry.specs.Checks.{Passed}
 use Rattle.entry.specs.Scratch.{roomy-few, roomy-ready, roomy-small, roomy-area, roomy-node, roomy-areas}
 use Rattle.entry.specs.Leaf.{batch-put}
 use borrow.Author.Needs.{needs}

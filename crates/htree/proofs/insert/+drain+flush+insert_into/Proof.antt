@@ -6,10 +6,7 @@ use mathlib.Core.Path.{sym, _∙_}
 use borrow.Author.Tests.{not-true, not-false}
 use borrow.Author.Needs.{needs}
 use lib.ListN.{length, length-take, length-drop}
-use Rattle.node.specs.Spans.{Spans}
-use Rattle.node.specs.Splice.{Spliced}
-use Rattle.htree.specs.Told.{Ready}
-use Rattle.htree.specs.Cycle.{Drains, Rooms, rooms, area-fits, lower, drains-start, drains-ready, drains-length, drains-small, drains-sent, drains-none, drains-on, drains-stop, flush-fails, flush-back, flush-done, insert-bad, loads-few, insert-flat, insert-stops, went-ready, went-few, insert-goes}
+use Rattle.htree.specs.Cycle.{Drains, rooms, area-fits, lower, drains-start, drains-ready, drains-length, drains-small, drains-sent, drains-none, drains-on, drains-stop, flush-fails, flush-back, flush-done, insert-bad, loads-few, insert-flat, insert-stops, went-ready, went-few, insert-goes}
 use borrow.Fn.Kinds.{In}
 use borrow.Fn.PlainCycle.{Measures, is, falls, and}
 use Rattle.htree.proofs.insert.drain.Reads as drain

@@ -4,7 +4,7 @@ use native.Mathlib.Omega.{arith}
 use mathlib.Core.Bool.{Bool}
 use mathlib.Core.List.{List, [], _∷_}
 use mathlib.Core.Path.{_≡_, refl, sym, _∙_, ap}
-use borrow.Author.Tests.{eq-eqb, ne-eqb}
+use borrow.Author.Tests.{eq-eqb}
 use lib.ListN.{drop, set}
 use Rattle.store.specs.declared.PageId.{PageId}
 use Rattle.store.specs.declared.Extent.{Extent}
@@ -14,13 +14,12 @@ use Rattle.store.specs.Laws.{apart}
 use Rattle.datom.specs.declared.Datom.{Datom}
 use Rattle.datom.specs.Datom.{datomsOf}
 use Rattle.index.specs.Order.{cmpEavt, eavt}
-use Rattle.answer.specs.declared.Fault.{Fault}
 use Rattle.answer.specs.declared.NextMidpoint.{NextMidpoint}
 use Rattle.rules.specs.Page.{childrenOf, nodeOf}
 use Rattle.rules.specs.Node.{rankBy, rank, below, nextMidpoint}
-use Rattle.rules.specs.Tree.{Fetched, faulty, fine, atLevel}
+use Rattle.rules.specs.Tree.{Fetched, faulty, fine, atLevel, fetchAt}
 use Rattle.rules.specs.Lookup.{childOf}
-use Rattle.rules.specs.Store.{pageAt, fetchPage}
+use Rattle.rules.specs.Store.{pageAt, fetchPage, envOf}
 use Rattle.rules.specs.Listing.{Frame, Path, lostAt, path, longer, pathBy, never}
 use Rattle.listing.specs.declared.way.Way.{Way}
 use Rattle.listing.specs.declared.descent.Seek.{Seek}
@@ -30,7 +29,9 @@ use Rattle.listing.specs.declared.descent.Placed.the-variants as placed
 use Rattle.listing.specs.declared.descent.Descent.{Descent}
 use Rattle.listing.specs.declared.descent.End.the-variants.{Bottom, Lost}
 use Rattle.listing.specs.Way.{wayOf}
+use Rattle.memory_store.specs.declared.found.Opened.the-variants as opened
 use Rattle.memory_store.specs.Readable.{nodeAt}
+use Rattle.memory_store.specs.Opened.{openedOf}
 
 -- the datoms that are passed by
 unfoldable pub testOf : Seek → Datom → Bool
@@ -79,20 +80,20 @@ placedOf p l (faulty f) = placed.Lost
 placedOf p l (fine n) = placed.At (rankBy p (n .datoms)) (childFrom l (rankBy p (n .datoms)) (n .children))
 
 module _ (x : Extent) (s : List ℕ) (q : PageId) (p : Datom → Bool) (l : ℕ) where
-  pub place-faulty : (f : Fault) → fetchPage eavt x s q ≡ faulty f → placed.Lost ≡ placedOf p l (atLevel l (fetchPage eavt x s q))
-  unfolding placedOf atLevel
-  place-faulty f e = rw e
+  pub place-lost : opened.Damaged ≡ openedOf (fetchAt (envOf eavt x s) l q) → placed.Lost ≡ placedOf p l (atLevel l (fetchPage eavt x s q))
+  unfolding fetchAt envOf placedOf openedOf
+  place-lost e = side (atLevel l (fetchPage eavt x s q)) e
+    where
+      side : (r : Fetched) → opened.Damaged ≡ openedOf r → placed.Lost ≡ placedOf p l r
+      side (faulty f) u = refl
+      side (fine n) u = absurd (apart (cc))
 
-  module _ (m k : ℕ) (e : fetchPage eavt x s q ≡ fine (nodeAt x s q m k)) where
-    pub place-other : (m ≡ l → ⊥) → placed.Lost ≡ placedOf p l (atLevel l (fetchPage eavt x s q))
-    unfolding placedOf atLevel nodeOf
-    place-other h = rw (e, ne-eqb m l h)
-
-    pub place-at :
-        m ≡ l → (b : List ℕ) (c i : ℕ) (d : PageId) → b ≡ pageAt x s q → c ≡ capacity (x .size) → i ≡ rankBy p (datomsOf k b) →
-        d ≡ childFrom l i (childrenOf c (suc k) b) → placed.At i d ≡ placedOf p l (atLevel l (fetchPage eavt x s q))
-    unfolding placedOf atLevel nodeOf
-    place-at h b c i d u v y z = rw (e, eq-eqb m l h, z, y, u, v)
+  pub place-at :
+      (k : ℕ) → fetchPage eavt x s q ≡ fine (nodeAt x s q l k) →
+      (b : List ℕ) (c i : ℕ) (d : PageId) → b ≡ pageAt x s q → c ≡ capacity (x .size) → i ≡ rankBy p (datomsOf k b) →
+      d ≡ childFrom l i (childrenOf c (suc k) b) → placed.At i d ≡ placedOf p l (atLevel l (fetchPage eavt x s q))
+  unfolding placedOf atLevel nodeOf
+  place-at k e b c i d u v y z = rw (e, eq-eqb l l refl, z, y, u, v)
 
 -- a frame at its level, and all frames of a way from a level down
 abbrev pub putFrame : Way → ℕ → ℕ → PageId → Way

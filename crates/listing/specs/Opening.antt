@@ -5,24 +5,23 @@ use native.Mathlib.Omega.{arith}
 use mathlib.Core.Bool.{Bool, true, false}
 use mathlib.Core.List.{List}
 use mathlib.Core.Path.{_≡_, refl, sym, ap, _∙_}
-use borrow.Author.Tests.{eq-eqb, ne-eqb, eqb-true, leb-true, le-leb, lt-leb}
+use borrow.Author.Tests.{eqb-true, leb-true}
 use lib.Dec.{leb, eqb}
 use lib.ListN.{length, getD}
 use Rattle.store.specs.declared.PageId.{PageId}
 use Rattle.store.specs.declared.Extent.{Extent}
 use Rattle.store.specs.Page.{page}
-use Rattle.store.specs.Laws.{apart, cells-length}
-use Rattle.datom.specs.Datom.{datomOf}
+use Rattle.store.specs.Laws.{apart}
 use Rattle.index.specs.Order.{eavt}
-use Rattle.answer.specs.declared.Fault.{Fault}
-use Rattle.rules.specs.Page.{Node, nodeOf}
-use Rattle.rules.specs.Tree.{Fetched, faulty, fine, atLevel}
-use Rattle.rules.specs.Store.{pageAt, fetchPage}
+use Rattle.rules.specs.Page.{Node}
+use Rattle.rules.specs.Tree.{Fetched, faulty, fine, atLevel, fetchAt}
+use Rattle.rules.specs.Store.{fetchPage, envOf}
 use Rattle.rules.specs.Listing.{Frame, framesFrom, Opens, notOpen, opened, openOne, openFrames}
 use Rattle.listing.specs.declared.opening.Opening.{Opening}
 use Rattle.listing.specs.declared.opening.Opening.the-variants.{Open, Damaged}
 use Rattle.listing.specs.WayLaws.{frames-count}
-use Rattle.memory_store.specs.Readable.{nodeAt}
+use Rattle.memory_store.specs.declared.found.Opened.the-variants as found
+use Rattle.memory_store.specs.Opened.{openedOf}
 
 -- a page with no fewer datoms than the index
 unfoldable pub isOpen : ℕ → Fetched → Bool
@@ -33,26 +32,23 @@ unfoldable pub openingOf : Opens → Opening
 openingOf (notOpen q) = Damaged q
 openingOf (opened os) = Open
 
--- one page
+-- one page, by what it is opened as at its level
 module _ (x : Extent) (s : List ℕ) (q : PageId) (i l : ℕ) where
-  pub open-faulty : (f : Fault) → fetchPage eavt x s q ≡ faulty f → false ≡ isOpen i (atLevel l (fetchPage eavt x s q))
-  unfolding isOpen atLevel
-  open-faulty f e = rw e
+  pub open-lost : found.Damaged ≡ openedOf (fetchAt (envOf eavt x s) l q) → false ≡ isOpen i (atLevel l (fetchPage eavt x s q))
+  unfolding fetchAt envOf isOpen openedOf
+  open-lost e = side (atLevel l (fetchPage eavt x s q)) e
+    where
+      side : (r : Fetched) → found.Damaged ≡ openedOf r → false ≡ isOpen i r
+      side (faulty f) u = refl
+      side (fine n) u = absurd (apart (cc))
 
-  module _ (m k : ℕ) (e : fetchPage eavt x s q ≡ fine (nodeAt x s q m k)) where
-    pub open-other : (m ≡ l → ⊥) → false ≡ isOpen i (atLevel l (fetchPage eavt x s q))
-    unfolding isOpen atLevel nodeOf
-    open-other h = rw (e, ne-eqb m l h)
-
-    open-level : m ≡ l → isOpen i (atLevel l (fetchPage eavt x s q)) ≡ leb i k
-    unfolding isOpen atLevel nodeOf
-    open-level h = rw (e, eq-eqb m l h, cells-length datomOf 32 k (pageAt x s q))
-
-    pub open-past : m ≡ l → k < i → false ≡ isOpen i (atLevel l (fetchPage eavt x s q))
-    open-past h u = sym (open-level h ∙ lt-leb i k u)
-
-    pub open-here : m ≡ l → i ≤ k → true ≡ isOpen i (atLevel l (fetchPage eavt x s q))
-    open-here h u = sym (open-level h ∙ le-leb i k u)
+  pub open-node : (k : ℕ) → found.Node k ≡ openedOf (fetchAt (envOf eavt x s) l q) → isOpen i (atLevel l (fetchPage eavt x s q)) ≡ leb i k
+  unfolding fetchAt envOf isOpen openedOf
+  open-node k e = side (atLevel l (fetchPage eavt x s q)) e
+    where
+      side : (r : Fetched) → found.Node k ≡ openedOf r → isOpen i r ≡ leb i k
+      side (faulty f) u = absurd (apart (cc))
+      side (fine n) u = let w : k ≡ length (n .datoms) = cc in rw w
 
 -- all pages below a level
 abbrev pub openBelow : (PageId → Fetched) → ℕ → List ℕ → List PageId → Opening

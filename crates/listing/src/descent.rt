@@ -4,7 +4,8 @@ use crate::way::Way;
 use answer::NextMidpoint;
 use datom::Datom;
 use memory_store::access;
-use memory_store::found::Found;
+use memory_store::found;
+use memory_store::found::Opened;
 use store::Extent;
 use store::PageId;
 ghost use mathlib.Core.Bool.{true, false};
@@ -81,13 +82,9 @@ fn place_in(
     requires { ⌜ (badStore extent (now store) ≡ false) × (c ≡ capacity (extent .size)) ⌝ }
     ensures { λ r. ⌜ r ≡ placedOf (testOf seek) level (atLevel level (fetchPage eavt extent (now (store .entry)) page)) ⌝ }
 {
-    let Found::Fine { level: l, count: k } = memory_store::found::node_at(store, extent, c, page)
-    else {
+    let Opened::Node(k) = found::open_at(store, extent, c, level, page) else {
         return Placed::Lost;
     };
-    if l != level {
-        return Placed::Lost;
-    }
     let part = memory_store::fetch(store, extent, page);
     let index = index_in(part, k, seek);
     let child = child_from(part, level, c, k, index);

@@ -1,6 +1,7 @@
 // The begin pages of a cursor, from the top: whether each can be read at its level and its index is within the page.
 use answer::Cursor;
-use memory_store::found::Found;
+use memory_store::found;
+use memory_store::found::Opened;
 use store::Extent;
 use store::PageId;
 ghost use mathlib.Core.Bool.{false};
@@ -23,17 +24,10 @@ fn is_open(store: &[u8], extent: Extent, c: usize, level: usize, index: u64, pag
     requires { ⌜ (badStore extent (now store) ≡ false) × (c ≡ capacity (extent .size)) ⌝ }
     ensures { λ r. ⌜ r ≡ isOpen index (atLevel level (fetchPage eavt extent (now (store .entry)) page)) ⌝ }
 {
-    let Found::Fine { level: l, count: k } = memory_store::found::node_at(store, extent, c, page)
-    else {
+    let Opened::Node(k) = found::open_at(store, extent, c, level, page) else {
         return false;
     };
-    if l != level {
-        return false;
-    }
-    if (k as u64) < index {
-        return false;
-    }
-    true
+    index <= k as u64
 }
 
 // The first page from the top that is not open.

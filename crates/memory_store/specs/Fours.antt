@@ -15,17 +15,18 @@ use Rattle.store.specs.Laws.{apart}
 use Rattle.datom.specs.Value.{isInt, storedValue}
 use Rattle.datom.specs.Datom.{datomAt, datomsOf, storedDatom}
 use Rattle.datom.specs.Laws.{datoms-from}
-use Rattle.index.specs.Order.{cmpEavt}
+use Rattle.index.specs.Order.{isLess, cmpEavt}
 use Rattle.index.specs.Named.{less-named}
-use Rattle.index.specs.Ways.{less-entity}
+use Rattle.index.specs.Ways.{less-entity, less-attribute}
 use Rattle.rules.specs.Page.{all, rising, older}
 use Rattle.memory_store.specs.Steps.{all-on, rising-on, stored-word}
 
--- the entities of five datoms rise
+-- the datom at byte `at` is below the one behind it; so are four
+abbrev pub Rises : List ℕ → ℕ → Type 0
+Rises s at = isLess (cmpEavt (datomAt s at) (datomAt s (at + 32))) ≡ true
+
 abbrev pub FourRise : List ℕ → ℕ → Type 0
-FourRise s at =
-    (wordAt s at < wordAt s (at + 32)) × (wordAt s (at + 32) < wordAt s (at + 64)) × (wordAt s (at + 64) < wordAt s (at + 96))
-    × (wordAt s (at + 96) < wordAt s (at + 128))
+FourRise s at = Rises s at × Rises s (at + 32) × Rises s (at + 64) × Rises s (at + 96)
 
 -- the values of four datoms are integers
 abbrev pub FourIntegers : List ℕ → ℕ → Type 0
@@ -55,27 +56,36 @@ or-right a b = omega (arith, or-add-and a b, and-le-l a b)
 pub never : {A : Type 0} → false ≡ true → A
 never e = absurd (apart (cc))
 
+-- by the entity, and by the attribute where the entity is the same
+module _ (s : List ℕ) (at : ℕ) where
+  pub rises-entity : wordAt s at < wordAt s (at + 32) → Rises s at
+  unfolding datomAt
+  rises-entity h = less-named _ (sym (less-entity (datomAt s at) (datomAt s (at + 32)) h)) .0
+
+  pub rises-attribute : wordAt s at ≡ wordAt s (at + 32) → wordAt s (at + 8) < wordAt s (at + 40) → Rises s at
+  unfolding datomAt
+  rises-attribute e h =
+      let k : at + 32 + 8 ≡ at + 40 = omega arith in
+      less-named _ (sym (less-attribute (datomAt s at) (datomAt s (at + 32)) e (rw k h))) .0
+
 module _ (k : ℕ) (s : List ℕ) where
-  -- one datom further, by its words: it lies at byte a, the next one at byte b
-  plain-on :
-      (i j a b v : ℕ) → j ≡ i + 1 → a ≡ 32 * i → b ≡ 32 * i + 32 → v ≡ 32 * i + 16 → j < k → wordAt s a < wordAt s b → wordAt s v < 2 ^ 62 →
-      SameFrom k s i j
-  unfolding datomAt storedValue isInt
-  plain-on i j a b v e ea eb ev h l f =
-      let less = less-named _ (sym (less-entity (datomAt s (32 * i)) (datomAt s (32 * i + 32)) (rw (ea, eb) at l))) .0 in
+  -- one datom further: it lies at byte a, its value at byte v
+  plain-on : (i j a v : ℕ) → j ≡ i + 1 → a ≡ 32 * i → v ≡ 32 * i + 16 → j < k → Rises s a → wordAt s v < 2 ^ 62 → SameFrom k s i j
+  unfolding storedValue isInt
+  plain-on i j a v e ea ev h l f =
       let stored : storedValue (record { 0 = wordAt s (32 * i + 16) }) ≡ true = rw (lt-ltb _ _ (rw ev at f)) in
       rw e (
         all-on storedDatom (datoms-from k i s (omega arith)) (stored-word s (32 * i) true stored),
-        rising-on cmpEavt k i s (omega arith) less,
+        rising-on cmpEavt k i s (omega arith) (rw ea at l),
       )
 
   -- four datoms further
   pub four-on : (i : ℕ) → i + 4 < k → FourRise s (32 * i) → FourIntegers s (32 * i) → SameFrom k s i (i + 4)
   four-on i h u v =
-      let p = plain-on i (i + 1) _ _ _ (omega arith) (omega arith) (omega arith) (omega arith) (omega arith) (u .0) (v .0) in
-      let q = plain-on (i + 1) (i + 2) _ _ _ (omega arith) (omega arith) (omega arith) (omega arith) (omega arith) (u .1) (v .1) in
-      let r = plain-on (i + 2) (i + 3) _ _ _ (omega arith) (omega arith) (omega arith) (omega arith) (omega arith) (u .2) (v .2) in
-      let t = plain-on (i + 3) (i + 4) _ _ _ (omega arith) (omega arith) (omega arith) (omega arith) (omega arith) (u .3) (v .3) in
+      let p = plain-on i (i + 1) _ _ (omega arith) (omega arith) (omega arith) (omega arith) (u .0) (v .0) in
+      let q = plain-on (i + 1) (i + 2) _ _ (omega arith) (omega arith) (omega arith) (omega arith) (u .1) (v .1) in
+      let r = plain-on (i + 2) (i + 3) _ _ (omega arith) (omega arith) (omega arith) (omega arith) (u .2) (v .2) in
+      let t = plain-on (i + 3) (i + 4) _ _ (omega arith) (omega arith) (omega arith) (omega arith) (u .3) (v .3) in
       (p .0 ∙ q .0 ∙ r .0 ∙ t .0, p .1 ∙ q .1 ∙ r .1 ∙ t .1)
 
 module _ (id : PageId) (n at : ℕ) (s : List ℕ) where

@@ -13,7 +13,7 @@ ghost use Rattle.datom.specs.Datom.{datomsOf, storedDatom};
 ghost use Rattle.index.specs.Order.{cmpEavt, eavt};
 ghost use Rattle.rules.specs.Page.{nodeOf, all, rising, older, childRules, readPage};
 ghost use Rattle.memory_store.specs.Reading.{said};
-ghost use Rattle.memory_store.specs.Fours.{FourRise, FourIntegers, FourOlder, SameFrom};
+ghost use Rattle.memory_store.specs.Fours.{Rises, FourRise, FourIntegers, FourOlder, SameFrom};
 
 // A page is unreadable by a rule, or it has a level and a count.
 pub enum Reading {
@@ -21,24 +21,37 @@ pub enum Reading {
     Good { level: usize, count: usize },
 }
 
-// Whether four datoms from byte `at` on and the one behind them rise by their entities alone.
+// Whether the datom at byte `at` is below the one behind it by entity and attribute alone.
+fn pair_rises(s: &[u8], at: usize) -> bool
+    requires { ⌜ at + 48 ≤ length (now s) ⌝ }
+    ensures { λ r. ⌜ (r ≡ true → Rises (now (s .entry)) at) ⌝ }
+{
+    let first = store::word(s, at);
+    let second = store::word(s, at + 32);
+    if first < second {
+        return true;
+    }
+    if first != second {
+        return false;
+    }
+    store::word(s, at + 8) < store::word(s, at + 40)
+}
+
+// Whether four datoms from byte `at` on and the one behind them do.
 fn four_rise(s: &[u8], at: usize) -> bool
-    requires { ⌜ at + 136 ≤ length (now s) ⌝ }
+    requires { ⌜ at + 144 ≤ length (now s) ⌝ }
     ensures { λ r. ⌜ (r ≡ true → FourRise (now (s .entry)) at) ⌝ }
 {
-    let second = store::word(s, at + 32);
-    if second <= store::word(s, at) {
+    if !pair_rises(s, at) {
         return false;
     }
-    let third = store::word(s, at + 64);
-    if third <= second {
+    if !pair_rises(s, at + 32) {
         return false;
     }
-    let fourth = store::word(s, at + 96);
-    if fourth <= third {
+    if !pair_rises(s, at + 64) {
         return false;
     }
-    fourth < store::word(s, at + 128)
+    pair_rises(s, at + 96)
 }
 
 // Whether the values of four datoms from byte `at` on are integers. The bits of all four are looked at as one number.
@@ -51,8 +64,8 @@ fn four_integers(s: &[u8], at: usize) -> bool
     (front | back) < Value::TAG_EXTERNAL
 }
 
-// How many of the k datoms need no further look: four at a time, for as long as they are integers and rise by their entities. Of
-// most pages that leaves four datoms at most.
+// How many of the k datoms need no further look: four at a time, for as long as they are integers and rise by entity and
+// attribute. Of most pages that leaves four datoms at most.
 fn plain_front(s: &[u8], k: usize) -> usize
     requires { ⌜ 32 * k ≤ length (now s) ⌝ }
     ensures { λ r. ⌜ (r ≤ k) × SameFrom k (now (s .entry)) 0 r ⌝ }

@@ -1,67 +1,55 @@
--- `four_rise` meets its contract: one comparison for each. Assumes nothing.
-use borrow.Author.Needs.{needs}
-use Prim.Native.Nat.{_<_}
-use native.Mathlib.Omega.{arith}
-use borrow.Author.Tests.{ltb-true}
+-- `four_rise` meets its contract: one test for each. Assumes nothing.
+use borrow.Author.Tests.{not-false}
 use Rattle.memory_store.specs.Fours.{never}
+use borrow.Author.Needs.{needs}
 use Rattle.memory_store.proofs.reader.four_rise.Statement.{statement}
 use Rattle.memory_store.proofs.reader.four_rise.Tie as tie
 
-add-word : tie.Need-add-word
-add-word c = search needs
-
-word-requires : tie.Need-word-requires
-word-requires c κs = search needs
-
-word-requires-2 : tie.Need-word-requires-2
-word-requires-2 c κs = search needs
+pair-rises-requires : tie.Need-pair-rises-requires
+pair-rises-requires c κs = search needs
 
 returns : tie.Need-returns
 returns c e = never e
 
-add-word-2 : tie.Need-add-word-2
-add-word-2 c = search needs
+add-pair-rises : tie.Need-add-pair-rises
+add-pair-rises c = search needs
 
-word-requires-3 : tie.Need-word-requires-3
-word-requires-3 c κs = search needs
+pair-rises-requires-2 : tie.Need-pair-rises-requires-2
+pair-rises-requires-2 c κs = search needs
 
 returns-2 : tie.Need-returns-2
 returns-2 c e = never e
 
-add-word-3 : tie.Need-add-word-3
-add-word-3 c = search needs
+add-pair-rises-2 : tie.Need-add-pair-rises-2
+add-pair-rises-2 c = search needs
 
-word-requires-4 : tie.Need-word-requires-4
-word-requires-4 c κs = search needs
+pair-rises-requires-3 : tie.Need-pair-rises-requires-3
+pair-rises-requires-3 c κs = search needs
 
 returns-3 : tie.Need-returns-3
 returns-3 c e = never e
 
-add-word-4 : tie.Need-add-word-4
-add-word-4 c = search needs
+add-pair-rises-3 : tie.Need-add-pair-rises-3
+add-pair-rises-3 c = search needs
 
-word-requires-5 : tie.Need-word-requires-5
-word-requires-5 c κs = search needs
+pair-rises-requires-4 : tie.Need-pair-rises-requires-4
+pair-rises-requires-4 c κs = search needs
 
 returns-4 : tie.Need-returns-4
-returns-4 c e =
-    let h : c .before .before .word4 .result < c .word5 .result = ltb-true _ _ e in
-    omega (arith, h)
+returns-4 c e = (c .before .before .before .before .before .before .pair-rises .ensures (not-false _ (c .before .before .before .before .before .if1 .left)), c .before .before .before .before .pair-rises2 .ensures (not-false _ (c .before .before .before .if2 .left)), c .before .before .pair-rises3 .ensures (not-false _ (c .before .if3 .left)), c .pair-rises4 .ensures e)
 
 pub four-rise-spec : {M : Type 1} → statement M
 four-rise-spec =
     tie.close
     (tie.spec
-    add-word
-    word-requires
-    word-requires-2
+    pair-rises-requires
     returns
-    add-word-2
-    word-requires-3
+    add-pair-rises
+    pair-rises-requires-2
     returns-2
-    add-word-3
-    word-requires-4
+    add-pair-rises-2
+    pair-rises-requires-3
     returns-3
-    add-word-4
-    word-requires-5
+    add-pair-rises-3
+    pair-rises-requires-4
     returns-4)

@@ -1,4 +1,4 @@
-//! What is fed to every tree: batches that rise, of datoms with ascending or random entities.
+//! What is fed to every tree: batches that rise, of datoms with ascending or random entities, or of fills.
 
 pub type Datom = [u64; 4];
 
@@ -6,7 +6,24 @@ pub type Datom = [u64; 4];
 pub enum Keys {
     Ascending,
     Random,
+    /// Ascending entities of five datoms each, one for each attribute of a fill.
+    Fills,
 }
+
+impl Keys {
+    pub const ALL: [Keys; 3] = [Keys::Ascending, Keys::Fills, Keys::Random];
+
+    pub fn name(self) -> &'static str {
+        match self {
+            Keys::Ascending => "ascending",
+            Keys::Random => "random",
+            Keys::Fills => "fills",
+        }
+    }
+}
+
+/// How many datoms tell of one fill.
+const ATTRIBUTES: u64 = 5;
 
 /// An endless feed without repeats.
 pub struct Feed {
@@ -34,11 +51,12 @@ impl Feed {
     fn datom(&mut self) -> Datom {
         let number = self.next;
         self.next += 1;
-        let entity = match self.keys {
-            Keys::Ascending => number,
-            Keys::Random => self.word() >> 1,
+        let (entity, attribute) = match self.keys {
+            Keys::Ascending => (number, 1),
+            Keys::Random => (self.word() >> 1, 1),
+            Keys::Fills => (number / ATTRIBUTES, 1 + number % ATTRIBUTES),
         };
-        [entity, 1, number, 3]
+        [entity, attribute, number, 3]
     }
 
     /// The generator splitmix64.

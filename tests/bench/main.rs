@@ -172,7 +172,7 @@ impl Bench {
         let mut text = "what\tkeys\tdatoms\tside\tmedian\tquarter\tthree quarters\n".to_string();
         for times in &self.times {
             let [low, median, high] = [1, 2, 3].map(|quarter| times.quartile(quarter));
-            let keys = if times.keys == Keys::Ascending { "ascending" } else { "random" };
+            let keys = times.keys.name();
             text += &format!("{}\t{}\t{}\t{}\t{:.1}\t{:.1}\t{:.1}\n", times.what, keys, times.tree, times.side, median, low, high);
         }
         text
@@ -212,7 +212,7 @@ fn twice(batches: &[Vec<Datom>], mut insert: impl FnMut(&[Datom]) -> bool) -> (f
 
 /// A tree of so many datoms, by batches of 128, and room past it.
 fn grown(feed: &mut Feed, keys: Keys, datoms: usize) -> Florinwick {
-    let pages = if keys == Keys::Ascending { datoms / 16 } else { datoms };
+    let pages = if keys == Keys::Random { datoms } else { datoms / 16 };
     let mut tree = Florinwick::new(Slab::new(pages + MORE_PAGES), NONE);
     let mut left = datoms;
     while left > 0 {
@@ -227,7 +227,7 @@ fn main() {
     let word = |i: usize| env::args().nth(i).unwrap_or_else(|| panic!("usage: bench ROUNDS LARGEST FILE"));
     let number = |i: usize| word(i).parse::<usize>().unwrap_or_else(|_| panic!("{} is no number", word(i)));
     let mut bench = Bench { rounds: number(1), times: Vec::new() };
-    for keys in [Keys::Ascending, Keys::Random] {
+    for keys in Keys::ALL {
         for tree in [10_000, 100_000, 1_000_000] {
             if tree <= number(2) {
                 bench.tree(keys, tree);

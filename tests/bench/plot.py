@@ -19,7 +19,8 @@ NAMES = {
     "listed datom": "full listing, per datom",
     "checked datom": "check, per datom",
 }
-LEFT, PANEL, GAP, ROW, HEAD, TOP = 200, 330, 120, 21, 32, 92
+COLUMNS = [("ascending", "ascending entities"), ("fills", "fills: five datoms to an entity"), ("random", "random entities")]
+LEFT, PANEL, GAP, ROW, HEAD, TOP = 200, 260, 110, 21, 32, 92
 
 
 def read(path):
@@ -98,18 +99,18 @@ def draw(times):
         picture.text(x + 15, 52, "the Rust" if side == "Rust" else side, 12)
         x += 92
     picture.text(x + 4, 52, "left is faster; bold: Florinwick's time as a multiple of the Rust's, a receipt's as a share of its insert", 12, fill="#555")
-    for column, keys in enumerate(("ascending", "random")):
-        picture.text(LEFT + column * (PANEL + GAP), TOP - 14, f"{keys} keys", 13, weight="bold")
+    for column, (keys, title) in enumerate(COLUMNS):
+        picture.text(LEFT + column * (PANEL + GAP), TOP - 14, title, 13, weight="bold")
     y = TOP + 20
     for what in whats:
         picture.text(16, y - 10, NAMES.get(what, what), 13, weight="bold")
-        for column, keys in enumerate(("ascending", "random")):
+        for column, (keys, title) in enumerate(COLUMNS):
             panel(picture, times, what, keys, column, y + 6, sizes)
         y += HEAD + ROW * len(sizes)
-    for column in range(2):
+    for column in range(len(COLUMNS)):
         for tick in range(math.ceil(picture.low), math.floor(picture.high) + 1):
             picture.text(picture.x(column, 10.0 ** tick), y - 8, unit(10.0 ** tick), 10, "middle", "#555")
-    return picture, LEFT + 2 * PANEL + GAP + 125, y + 10
+    return picture, LEFT + len(COLUMNS) * (PANEL + GAP), y + 10
 
 
 def main():

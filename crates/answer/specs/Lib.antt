@@ -1,2 +1,3 @@
--- The table of numbers that a caller may get.
+-- The table of numbers that a caller may get, and the cursors that bytes hold.
 pub mod Table
+pub mod Fit

@@ -4,7 +4,7 @@ use native.Mathlib.Omega.{arith}
 use mathlib.Core.Bool.{Bool, true, false}
 use mathlib.Core.List.{List}
 use mathlib.Core.Logic.{_⊎_, inl, inr}
-use mathlib.Core.Path.{_≡_, refl}
+use mathlib.Core.Path.{_≡_, refl, ap}
 use borrow.Author.Tests.{eqb-true, ltb-false, eq-eqb, ne-eqb, lt-ltb, le-ltb}
 use lib.Dec.{eqb, ltb}
 use lib.ListN.{length}
@@ -24,6 +24,14 @@ use Rattle.batch.specs.declared.Count.the-variants.{Datoms, Refused}
 abbrev pub findingOf : Finding → rules.Finding
 findingOf Clear = rules.clear
 findingOf (Found r) = rules.found r
+
+-- two findings that meet one promise are equal: form_fault, order_fault and twin_fault, lookup's lookup_all, entry's insert_fault and
+-- initialise_fault promise nothing else of their answer
+pub finding-same : (f g : Finding) {r : rules.Finding} → findingOf f ≡ r → findingOf g ≡ r → f ≡ g
+finding-same Clear Clear e h = refl
+finding-same Clear (Found q) e h = absurd (apart (cc))
+finding-same (Found p) Clear e h = absurd (apart (cc))
+finding-same (Found p) (Found q) e h = let k : p ≡ q = cc in ap Found k
 
 -- "2 TooMany: batch over 128, or its bytes no multiple of 32": first the bytes, then the count
 unfoldable pub counted : List ℕ → Count

@@ -7,8 +7,8 @@ ghost use mathlib.Core.Path.{_≡_};
 ghost use mathlib.Core.List.{[]};
 ghost use Prim.Native.Nat.{_+_, _*_, _≤_};
 ghost use lib.ListN.{length};
-ghost use Rattle.datom.specs.Datom.{datomAt, datomsOf, storedDatom};
-ghost use Rattle.index.specs.Order.{cmpEavt};
+ghost use Rattle.datom.specs.Datom.{datomAt, datomsOf};
+ghost use Rattle.index.specs.Order.{eavt};
 ghost use Rattle.rules.specs.Insert.{formFault, orderFault, anySame, twinFault};
 ghost use Rattle.batch.specs.Finding.{findingOf, counted};
 ghost use Rattle.batch.specs.Twins.{earlier};
@@ -45,7 +45,7 @@ pub fn count_of(b: &[u8]) -> Count
 // The first datom that may not be stored.
 pub fn form_fault(b: &[u8], n: usize) -> Finding
     requires { ⌜ 32 * n ≤ length (now b) ⌝ }
-    ensures { λ r. ⌜ findingOf r ≡ formFault storedDatom 0 (datomsOf n (now (b .entry))) ⌝ }
+    ensures { λ r. ⌜ findingOf r ≡ formFault (eavt .stored) 0 (datomsOf n (now (b .entry))) ⌝ }
 {
     let mut i = 0;
     while i < n {
@@ -60,7 +60,7 @@ pub fn form_fault(b: &[u8], n: usize) -> Finding
 // The first datom that is not above the one before it.
 pub fn order_fault(b: &[u8], n: usize) -> Finding
     requires { ⌜ 32 * n ≤ length (now b) ⌝ }
-    ensures { λ r. ⌜ findingOf r ≡ orderFault cmpEavt (datomsOf n (now (b .entry))) ⌝ }
+    ensures { λ r. ⌜ findingOf r ≡ orderFault (eavt .cmp) (datomsOf n (now (b .entry))) ⌝ }
 {
     if n == 0 {
         return Finding::Clear;
@@ -88,7 +88,7 @@ pub fn order_fault(b: &[u8], n: usize) -> Finding
 // Whether the datom at index i is equal to an earlier one. The last of them is looked at first, as the rule does.
 fn has_twin(b: &[u8], i: usize) -> bool
     requires { ⌜ 32 * i + 32 ≤ length (now b) ⌝ }
-    ensures { λ r. ⌜ r ≡ anySame cmpEavt (datomAt (now (b .entry)) (32 * i)) (earlier i (now (b .entry))) ⌝ }
+    ensures { λ r. ⌜ r ≡ anySame (eavt .cmp) (datomAt (now (b .entry)) (32 * i)) (earlier i (now (b .entry))) ⌝ }
 {
     let d = datom::datom_at(b, 32 * i);
     let mut j = i;
@@ -108,7 +108,7 @@ fn has_twin(b: &[u8], i: usize) -> bool
 // The first datom that is equal to an earlier one. A batch is small enough to compare each with all before it.
 pub fn twin_fault(b: &[u8], n: usize) -> Finding
     requires { ⌜ 32 * n ≤ length (now b) ⌝ }
-    ensures { λ r. ⌜ findingOf r ≡ twinFault cmpEavt 0 [] (datomsOf n (now (b .entry))) ⌝ }
+    ensures { λ r. ⌜ findingOf r ≡ twinFault (eavt .cmp) 0 [] (datomsOf n (now (b .entry))) ⌝ }
 {
     let mut i = 0;
     while i < n {

@@ -6,6 +6,7 @@ use mathlib.Core.List.{List, [], _∷_}
 use mathlib.Core.Bool.{true, false}
 use mathlib.Core.Path.{_≡_, ap, _∙_}
 use borrow.Author.Tests.{le-leb, lt-leb, le-ltb, lt-ltb, eq-eqb}
+use lib.Bits.{bitAnd, and-high}
 use lib.ListN.{length, drop, getD, length-drop, drop-of-length-le}
 use lib.Seq.{drop-cons, getD-drop}
 use Rattle.store.specs.Words.{little, bytesOf}
@@ -36,6 +37,18 @@ unfolding little
 little-step s i w some h e =
     let z : i ≡ suc (i - 1) = omega arith in
     rw (e, drop-cons s (i - 1) 0 (omega arith)) (ap (λ (k : ℕ). getD s (i - 1) 0 + 256 * little (drop k s)) z)
+
+-- the tag of a word is its two top bits: cut out by the mask, or by dividing
+tag-of : (n : ℕ) → n < 2 ^ 64 → bitAnd n 0xc000_0000_0000_0000 ≡ n / 2 ^ 62 * 2 ^ 62
+tag-of n h =
+    let e : n / 2 ^ 62 % 2 ^ 2 ≡ n / 2 ^ 62 = omega arith in
+    rw e at (and-high n 2 62)
+
+pub bytes-tag : (n : ℕ) → n < 2 ^ 64 → bitAnd n 0xc000_0000_0000_0000 ≡ 2 ^ 63 → n / 2 ^ 62 ≡ 2
+bytes-tag n h e = let k = tag-of n h in omega (arith, k, e)
+
+pub other-tag : (n : ℕ) → n < 2 ^ 64 → (bitAnd n 0xc000_0000_0000_0000 ≡ 2 ^ 63 → ⊥) → n / 2 ^ 62 ≡ 2 → ⊥
+other-tag n h e z = e (tag-of n h ∙ rw z)
 
 -- the ways of a byte string
 pub too-long : (s : List ℕ) → 7 < length s → TooLarge ≡ inlineStr s

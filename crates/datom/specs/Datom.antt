@@ -38,7 +38,7 @@ unfoldable pub boundDatom : Datom → Bool
 boundDatom d = boundValue (d .value)
 
 -- what a datom that comes from bytes has: each word below 2^64
-pub record Words (d : Datom) : Type 0 where
+pub record WordSized (d : Datom) : Type 0 where
   pub entity : d .entity .0 < 2 ^ 64
   pub attribute : d .attribute .0 < 2 ^ 64
   pub value : d .value .0 < 2 ^ 64

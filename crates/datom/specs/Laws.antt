@@ -14,15 +14,15 @@ use Rattle.store.specs.Cells.{drop-take-le, cells-at, cells-from}
 use Rattle.store.specs.Laws.{apart, both, bytes-length, little-bytes, low-bytes, word-back, word-small}
 use Rattle.datom.specs.declared.Datom.{Datom}
 use Rattle.datom.specs.declared.Value.{Value}
-use Rattle.datom.specs.Value.{isInt, strLen, isStr, isMax, storedValue, boundValue, int, str, top, content}
-use Rattle.datom.specs.Datom.{datomAt, datomOf, datomBytes, datomsOf, Words}
+use Rattle.datom.specs.Value.{maxWord, isInt, strLen, isStr, isMax, storedValue, boundValue, int, str, top, content}
+use Rattle.datom.specs.Datom.{datomAt, datomOf, datomBytes, datomsOf, WordSized}
 
 pub datom-length : (d : Datom) → length (datomBytes d) ≡ 32
 unfolding datomBytes bytesOf
 datom-length d = refl
 
 -- a datom comes back from its bytes
-pub datom-back : (d : Datom) → Words d → datomOf (datomBytes d) ≡ d
+pub datom-back : (d : Datom) → WordSized d → datomOf (datomBytes d) ≡ d
 unfolding datomOf datomAt datomBytes wordAt bytesOf
 datom-back d w =
     let e₁ : little (bytesOf 8 (d .entity .0)) ≡ d .entity .0 = little-bytes 8 (d .entity .0) (w .entity) in
@@ -46,7 +46,7 @@ bytes-back s h n =
         rw (e₃, e₂) (sym (take-add 8 24 s) ∙ take-all 32 s (omega arith))
 
 -- what bytes give is made of words
-pub words-of : (s : List ℕ) → ((i : ℕ) → getD s i 0 < 256) → (at : ℕ) → at + 32 ≤ length s → Words (datomAt s at)
+pub words-of : (s : List ℕ) → ((i : ℕ) → getD s i 0 < 256) → (at : ℕ) → at + 32 ≤ length s → WordSized (datomAt s at)
 unfolding datomAt
 words-of s h at f =
     record {
@@ -114,7 +114,7 @@ str-low v s = low (strLen v) (s .few) (s .low)
 pub data Form (v : Value) : Type 0 where
   anInt : isInt v ≡ true → content v ≡ int (v .0) → Form v
   aStr : Str v → content v ≡ str (bytesOf (strLen v) (v .0)) → Form v
-  aMax : v .0 ≡ 0xffff_ffff_ffff_ffff → content v ≡ top → Form v
+  aMax : v .0 ≡ maxWord → content v ≡ top → Form v
 
 pub form-of : (v : Value) → boundValue v ≡ true → Form v
 unfolding boundValue storedValue content isMax
@@ -123,7 +123,7 @@ form-of v h = side (isInt v) refl (isStr v) refl
     side : (a : Bool) → isInt v ≡ a → (b : Bool) → isStr v ≡ b → Form v
     side true p b q = anInt p (rw p)
     side false p true q = aStr (str-form v q) (rw (p, q))
-    side false p false q = aMax (eqb-true (v .0) 0xffff_ffff_ffff_ffff (rw (p, q) at h)) (rw (p, q))
+    side false p false q = aMax (eqb-true (v .0) maxWord (rw (p, q) at h)) (rw (p, q))
 
 str-tells : (v w : Value) → Str v → Str w → bytesOf (strLen v) (v .0) ≡ bytesOf (strLen w) (w .0) → v .0 ≡ w .0
 str-tells v w s t e =

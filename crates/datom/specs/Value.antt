@@ -22,8 +22,11 @@ unfoldable pub isStr : Value → Bool
 isStr v = eqb (v .0 / 2 ^ 62) 2 && leb (strLen v) 7 && ltb (v .0 % 2 ^ 56) (256 ^ strLen v)
 
 -- "2^64-1 is max."
+abbrev pub maxWord : ℕ
+maxWord = 0xffff_ffff_ffff_ffff
+
 unfoldable pub isMax : Value → Bool
-isMax v = eqb (v .0) 0xffff_ffff_ffff_ffff
+isMax v = eqb (v .0) maxWord
 
 -- "All else is malformed here. A stored datom may not have max; a bound may."
 unfoldable pub storedValue : Value → Bool

@@ -3,9 +3,12 @@ ghost use mathlib.Core.Path.{_≡_};
 ghost use Prim.Native.Nat.{_+_, _^_, _-_, _≤_};
 ghost use lib.ListN.{length};
 ghost use Rattle.store.specs.Words.{little};
-ghost use Rattle.datom.specs.Value.{isInt, isStr, isMax, storedValue, boundValue, inlineInt, boolInt, inlineStr};
+ghost use Rattle.datom.specs.Value.{maxWord, isInt, isStr, isMax, storedValue, boundValue, inlineInt, boolInt, inlineStr};
 ghost use Rattle.datom.specs.Datom.{datomAt, storedDatom, boundDatom};
 ghost use Rattle.datom.specs.Word.{lastWord, transactionOf, operationOf};
+
+// The largest word: the max of every type here but the transaction's, which is even.
+const MAX_WORD: u64 = 0xffff_ffff_ffff_ffff;
 
 // Entity id.
 #[repr(C)]
@@ -19,9 +22,9 @@ impl Eid {
     }
 
     pub fn max() -> Eid
-        ensures { λ r. ⌜ r .0 ≡ 2 ^ 64 - 1 ⌝ }
+        ensures { λ r. ⌜ r .0 ≡ maxWord ⌝ }
     {
-        Eid(0xffff_ffff_ffff_ffff)
+        Eid(MAX_WORD)
     }
 }
 
@@ -37,9 +40,9 @@ impl Aid {
     }
 
     pub fn max() -> Aid
-        ensures { λ r. ⌜ r .0 ≡ 2 ^ 64 - 1 ⌝ }
+        ensures { λ r. ⌜ r .0 ≡ maxWord ⌝ }
     {
-        Aid(0xffff_ffff_ffff_ffff)
+        Aid(MAX_WORD)
     }
 }
 
@@ -121,6 +124,12 @@ impl Value {
     // Both tag bits.
     pub const TAG_MASK: u64 = 0xc000_0000_0000_0000;
 
+    // A byte string's length stands from this bit on.
+    pub const LENGTH_BIT: u64 = 0x100_0000_0000_0000;
+
+    // The most bytes that stand in the word itself.
+    pub const MAX_LENGTH: u64 = 7;
+
     pub fn min() -> Value
         ensures { λ r. ⌜ r .0 ≡ 0 ⌝ }
     {
@@ -129,15 +138,15 @@ impl Value {
 
     // Above every other value: for bounds, never stored.
     pub fn max() -> Value
-        ensures { λ r. ⌜ r .0 ≡ 2 ^ 64 - 1 ⌝ }
+        ensures { λ r. ⌜ r .0 ≡ maxWord ⌝ }
     {
-        Value(0xffff_ffff_ffff_ffff)
+        Value(MAX_WORD)
     }
 
     pub fn is_max(self) -> bool
         ensures { λ r. ⌜ r ≡ isMax self ⌝ }
     {
-        self.0 == 0xffff_ffff_ffff_ffff
+        self.0 == MAX_WORD
     }
 
     // Whether this is an inline integer.
@@ -151,14 +160,14 @@ impl Value {
     pub fn is_bytes(self) -> bool
         ensures { λ r. ⌜ r ≡ isStr self ⌝ }
     {
-        if self.0 / Value::TAG_EXTERNAL != 2 {
+        if self.0 & Value::TAG_MASK != Value::TAG_BYTES {
             return false;
         }
-        let length = self.0 / 0x100_0000_0000_0000 % 64;
-        if 7 < length {
+        let length = self.0 / Value::LENGTH_BIT % 64;
+        if Value::MAX_LENGTH < length {
             return false;
         }
-        self.0 % 0x100_0000_0000_0000 < past(length)
+        self.0 % Value::LENGTH_BIT < past(length)
     }
 
     // Whether a stored datom may have this value.
@@ -200,12 +209,12 @@ impl Value {
     pub fn from_bytes_inline(bytes: &[u8]) -> Inline
         ensures { λ r. ⌜ r ≡ inlineStr (now (bytes .entry)) ⌝ }
     {
-        let n = bytes.len();
-        if 7 < n {
+        let n = bytes.len() as u64;
+        if Value::MAX_LENGTH < n {
             return Inline::TooLarge;
         }
         let word = joined(bytes);
-        Inline::Made(Value(Value::TAG_BYTES + n as u64 * 0x100_0000_0000_0000 + word))
+        Inline::Made(Value(Value::TAG_BYTES + n * Value::LENGTH_BIT + word))
     }
 }
 

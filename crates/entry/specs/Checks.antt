@@ -1,7 +1,7 @@
 -- The refusals before anything is written, one after another, as the entries find them.
-use Prim.Native.Nat.{ℕ, suc, _*_, _≤_, _<_}
+use Prim.Native.Nat.{ℕ, _*_, _≤_, _<_}
 use mathlib.Core.Bool.{Bool, true, false}
-use mathlib.Core.List.{List, [], _∷_}
+use mathlib.Core.List.{List, []}
 use mathlib.Core.Logic.{inl, inr}
 use mathlib.Core.Path.{_≡_, refl, sym, _∙_, ap}
 use borrow.Author.Tests.{ltb-false, lt-ltb, le-ltb}
@@ -13,14 +13,15 @@ use Rattle.store.specs.Page.{isNone}
 use Rattle.store.specs.Size.{capacity, scratchNeed}
 use Rattle.store.specs.Laws.{apart}
 use Rattle.datom.specs.declared.Datom.{Datom}
-use Rattle.datom.specs.Datom.{datomsOf, storedDatom}
-use Rattle.index.specs.Order.{isLess, cmpEavt, eavt}
+use Rattle.datom.specs.Datom.{datomsOf}
+use Rattle.index.specs.Order.{DatomOrd}
 use Rattle.answer.specs.declared.Refusal.{Refusal}
-use Rattle.answer.specs.declared.Refusal.the-variants.{BadStore, OutOfOrder, NoPage}
-use Rattle.rules.specs.Page.{above, rising}
+use Rattle.answer.specs.declared.Refusal.the-variants.{BadStore, NoPage}
+use Rattle.rules.specs.Page.{rising}
 use Rattle.rules.specs.Lookup.{Finding, clear, found}
 use Rattle.rules.specs.Store.{orElse, badStore, badScratch, badRoot, fetchPage, envOf}
-use Rattle.rules.specs.Insert.{Outcome, refuse, storeFault, countFault, formFault, lowFault, orderFault, twinFault, rootFault, sort, writeFresh, insertAt, insertUnder, insert, initialise, bytesFault, batchOf, insertBytes, initialiseBytes}
+use Rattle.rules.specs.Insert.{Outcome, refuse, outcome, storeFault, countFault, formFault, orderFault, twinFault, rootFault, sort, freshTree, writeFresh, insertAt, insertUnder, insertCounted, initialiseCounted, bytesFault, batchOf, insertBytes, initialiseBytes}
+use Rattle.rules.specs.Checks.{order-rises}
 use Rattle.batch.specs.declared.Count.{Count}
 use Rattle.batch.specs.declared.Count.the-variants.{Datoms, Refused}
 use Rattle.batch.specs.Finding.{counted, given-count, refused-count}
@@ -30,28 +31,12 @@ unfoldable pub countFor : Extent → List ℕ → ℕ → List ℕ → Count
 countFor x s scratch b = orElse Refused (storeFault x s scratch) (counted b)
 
 -- 3 and 4 of an insert
-unfoldable pub insertFault : List Datom → Finding
-insertFault ds = orElse found (formFault storedDatom 0 ds) (orderFault cmpEavt ds)
+unfoldable pub insertFault : DatomOrd → List Datom → Finding
+insertFault t ds = orElse found (formFault (t .stored) 0 ds) (orderFault (t .cmp) ds)
 
 -- 3 and 4 of an initialise
-unfoldable pub initialiseFault : List Datom → Finding
-initialiseFault ds = orElse found (formFault storedDatom 0 ds) (twinFault cmpEavt 0 [] ds)
-
--- what is left of the two once the count is known
-unfoldable pub insertRest : Extent → List ℕ → PageId → ℕ → List ℕ → Outcome
-insertRest x s root n b =
-    let ds = datomsOf n b in
-    orElse refuse (formFault storedDatom 0 ds)
-    (orElse refuse (orderFault cmpEavt ds)
-    (orElse refuse (rootFault x root)
-    (insertUnder eavt x s root ds)))
-
-unfoldable pub initialiseRest : Extent → List ℕ → ℕ → List ℕ → Outcome
-initialiseRest x s n b =
-    let ds = datomsOf n b in
-    orElse refuse (formFault storedDatom 0 ds)
-    (orElse refuse (twinFault cmpEavt 0 [] ds)
-    (writeFresh (envOf eavt x s) (sort cmpEavt ds)))
+unfoldable pub initialiseFault : DatomOrd → List Datom → Finding
+initialiseFault t ds = orElse found (formFault (t .stored) 0 ds) (twinFault (t .cmp) 0 [] ds)
 
 -- what stands once 1 and 2 are past: the store and the scratch of L bytes are in order, and n datoms are few enough
 pub record Roomy (x : Extent) (s : List ℕ) (c n L : ℕ) : Type 0 where
@@ -92,7 +77,7 @@ module _ (x : Extent) (s : List ℕ) (L : ℕ) (b : List ℕ) where
   -- the two entries over bytes begin alike
   abbrev begun : Outcome → Outcome
   begun rest =
-      orElse refuse (storeFault x s L) (orElse refuse (bytesFault b) (orElse refuse (storeFault x s L) (orElse refuse (countFault (batchOf b)) rest)))
+      orElse refuse (storeFault x s L) (orElse refuse (bytesFault b) (orElse refuse (countFault (batchOf b)) rest))
 
   refused-begun : (r : Refusal) → countFor x s L b ≡ Refused r → (rest : Outcome) → begun rest ≡ refuse r
   unfolding countFor
@@ -122,105 +107,90 @@ module _ (x : Extent) (s : List ℕ) (L : ℕ) (b : List ℕ) where
       side (found q) u = let k : Refused q ≡ Datoms n = rw u at e in absurd (apart (cc))
       side clear u = ap (λ (k : ℕ). datomsOf k b) (given-count b n (rw u at e) .is)
 
-  pub insert-refused : (root : PageId) (r : Refusal) → countFor x s L b ≡ Refused r → insertBytes eavt x s L root b ≡ refuse r
-  unfolding insertBytes insert
-  insert-refused root r e = refused-begun r e _
+  module _ (t : DatomOrd) (r : Refusal) (e : countFor x s L b ≡ Refused r) where
+    pub insert-refused : (root : PageId) → insertBytes t x s L root b ≡ refuse r
+    unfolding insertBytes
+    insert-refused root = refused-begun r e _
 
-  pub initialise-refused : (r : Refusal) → countFor x s L b ≡ Refused r → initialiseBytes eavt x s L b ≡ refuse r
-  unfolding initialiseBytes initialise
-  initialise-refused r e = refused-begun r e _
+    pub initialise-refused : initialiseBytes t x s L b ≡ refuse r
+    unfolding initialiseBytes
+    initialise-refused = refused-begun r e _
 
   module _ (n : ℕ) (e : countFor x s L b ≡ Datoms n) where
     pub passed : Passed x s (capacity (x .size)) b n L
     passed = given-begun n e (refuse BadStore) .1
 
-    pub insert-counted : (root : PageId) → insertBytes eavt x s L root b ≡ insertRest x s root n b
-    unfolding insertBytes insert insertRest eavt
-    insert-counted root = rw (← datoms-given n e) (given-begun n e _ .0)
+    pub insert-counted : (t : DatomOrd) (root : PageId) → insertBytes t x s L root b ≡ insertCounted t x s root (datomsOf n b)
+    unfolding insertBytes
+    insert-counted t root = rw (← datoms-given n e) (given-begun n e _ .0)
 
-    pub initialise-counted : initialiseBytes eavt x s L b ≡ initialiseRest x s n b
-    unfolding initialiseBytes initialise initialiseRest eavt
-    initialise-counted = rw (← datoms-given n e) (given-begun n e _ .0)
-
--- the ways through 3 and 4
-module _ (ds : List Datom) where
-  pub fault-form : (r : Refusal) → found r ≡ formFault storedDatom 0 ds → found r ≡ insertFault ds
-  unfolding insertFault
-  fault-form r h = rw (← h)
-
-  pub fault-order : clear ≡ formFault storedDatom 0 ds → (f : Finding) → f ≡ orderFault cmpEavt ds → f ≡ insertFault ds
-  unfolding insertFault
-  fault-order h f e = rw (← h) e
-
--- of an initialise
-module _ (ds : List Datom) where
-  pub twin-form : (r : Refusal) → found r ≡ formFault storedDatom 0 ds → found r ≡ initialiseFault ds
-  unfolding initialiseFault
-  twin-form r h = rw (← h)
-
-  pub twin-rest : clear ≡ formFault storedDatom 0 ds → (f : Finding) → f ≡ twinFault cmpEavt 0 [] ds → f ≡ initialiseFault ds
-  unfolding initialiseFault
-  twin-rest h f e = rw (← h) e
+    pub initialise-counted : (t : DatomOrd) → initialiseBytes t x s L b ≡ initialiseCounted t x s (datomsOf n b)
+    unfolding initialiseBytes
+    initialise-counted t = rw (← datoms-given n e) (given-begun n e _ .0)
 
 -- one finding after another is one finding
 both : (a b : Finding) (k : Outcome) → orElse refuse (orElse found a b) k ≡ orElse refuse a (orElse refuse b k)
 both (found r) b k = refl
 both clear b k = refl
 
--- a batch in which 4 finds nothing rises
-low-rises : (i : ℕ) (p : Datom) (ds : List Datom) → clear ≡ lowFault cmpEavt i p ds → above cmpEavt p ds ≡ true
-unfolding lowFault above
-low-rises i p [] e = refl
-low-rises i p (d ∷ ds) e = side (isLess (cmpEavt p d)) refl (low-rises (suc i) d ds)
-  where
-    side : (b : Bool) → isLess (cmpEavt p d) ≡ b → (clear ≡ lowFault cmpEavt (suc i) d ds → above cmpEavt d ds ≡ true) → above cmpEavt p (d ∷ ds) ≡ true
-    side true u ih = rw u (ih (rw u at e))
-    side false u ih = let k : clear ≡ found (OutOfOrder i) = rw u at e in absurd (apart (cc))
+-- the ways through 3 and 4, and what comes after them
+module _ (t : DatomOrd) (ds : List Datom) where
+  -- of an insert
+  pub fault-form : (r : Refusal) → found r ≡ formFault (t .stored) 0 ds → found r ≡ insertFault t ds
+  unfolding insertFault
+  fault-form r h = rw (← h)
 
-order-rises : (ds : List Datom) → clear ≡ orderFault cmpEavt ds → rising cmpEavt ds ≡ true
-unfolding orderFault rising
-order-rises [] e = refl
-order-rises (d ∷ ds) e = low-rises 1 d ds e
+  pub fault-order : clear ≡ formFault (t .stored) 0 ds → (f : Finding) → f ≡ orderFault (t .cmp) ds → f ≡ insertFault t ds
+  unfolding insertFault
+  fault-order h f e = rw (← h) e
 
-pub fault-rises : (ds : List Datom) → clear ≡ insertFault ds → rising cmpEavt ds ≡ true
-unfolding insertFault
-fault-rises ds e = side (formFault storedDatom 0 ds) refl
-  where
-    side : (f : Finding) → formFault storedDatom 0 ds ≡ f → rising cmpEavt ds ≡ true
-    side (found r) u = let k : clear ≡ found r = rw u at e in absurd (apart (cc))
-    side clear u = order-rises ds (rw u at e)
+  pub fault-rises : clear ≡ insertFault t ds → rising (t .cmp) ds ≡ true
+  unfolding insertFault
+  fault-rises e = side (formFault (t .stored) 0 ds) refl
+    where
+      side : (f : Finding) → formFault (t .stored) 0 ds ≡ f → rising (t .cmp) ds ≡ true
+      side (found r) u = let k : clear ≡ found r = rw u at e in absurd (apart (cc))
+      side clear u = order-rises (t .cmp) ds (rw u at e)
 
-module _ (x : Extent) (s : List ℕ) (root : PageId) (n : ℕ) (b : List ℕ) where
-  rest-is :
-      insertRest x s root n b
-      ≡ orElse refuse (insertFault (datomsOf n b)) (orElse refuse (rootFault x root) (insertUnder eavt x s root (datomsOf n b)))
-  unfolding insertRest insertFault
-  rest-is = sym (both (formFault storedDatom 0 (datomsOf n b)) _ _)
+  -- of an initialise
+  pub twin-form : (r : Refusal) → found r ≡ formFault (t .stored) 0 ds → found r ≡ initialiseFault t ds
+  unfolding initialiseFault
+  twin-form r h = rw (← h)
 
-  pub rest-found : (r : Refusal) → found r ≡ insertFault (datomsOf n b) → insertRest x s root n b ≡ refuse r
-  rest-found r h = rest-is ∙ rw (← h)
+  pub twin-rest : clear ≡ formFault (t .stored) 0 ds → (f : Finding) → f ≡ twinFault (t .cmp) 0 [] ds → f ≡ initialiseFault t ds
+  unfolding initialiseFault
+  twin-rest h f e = rw (← h) e
 
-  module _ (free : clear ≡ insertFault (datomsOf n b)) where
-    pub rest-fresh : isNone root ≡ true → insertRest x s root n b ≡ writeFresh (envOf eavt x s) (datomsOf n b)
-    unfolding rootFault badRoot insertUnder
-    rest-fresh h = rest-is ∙ rw (← free, h)
+  module _ (x : Extent) (s : List ℕ) where
+    module _ (root : PageId) where
+      counted-is : insertCounted t x s root ds ≡ orElse refuse (insertFault t ds) (orElse refuse (rootFault x root) (insertUnder t x s root ds))
+      unfolding insertCounted insertFault
+      counted-is = sym (both (formFault (t .stored) 0 ds) _ _)
 
-    module _ (some : isNone root ≡ false) where
-      pub rest-missing : x .count ≤ root .0 → insertRest x s root n b ≡ refuse NoPage
-      unfolding rootFault badRoot
-      rest-missing h = rest-is ∙ rw (← free, some, le-ltb (root .0) (x .count) h)
+      pub counted-found : (r : Refusal) → found r ≡ insertFault t ds → insertCounted t x s root ds ≡ refuse r
+      counted-found r h = counted-is ∙ rw (← h)
 
-      pub rest-at : root .0 < x .count → insertRest x s root n b ≡ insertAt (envOf eavt x s) root (datomsOf n b) (fetchPage eavt x s root)
-      unfolding rootFault badRoot insertUnder
-      rest-at h = rest-is ∙ rw (← free, some, lt-ltb (root .0) (x .count) h)
+      module _ (free : clear ≡ insertFault t ds) where
+        pub counted-missing : badRoot x root ≡ true → insertCounted t x s root ds ≡ refuse NoPage
+        unfolding rootFault
+        counted-missing h = counted-is ∙ rw (← free, h)
 
-module _ (x : Extent) (s : List ℕ) (n : ℕ) (b : List ℕ) where
-  sorted-is : initialiseRest x s n b ≡ orElse refuse (initialiseFault (datomsOf n b)) (writeFresh (envOf eavt x s) (sort cmpEavt (datomsOf n b)))
-  unfolding initialiseRest initialiseFault
-  sorted-is = sym (both (formFault storedDatom 0 (datomsOf n b)) _ _)
+        module _ (known : badRoot x root ≡ false) where
+          pub counted-fresh : isNone root ≡ true → insertCounted t x s root ds ≡ outcome (freshTree (envOf t x s) ds [])
+          unfolding rootFault insertUnder writeFresh
+          counted-fresh h = counted-is ∙ rw (← free, known, h)
 
-  pub sorted-found : (r : Refusal) → found r ≡ initialiseFault (datomsOf n b) → initialiseRest x s n b ≡ refuse r
-  sorted-found r h = sorted-is ∙ rw (← h)
+          pub counted-at : isNone root ≡ false → insertCounted t x s root ds ≡ insertAt (envOf t x s) root ds (fetchPage t x s root)
+          unfolding rootFault insertUnder
+          counted-at h = counted-is ∙ rw (← free, known, h)
 
-  pub sorted-fresh : clear ≡ initialiseFault (datomsOf n b) → initialiseRest x s n b ≡ writeFresh (envOf eavt x s) (sort cmpEavt (datomsOf n b))
-  sorted-fresh h = sorted-is ∙ rw (← h)
+    sorted-is : initialiseCounted t x s ds ≡ orElse refuse (initialiseFault t ds) (writeFresh (envOf t x s) (sort (t .cmp) ds))
+    unfolding initialiseCounted initialiseFault
+    sorted-is = sym (both (formFault (t .stored) 0 ds) _ _)
+
+    pub sorted-found : (r : Refusal) → found r ≡ initialiseFault t ds → initialiseCounted t x s ds ≡ refuse r
+    sorted-found r h = sorted-is ∙ rw (← h)
+
+    pub sorted-fresh : clear ≡ initialiseFault t ds → initialiseCounted t x s ds ≡ outcome (freshTree (envOf t x s) (sort (t .cmp) ds) [])
+    unfolding writeFresh
+    sorted-fresh h = sorted-is ∙ rw (← h)

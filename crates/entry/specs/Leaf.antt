@@ -11,11 +11,10 @@ use Rattle.store.specs.Words.{cells, patch}
 use Rattle.store.specs.Page.{none, pageBytes}
 use Rattle.store.specs.Laws.{cells-length, page-length}
 use Rattle.store.specs.Cells.{take-patch, drop-patch, patch-length, cells-front}
-use Rattle.datom.specs.declared.Datom.{Datom}
 use Rattle.datom.specs.Datom.{datomOf, datomsOf}
 use Rattle.rules.specs.Page.{Node, nodeOf, childrenOf, node-is}
-use Rattle.rules.specs.Tree.{Env, Stage, writeRoot}
-use Rattle.rules.specs.Insert.{outcome, leafOf, writeFresh}
+use Rattle.rules.specs.Tree.{Env, writeRoot}
+use Rattle.rules.specs.Insert.{leafOf, freshTree}
 use Rattle.node.specs.Stores.{child-front}
 
 -- a batch of n datoms stands where it was stored
@@ -25,15 +24,7 @@ batch-put n at s b h e =
     rw (drop-patch s at b h)
     (sym (cells-front datomOf 32 n (32 * n) (b ++ rest) (omega arith)) ∙ ap (cells datomOf 32 n) (take-at b rest (32 * n) e))
 
--- what initialise writes, of a sorted batch
-abbrev pub freshTree : Env → List Datom → List Node → Stage PageId
-freshTree e ds o = writeRoot e (length ds) (leafOf ds) o
-
-pub fresh-is : (e : Env) (ds : List Datom) → writeFresh e ds ≡ outcome (freshTree e ds [])
-unfolding writeFresh
-fresh-is e ds = refl
-
--- of the n datoms at the front of an area
+-- what initialise writes, of the n datoms at the front of an area
 pub fresh-front : (e : Env) (n : ℕ) (s : List ℕ) (o : List Node) → freshTree e (datomsOf n s) o ≡ writeRoot e n (leafOf (datomsOf n s)) o
 fresh-front e n s o = ap (λ (k : ℕ). writeRoot e k (leafOf (datomsOf n s)) o) (cells-length datomOf 32 n s)
 

@@ -8,6 +8,7 @@ ghost use Prim.Native.Nat.{_*_, _≤_};
 ghost use lib.ListN.{length};
 ghost use Rattle.store.specs.Size.{roomFor, scratchNeed};
 ghost use Rattle.datom.specs.Datom.{datomsOf};
+ghost use Rattle.index.specs.Order.{eavt};
 ghost use Rattle.batch.specs.Finding.{findingOf};
 ghost use Rattle.entry.specs.Checks.{countFor, insertFault, initialiseFault};
 
@@ -16,7 +17,7 @@ pub fn room_for(c: usize) -> usize
     requires { ⌜ c ≤ 102 ⌝ }
     ensures { λ r. ⌜ r ≡ roomFor c ⌝ }
 {
-    8 * c + 128
+    8 * c + batch::MOST
 }
 
 // How many bytes of scratch a call needs.
@@ -44,7 +45,7 @@ pub fn count_of(store: &[u8], extent: Extent, b: &[u8], scratch: usize) -> Count
 // Refusals 3 and 4 of an insert.
 pub fn insert_fault(b: &[u8], n: usize) -> Finding
     requires { ⌜ 32 * n ≤ length (now b) ⌝ }
-    ensures { λ r. ⌜ findingOf r ≡ insertFault (datomsOf n (now (b .entry))) ⌝ }
+    ensures { λ r. ⌜ findingOf r ≡ insertFault eavt (datomsOf n (now (b .entry))) ⌝ }
 {
     match batch::form_fault(b, n) {
         Finding::Found(refusal) => Finding::Found(refusal),
@@ -55,7 +56,7 @@ pub fn insert_fault(b: &[u8], n: usize) -> Finding
 // Refusals 3 and 4 of an initialise.
 pub fn initialise_fault(b: &[u8], n: usize) -> Finding
     requires { ⌜ 32 * n ≤ length (now b) ⌝ }
-    ensures { λ r. ⌜ findingOf r ≡ initialiseFault (datomsOf n (now (b .entry))) ⌝ }
+    ensures { λ r. ⌜ findingOf r ≡ initialiseFault eavt (datomsOf n (now (b .entry))) ⌝ }
 {
     match batch::form_fault(b, n) {
         Finding::Found(refusal) => Finding::Found(refusal),

@@ -14,12 +14,12 @@ ghost use mathlib.Core.Bool.{true};
 ghost use mathlib.Core.Path.{_≡_};
 ghost use lib.ListN.{length};
 ghost use Rattle.datom.specs.Datom.{datomsOf};
-ghost use Rattle.index.specs.Order.{cmpEavt, eavt};
+ghost use Rattle.index.specs.Order.{eavt};
 ghost use Rattle.rules.specs.Page.{rising};
 ghost use Rattle.rules.specs.Store.{fetchPage, envOf};
-ghost use Rattle.rules.specs.Insert.{insertAt, insertBytes, initialiseBytes};
+ghost use Rattle.rules.specs.Insert.{insertAt, insertCounted, initialiseCounted, insertBytes, initialiseBytes};
 ghost use Rattle.entry.specs.Reply.{Replies, answerOf};
-ghost use Rattle.entry.specs.Checks.{Passed, insertRest, initialiseRest};
+ghost use Rattle.entry.specs.Checks.{Passed};
 
 // The answer, of what was written.
 fn answer_of(r: Rooted) -> Answer
@@ -48,7 +48,7 @@ fn insert_at(
     n: usize,
     s: &mut [u8],
 ) -> Answer
-    requires { ⌜ Passed extent (now store) c (now b) n (length (now s)) × (rising cmpEavt (datomsOf n (now b)) ≡ true) ⌝ }
+    requires { ⌜ Passed extent (now store) c (now b) n (length (now s)) × (rising (eavt .cmp) (datomsOf n (now b)) ≡ true) ⌝ }
     ensures { λ r. ⌜ Replies extent (now (store .entry)) (now (store .exit)) r (insertAt (envOf eavt extent (now (store .entry))) root (datomsOf n (now (b .entry))) (fetchPage eavt extent (now (store .entry)) root)) ⌝ }
 {
     let Found::Fine { level, count } = memory_store::found::node_at(store, extent, c, root) else {
@@ -71,16 +71,16 @@ fn insert_counted(
     s: &mut [u8],
 ) -> Answer
     requires { ⌜ Passed extent (now store) c (now b) n (length (now s)) ⌝ }
-    ensures { λ r. ⌜ Replies extent (now (store .entry)) (now (store .exit)) r (insertRest extent (now (store .entry)) root n (now (b .entry))) ⌝ }
+    ensures { λ r. ⌜ Replies extent (now (store .entry)) (now (store .exit)) r (insertCounted eavt extent (now (store .entry)) root (datomsOf n (now (b .entry)))) ⌝ }
 {
     match check::insert_fault(b, n) {
         Finding::Found(refusal) => Answer::Refused(refusal),
         Finding::Clear => {
+            if memory_store::is_bad_root(extent, root) {
+                return Answer::Refused(Refusal::NoPage);
+            }
             if root.is_none() {
                 return answer_of(write::fresh(store, extent, c, b, n, s));
-            }
-            if extent.count <= root.0 {
-                return Answer::Refused(Refusal::NoPage);
             }
             insert_at(store, extent, c, root, b, n, s)
         }
@@ -110,7 +110,7 @@ fn initialise_counted(
     s: &mut [u8],
 ) -> Answer
     requires { ⌜ Passed extent (now store) c (now b) n (length (now s)) ⌝ }
-    ensures { λ r. ⌜ Replies extent (now (store .entry)) (now (store .exit)) r (initialiseRest extent (now (store .entry)) n (now (b .entry))) ⌝ }
+    ensures { λ r. ⌜ Replies extent (now (store .entry)) (now (store .exit)) r (initialiseCounted eavt extent (now (store .entry)) (datomsOf n (now (b .entry)))) ⌝ }
 {
     match check::initialise_fault(b, n) {
         Finding::Found(refusal) => Answer::Refused(refusal),

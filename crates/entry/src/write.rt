@@ -9,15 +9,14 @@ ghost use mathlib.Core.Path.{_≡_};
 ghost use Prim.Native.Nat.{_+_, _*_, _≤_};
 ghost use lib.ListN.{length};
 ghost use Rattle.datom.specs.Datom.{datomsOf};
-ghost use Rattle.index.specs.Order.{cmpEavt, eavt};
-ghost use Rattle.rules.specs.Insert.{sort};
-ghost use Rattle.rules.specs.Tree.{fine};
+ghost use Rattle.index.specs.Order.{DatomOrd, eavt};
+ghost use Rattle.rules.specs.Insert.{sort, freshTree};
+ghost use Rattle.rules.specs.Tree.{fine, insertTree};
 ghost use Rattle.rules.specs.Store.{fetchPage, envOf};
 ghost use Rattle.memory_store.specs.Readable.{nodeAt};
 ghost use Rattle.htree.specs.Root.{Roots};
-ghost use Rattle.htree.specs.Raise.{raised};
 ghost use Rattle.entry.specs.Checks.{Roomy, Passed};
-ghost use Rattle.entry.specs.Leaf.{Cleared, freshTree};
+ghost use Rattle.entry.specs.Leaf.{Cleared};
 
 // The n datoms at the front of the area become those of a leaf: no child beside any of them.
 fn clear_children(s: &mut [u8], m: usize, n: usize)
@@ -34,7 +33,7 @@ fn clear_children(s: &mut [u8], m: usize, n: usize)
 // The n datoms at the front of the scratch, which ascend, become a tree.
 fn leaf(store: &mut [u8], extent: Extent, c: usize, n: usize, s: &mut [u8]) -> Rooted
     requires { ⌜ Roomy extent (now store) c n (length (now s)) ⌝ }
-    ensures { λ r. ⌜ Roots extent (now (store .entry)) (now (store .exit)) 0 r (freshTree (envOf eavt extent (now (store .entry))) (datomsOf n (now (s .entry)))) ⌝ }
+    ensures { λ r. ⌜ ((t : DatomOrd) → Roots extent (now (store .entry)) (now (store .exit)) 0 r (freshTree (envOf t extent (now (store .entry))) (datomsOf n (now (s .entry))))) ⌝ }
 {
     let m = check::room_for(c);
     clear_children(s, m, n);
@@ -44,7 +43,7 @@ fn leaf(store: &mut [u8], extent: Extent, c: usize, n: usize, s: &mut [u8]) -> R
 // A batch that ascends becomes a tree.
 pub fn fresh(store: &mut [u8], extent: Extent, c: usize, b: &[u8], n: usize, s: &mut [u8]) -> Rooted
     requires { ⌜ Passed extent (now store) c (now b) n (length (now s)) ⌝ }
-    ensures { λ r. ⌜ Roots extent (now (store .entry)) (now (store .exit)) 0 r (freshTree (envOf eavt extent (now (store .entry))) (datomsOf n (now (b .entry)))) ⌝ }
+    ensures { λ r. ⌜ ((t : DatomOrd) → Roots extent (now (store .entry)) (now (store .exit)) 0 r (freshTree (envOf t extent (now (store .entry))) (datomsOf n (now (b .entry))))) ⌝ }
 {
     store::put(s, 0, b);
     leaf(store, extent, c, n, s)
@@ -60,7 +59,7 @@ pub fn sorted(
     s: &mut [u8],
 ) -> Rooted
     requires { ⌜ Passed extent (now store) c (now b) n (length (now s)) ⌝ }
-    ensures { λ r. ⌜ Roots extent (now (store .entry)) (now (store .exit)) 0 r (freshTree (envOf eavt extent (now (store .entry))) (sort cmpEavt (datomsOf n (now (b .entry))))) ⌝ }
+    ensures { λ r. ⌜ Roots extent (now (store .entry)) (now (store .exit)) 0 r (freshTree (envOf eavt extent (now (store .entry))) (sort (eavt .cmp) (datomsOf n (now (b .entry))))) ⌝ }
 {
     store::put(s, 0, b);
     batch::sort::sort(s, n);
@@ -80,7 +79,7 @@ pub fn under(
     s: &mut [u8],
 ) -> Rooted
     requires { ⌜ Passed extent (now store) c (now b) n (length (now s)) × (fetchPage eavt extent (now store) root ≡ fine (nodeAt extent (now store) root level count)) ⌝ }
-    ensures { λ r. ⌜ Roots extent (now (store .entry)) (now (store .exit)) 0 r (raised (envOf eavt extent (now (store .entry))) level root (datomsOf n (now (b .entry)))) ⌝ }
+    ensures { λ r. ⌜ Roots extent (now (store .entry)) (now (store .exit)) 0 r (insertTree (envOf eavt extent (now (store .entry))) level root (datomsOf n (now (b .entry)))) ⌝ }
 {
     let m = check::room_for(c);
     store::put(s, 40 * m + 8, b);

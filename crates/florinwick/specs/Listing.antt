@@ -21,7 +21,7 @@ use Rattle.answer.specs.Table.{Words, startWords, stepWords, refusedWords}
 use Rattle.rules.specs.Store.{refuseIf, orElse, badStore}
 use Rattle.rules.specs.Entry.{wordBytes}
 use Rattle.rules.specs.Listing.{refuseStart, startList, refuseStep, stepList}
-use Rattle.florinwick.specs.Words.{Tells, words, Answered, not-answered, answered, answered-same}
+use Rattle.florinwick.specs.Words.{WordsIn, words, AreaReplied, not-answered, answered, area-replied-same}
 use Rattle.florinwick.specs.Cursor.{cursorBytes, cursorIn}
 
 -- a bound in bytes: a length other than 32 is no bound, so it is 10, and "checks 1, 10, 5" keeps its order
@@ -57,12 +57,12 @@ whenAnswered a new old = cond (eqb (length a) 32) new old
 
 -- what a start returned and left
 pub record Begins (r : ℕ) (a a₁ c c₁ : List ℕ) (root : PageId) (b : Started) : Type 0 where
-  pub answer : Answered r a a₁ (startWords root (b .answer))
+  pub answer : AreaReplied r a a₁ (startWords root (b .answer))
   pub cursor : c₁ ≡ whenAnswered a (cursorStarted c b) c
 
 -- what a step returned and left
 pub record Steps (r : ℕ) (a a₁ c c₁ e e₁ : List ℕ) (k : Stepped) : Type 0 where
-  pub answer : Answered r a a₁ (stepWords (k .answer))
+  pub answer : AreaReplied r a a₁ (stepWords (k .answer))
   pub cursor : c₁ ≡ whenAnswered a (cursorStepped c k) c
   pub datom : e₁ ≡ whenAnswered a (datomStepped e k) e
 
@@ -71,13 +71,13 @@ pub begins-same :
     (r₁ r₂ : ℕ) (a a₁ a₂ c c₁ c₂ : List ℕ) (root : PageId) (b : Started) → Begins r₁ a a₁ c c₁ root b → Begins r₂ a a₂ c c₂ root b →
     ((r₁ ≡ r₂) × (a₁ ≡ a₂)) × (c₁ ≡ c₂)
 begins-same r₁ r₂ a a₁ a₂ c c₁ c₂ root b A B =
-    (answered-same r₁ r₂ a a₁ a₂ (startWords root (b .answer)) (A .answer) (B .answer), A .cursor ∙ sym (B .cursor))
+    (area-replied-same r₁ r₂ a a₁ a₂ (startWords root (b .answer)) (A .answer) (B .answer), A .cursor ∙ sym (B .cursor))
 
 pub steps-same :
     (r₁ r₂ : ℕ) (a a₁ a₂ c c₁ c₂ e e₁ e₂ : List ℕ) (k : Stepped) → Steps r₁ a a₁ c c₁ e e₁ k → Steps r₂ a a₂ c c₂ e e₂ k →
     ((r₁ ≡ r₂) × (a₁ ≡ a₂)) × ((c₁ ≡ c₂) × (e₁ ≡ e₂))
 steps-same r₁ r₂ a a₁ a₂ c c₁ c₂ e e₁ e₂ k A B =
-    (answered-same r₁ r₂ a a₁ a₂ (stepWords (k .answer)) (A .answer) (B .answer), (A .cursor ∙ sym (B .cursor), A .datom ∙ sym (B .datom)))
+    (area-replied-same r₁ r₂ a a₁ a₂ (stepWords (k .answer)) (A .answer) (B .answer), (A .cursor ∙ sym (B .cursor), A .datom ∙ sym (B .datom)))
 
 -- the start between two bounds in bytes, in the order of its refusals
 module _ (t : DatomOrd) (x : Extent) (s : List ℕ) (root : PageId) (lower upper : List ℕ) where
@@ -106,14 +106,14 @@ module _ (t : DatomOrd) (x : Extent) (s : List ℕ) (root : PageId) (lower upper
 
   pub start-unkept :
       (r : ℕ) (a a₁ c : List ℕ) → length a ≡ 32 → (length c ≡ 264 → ⊥) → r ≡ refusedWords (root .0) BadStore .number →
-      Tells (refusedWords (root .0) BadStore) a₁ → Begins r a a₁ c c root (startIn t x s root lower upper c)
+      WordsIn (refusedWords (root .0) BadStore) a₁ → Begins r a a₁ c c root (startIn t x s root lower upper c)
   unfolding startIn cursorStarted
   start-unkept r a a₁ c h n e T =
       rw (ne-eqb (length c) 264 n) (record { answer = answered r a a₁ _ h e T; cursor = rw (eq-eqb (length a) 32 h) })
 
   pub start-kept :
       (r : ℕ) (a a₁ c c₁ : List ℕ) (b : Started) → length a ≡ 32 → length c ≡ 264 → b ≡ startBytes t x s root lower upper →
-      r ≡ startWords root (b .answer) .number → Tells (startWords root (b .answer)) a₁ → c₁ ≡ cursorStarted c b →
+      r ≡ startWords root (b .answer) .number → WordsIn (startWords root (b .answer)) a₁ → c₁ ≡ cursorStarted c b →
       Begins r a a₁ c c₁ root (startIn t x s root lower upper c)
   unfolding startIn
   start-kept r a a₁ c c₁ b h n g e T k =
@@ -126,24 +126,24 @@ module _ (t : DatomOrd) (x : Extent) (s a c e : List ℕ) where
 
   unkept :
       (r : ℕ) (a₁ : List ℕ) → length a ≡ 32 → (eqb (length c) 264 && eqb (length e) 32) ≡ false → r ≡ refusedWords 0 BadStore .number →
-      Tells (refusedWords 0 BadStore) a₁ → Steps r a a₁ c c e e (stepIn t x s c e)
+      WordsIn (refusedWords 0 BadStore) a₁ → Steps r a a₁ c c e e (stepIn t x s c e)
   unfolding stepIn cursorStepped datomStepped
   unkept r a₁ h n v T =
       rw n (record { answer = answered r a a₁ _ h v T; cursor = rw (eq-eqb (length a) 32 h); datom = rw (eq-eqb (length a) 32 h) })
 
   pub step-no-cursor :
       (r : ℕ) (a₁ : List ℕ) → length a ≡ 32 → (length c ≡ 264 → ⊥) → r ≡ refusedWords 0 BadStore .number →
-      Tells (refusedWords 0 BadStore) a₁ → Steps r a a₁ c c e e (stepIn t x s c e)
+      WordsIn (refusedWords 0 BadStore) a₁ → Steps r a a₁ c c e e (stepIn t x s c e)
   step-no-cursor r a₁ h n v T = unkept r a₁ h (rw (ne-eqb (length c) 264 n)) v T
 
   pub step-no-datom :
       (r : ℕ) (a₁ : List ℕ) → length a ≡ 32 → length c ≡ 264 → (length e ≡ 32 → ⊥) → r ≡ refusedWords 0 BadStore .number →
-      Tells (refusedWords 0 BadStore) a₁ → Steps r a a₁ c c e e (stepIn t x s c e)
+      WordsIn (refusedWords 0 BadStore) a₁ → Steps r a a₁ c c e e (stepIn t x s c e)
   step-no-datom r a₁ h n m v T = unkept r a₁ h (rw (eq-eqb (length c) 264 n, ne-eqb (length e) 32 m)) v T
 
   pub step-kept :
       (r : ℕ) (a₁ c₁ e₁ : List ℕ) (k : Stepped) → length a ≡ 32 → length c ≡ 264 → length e ≡ 32 → k ≡ stepList t x s (cursorIn c) →
-      r ≡ stepWords (k .answer) .number → Tells (stepWords (k .answer)) a₁ → c₁ ≡ cursorStepped c k → e₁ ≡ datomStepped e k →
+      r ≡ stepWords (k .answer) .number → WordsIn (stepWords (k .answer)) a₁ → c₁ ≡ cursorStepped c k → e₁ ≡ datomStepped e k →
       Steps r a a₁ c c₁ e e₁ (stepIn t x s c e)
   unfolding stepIn
   step-kept r a₁ c₁ e₁ k h n m g v T i j =
@@ -151,6 +151,6 @@ module _ (t : DatomOrd) (x : Extent) (s a c e : List ℕ) where
       (record { answer = answered r a a₁ _ h v T; cursor = rw (eq-eqb (length a) 32 h) i; datom = rw (eq-eqb (length a) 32 h) j })
 
 -- the four words of a datom are its bytes
-pub datom-told : (d : Datom) (a : List ℕ) → Tells (words (d .entity .0) (d .attribute .0) (d .value .0) (d .«transaction_operation» .0)) a → a ≡ datomBytes d
+pub datom-told : (d : Datom) (a : List ℕ) → WordsIn (words (d .entity .0) (d .attribute .0) (d .value .0) (d .«transaction_operation» .0)) a → a ≡ datomBytes d
 unfolding wordBytes spread datomBytes
 datom-told d a T = T .bytes ∙ rw append-nil

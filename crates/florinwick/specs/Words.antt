@@ -2,22 +2,22 @@
 use Prim.Native.Nat.{ℕ, _+_, _≤_}
 use native.Mathlib.Omega.{arith}
 use mathlib.Core.Bool.{cond}
-use mathlib.Core.List.{List, _++_, append-nil, append-assoc}
+use mathlib.Core.List.{List, _++_, append-nil}
 use mathlib.Core.Path.{_≡_, refl, sym, _∙_, ap}
 use borrow.Author.Tests.{eq-eqb, ne-eqb}
 use lib.Dec.{eqb}
-use lib.ListN.{length, length-append, drop-of-length-le}
+use lib.ListN.{length, drop-of-length-le}
 use Rattle.store.specs.declared.PageId.{PageId}
 use Rattle.store.specs.declared.Extent.{Extent}
 use Rattle.store.specs.Words.{bytesOf, spread, patch}
 use Rattle.store.specs.Size.{capacity, scratchNeed}
-use Rattle.store.specs.Laws.{bytes-length}
 use Rattle.answer.specs.declared.Answer.{Answer}
 use Rattle.answer.specs.Table.{Words, answerWords}
 use Rattle.rules.specs.Insert.{Outcome}
 use Rattle.rules.specs.Entry.{wordBytes, Reply, reply}
 use Rattle.store.specs.Cells.{patch-patch}
 use Rattle.entry.specs.Reply.{Replies}
+use Rattle.records.specs.Laid.{four-words}
 
 abbrev pub words : ℕ → ℕ → ℕ → ℕ → Words
 words number root pages detail = record { number = number; root = root; pages = pages; detail = detail }
@@ -38,7 +38,7 @@ unfolding needOf
 need-some size h = rw (ne-eqb (capacity size) 0 h)
 
 -- an area with the words
-pub record Tells (w : Words) (area : List ℕ) : Type 0 where
+pub record WordsIn (w : Words) (area : List ℕ) : Type 0 where
   pub bytes : area ≡ wordBytes w
 
 -- what a call returned and left
@@ -62,31 +62,11 @@ pub filled : (a p : List ℕ) → length a ≡ length p → patch a 0 p ≡ p
 unfolding patch
 filled a p e = ap (λ (l : List ℕ). p ++ l) (drop-of-length-le a {i = 0 + length p} (omega arith)) ∙ append-nil p
 
-module _ (a : List ℕ) (full : length a ≡ 32) (p q r t : ℕ) where
-  abbrev two : List ℕ
-  two = bytesOf 8 p ++ bytesOf 8 q
-
-  abbrev three : List ℕ
-  three = two ++ bytesOf 8 r
-
-  two-long : length two ≡ 16
-  two-long = omega (arith, length-append (bytesOf 8 p) (bytesOf 8 q), bytes-length 8 p, bytes-length 8 q)
-
-  three-long : length three ≡ 24
-  three-long = omega (arith, length-append two (bytesOf 8 r), two-long, bytes-length 8 r)
-
-  stacked :
-      patch (patch (patch (patch a 0 (bytesOf 8 p)) 8 (bytesOf 8 q)) 16 (bytesOf 8 r)) 24 (bytesOf 8 t) ≡ three ++ bytesOf 8 t
-  stacked =
-      ap (λ (s : List ℕ). patch (patch s 16 (bytesOf 8 r)) 24 (bytesOf 8 t)) (next-block a (bytesOf 8 p) (bytesOf 8 q) 8 (bytes-length 8 p) (omega (arith, bytes-length 8 q)))
-      ∙ ap (λ (s : List ℕ). patch s 24 (bytesOf 8 t)) (next-block a two (bytesOf 8 r) 16 two-long (omega (arith, bytes-length 8 r)))
-      ∙ next-block a three (bytesOf 8 t) 24 three-long (omega (arith, bytes-length 8 t))
-      ∙ filled a (three ++ bytesOf 8 t) (omega (arith, length-append three (bytesOf 8 t), three-long, bytes-length 8 t))
-
-  pub four-words :
-      Tells (words p q r t) (patch (patch (patch (patch a 0 (bytesOf 8 p)) 8 (bytesOf 8 q)) 16 (bytesOf 8 r)) 24 (bytesOf 8 t))
-  unfolding wordBytes spread
-  four-words = record { bytes = stacked ∙ rw (append-nil, append-assoc, append-assoc) }
+pub words-put :
+    (a : List ℕ) → length a ≡ 32 → (p q r t : ℕ) →
+    WordsIn (words p q r t) (patch (patch (patch (patch a 0 (bytesOf 8 p)) 8 (bytesOf 8 q)) 16 (bytesOf 8 r)) 24 (bytesOf 8 t))
+unfolding wordBytes spread bytesOf
+words-put a full p q r t = record { bytes = four-words a 0 p q r t (omega arith) ∙ filled a _ full ∙ rw append-nil }
 
 -- "An area not 32 bytes long is 1 before all else and stays unchanged."
 pub no-area : (x : Extent) (s a : List ℕ) (root : PageId) (o : Outcome) → (length a ≡ 32 → ⊥) → Replied 1 s a (reply x s a root o)
@@ -95,7 +75,7 @@ no-area x s a root o h = rw (ne-eqb (length a) 32 h) (record { returns = refl; s
 
 pub told-reply :
     (x : Extent) (s s₁ a a₁ : List ℕ) (root : PageId) (o : Outcome) (r : Answer) (v : ℕ) → length a ≡ 32 → Replies x s s₁ r o → v ≡ answerWords root r .number →
-    Tells (answerWords root r) a₁ → Replied v s₁ a₁ (reply x s a root o)
+    WordsIn (answerWords root r) a₁ → Replied v s₁ a₁ (reply x s a root o)
 unfolding reply
 told-reply x s s₁ a a₁ root o r v h R e T =
     rw (eq-eqb (length a) 32 h)
@@ -106,16 +86,16 @@ told-reply x s s₁ a a₁ root o r v h R e T =
     })
 
 -- what a call that changes no store returned and left in its answer area
-pub record Answered (r : ℕ) (a a₁ : List ℕ) (w : Words) : Type 0 where
+pub record AreaReplied (r : ℕ) (a a₁ : List ℕ) (w : Words) : Type 0 where
   pub returns : r ≡ cond (eqb (length a) 32) (w .number) 1
   pub area : a₁ ≡ cond (eqb (length a) 32) (wordBytes w) a
 
-pub answered-same :
-    (r₁ r₂ : ℕ) (a a₁ a₂ : List ℕ) (w : Words) → Answered r₁ a a₁ w → Answered r₂ a a₂ w → (r₁ ≡ r₂) × (a₁ ≡ a₂)
-answered-same r₁ r₂ a a₁ a₂ w A B = (A .returns ∙ sym (B .returns), A .area ∙ sym (B .area))
+pub area-replied-same :
+    (r₁ r₂ : ℕ) (a a₁ a₂ : List ℕ) (w : Words) → AreaReplied r₁ a a₁ w → AreaReplied r₂ a a₂ w → (r₁ ≡ r₂) × (a₁ ≡ a₂)
+area-replied-same r₁ r₂ a a₁ a₂ w A B = (A .returns ∙ sym (B .returns), A .area ∙ sym (B .area))
 
-pub not-answered : (a : List ℕ) (w : Words) → (length a ≡ 32 → ⊥) → Answered 1 a a w
+pub not-answered : (a : List ℕ) (w : Words) → (length a ≡ 32 → ⊥) → AreaReplied 1 a a w
 not-answered a w h = record { returns = rw (ne-eqb (length a) 32 h); area = rw (ne-eqb (length a) 32 h) }
 
-pub answered : (r : ℕ) (a a₁ : List ℕ) (w : Words) → length a ≡ 32 → r ≡ w .number → Tells w a₁ → Answered r a a₁ w
+pub answered : (r : ℕ) (a a₁ : List ℕ) (w : Words) → length a ≡ 32 → r ≡ w .number → WordsIn w a₁ → AreaReplied r a a₁ w
 answered r a a₁ w h e T = record { returns = rw (eq-eqb (length a) 32 h) e; area = rw (eq-eqb (length a) 32 h) (T .bytes) }

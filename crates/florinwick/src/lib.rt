@@ -16,7 +16,7 @@ ghost use Rattle.answer.specs.Table.{fetchWords, checkWords};
 ghost use Rattle.rules.specs.Entry.{insertReply, initialiseReply};
 ghost use Rattle.rules.specs.Store.{fetchAnswer};
 ghost use Rattle.rules.specs.Check.{checkTree};
-ghost use Rattle.florinwick.specs.Words.{Replied, Answered, extentOf, needOf};
+ghost use Rattle.florinwick.specs.Words.{Replied, AreaReplied, extentOf, needOf};
 
 // The number of a check that finds a fault.
 const UNSOUND: u64 = 33;
@@ -83,7 +83,7 @@ pub extern "C" fn florinwick_fetch(
     id: u64,
     area: &mut [u8],
 ) -> u64
-    ensures { λ r. ⌜ Answered r (now (area .entry)) (now (area .exit)) (fetchWords (fetchAnswer (extentOf size count) (now (store .entry)) (page id))) ⌝ }
+    ensures { λ r. ⌜ AreaReplied r (now (area .entry)) (now (area .exit)) (fetchWords (fetchAnswer (extentOf size count) (now (store .entry)) (page id))) ⌝ }
 {
     if area.len() != words::AREA {
         return 1;
@@ -107,7 +107,7 @@ pub extern "C" fn florinwick_check(
     root: u64,
     area: &mut [u8],
 ) -> u64
-    ensures { λ r. ⌜ Answered r (now (area .entry)) (now (area .exit)) (checkWords (page root) (checkTree eavt (extentOf size count) (now (store .entry)) (page root))) ⌝ }
+    ensures { λ r. ⌜ AreaReplied r (now (area .entry)) (now (area .exit)) (checkWords (page root) (checkTree eavt (extentOf size count) (now (store .entry)) (page root))) ⌝ }
 {
     if area.len() != words::AREA {
         return 1;

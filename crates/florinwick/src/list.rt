@@ -13,7 +13,7 @@ ghost use lib.ListN.{length};
 ghost use Rattle.index.specs.Order.{eavt};
 ghost use Rattle.store.specs.Page.{page};
 ghost use Rattle.answer.specs.Table.{startWords, stepWords};
-ghost use Rattle.florinwick.specs.Words.{Tells, extentOf};
+ghost use Rattle.florinwick.specs.Words.{WordsIn, extentOf};
 ghost use Rattle.florinwick.specs.Listing.{startBytes, startIn, cursorStarted, stepIn, cursorStepped, datomStepped, Begins, Steps};
 
 // A bound that is not 32 bytes long is none.
@@ -37,7 +37,7 @@ fn start_between(store: &[u8], extent: Extent, root: PageId, lower: &[u8], upper
 // A cursor that has begun goes to its area; a refused start leaves it.
 fn keep_start(cursor: &mut [u8], area: &mut [u8], root: u64, started: Started) -> u64
     requires { ⌜ (length (now cursor) ≡ 264) × (length (now area) ≡ 32) ⌝ }
-    ensures { λ r. ⌜ ((r ≡ startWords (page root) (started .answer) .number) × Tells (startWords (page root) (started .answer)) (now (area .exit))) × (now (cursor .exit) ≡ cursorStarted (now (cursor .entry)) started) ⌝ }
+    ensures { λ r. ⌜ ((r ≡ startWords (page root) (started .answer) .number) × WordsIn (startWords (page root) (started .answer)) (now (area .exit))) × (now (cursor .exit) ≡ cursorStarted (now (cursor .entry)) started) ⌝ }
 {
     let answer = started.answer;
     let begun = started.cursor;
@@ -79,7 +79,7 @@ pub extern "C" fn florinwick_list_start(
 // A datom that is yielded goes to its area and the cursor behind it; a step that has ended or is refused leaves both.
 fn keep_step(cursor: &mut [u8], datom: &mut [u8], area: &mut [u8], stepped: Stepped) -> u64
     requires { ⌜ (length (now cursor) ≡ 264) × ((length (now datom) ≡ 32) × (length (now area) ≡ 32)) ⌝ }
-    ensures { λ r. ⌜ ((r ≡ stepWords (stepped .answer) .number) × Tells (stepWords (stepped .answer)) (now (area .exit))) × ((now (cursor .exit) ≡ cursorStepped (now (cursor .entry)) stepped) × (now (datom .exit) ≡ datomStepped (now (datom .entry)) stepped)) ⌝ }
+    ensures { λ r. ⌜ ((r ≡ stepWords (stepped .answer) .number) × WordsIn (stepWords (stepped .answer)) (now (area .exit))) × ((now (cursor .exit) ≡ cursorStepped (now (cursor .entry)) stepped) × (now (datom .exit) ≡ datomStepped (now (datom .entry)) stepped)) ⌝ }
 {
     let answer = stepped.answer;
     let next = stepped.cursor;

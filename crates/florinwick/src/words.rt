@@ -5,7 +5,7 @@ use store::PageId;
 ghost use mathlib.Core.Path.{_≡_};
 ghost use lib.ListN.{length};
 ghost use Rattle.answer.specs.Table.{answerWords, refusedWords};
-ghost use Rattle.florinwick.specs.Words.{Tells, words};
+ghost use Rattle.florinwick.specs.Words.{WordsIn, words};
 
 // How many bytes four words have.
 pub const AREA: usize = 32;
@@ -13,7 +13,7 @@ pub const AREA: usize = 32;
 // The four words, into an area of their size.
 pub fn put_words(area: &mut [u8], number: u64, root: u64, pages: u64, detail: u64)
     requires { ⌜ length (now area) ≡ 32 ⌝ }
-    ensures { λ _. ⌜ Tells (words number root pages detail) (now (area .exit)) ⌝ }
+    ensures { λ _. ⌜ WordsIn (words number root pages detail) (now (area .exit)) ⌝ }
 {
     store::put_word(area, 0, number);
     store::put_word(area, 8, root);
@@ -24,7 +24,7 @@ pub fn put_words(area: &mut [u8], number: u64, root: u64, pages: u64, detail: u6
 // A refusal's number, index or page, and the root that the call was given.
 pub fn refuse(area: &mut [u8], root: u64, refusal: Refusal) -> u64
     requires { ⌜ length (now area) ≡ 32 ⌝ }
-    ensures { λ r. ⌜ (r ≡ refusedWords root refusal .number) × Tells (refusedWords root refusal) (now (area .exit)) ⌝ }
+    ensures { λ r. ⌜ (r ≡ refusedWords root refusal .number) × WordsIn (refusedWords root refusal) (now (area .exit)) ⌝ }
 {
     let number = refusal.number();
     put_words(area, number, root, 0, refusal.detail());
@@ -34,7 +34,7 @@ pub fn refuse(area: &mut [u8], root: u64, refusal: Refusal) -> u64
 // An answer goes to the area, and its number back to the caller. A refused call's root is the one it was given.
 pub fn tell(area: &mut [u8], root: PageId, a: Answer) -> u64
     requires { ⌜ length (now area) ≡ 32 ⌝ }
-    ensures { λ r. ⌜ (r ≡ answerWords root a .number) × Tells (answerWords root a) (now (area .exit)) ⌝ }
+    ensures { λ r. ⌜ (r ≡ answerWords root a .number) × WordsIn (answerWords root a) (now (area .exit)) ⌝ }
 {
     match a {
         Answer::Done { root: new, pages } => {

@@ -19,12 +19,13 @@ use Rattle.answer.specs.declared.Answer.the-variants.{Done}
 use Rattle.rules.specs.Store.{badScratch}
 use Rattle.rules.specs.Insert.{Outcome, refuse, batchOf}
 use Rattle.rules.specs.Lists.{In, in-left, in-right}
-use Rattle.history.specs.Statement.{inserting, inserts, step, gathered, WellFormed, Shared, FirstShared, Resending}
+use Rattle.history.specs.Statement.{inserts, givenRoot, givenBatch, outcomeOf, calls, next, gathered, WellFormed, Shared}
+use Rattle.history.specs.More.{FirstShared, Resending, AcceptedFormed}
 use Rattle.history.specs.Order.{clash, same-self}
 use Rattle.history.specs.After.{store-same}
 use Rattle.history.specs.Calls.{Inserted, badly, early, met, stays, done}
 use Rattle.history.specs.Invariant.{inserted-at, inv}
-use Rattle.history.specs.Demand.{later-later}
+use Rattle.history.specs.Listing.{later-later}
 
 gathered-in : (bs : List (List ℕ)) (b : List ℕ) → In b bs → (d : Datom) → In d (batchOf b) → In d (gathered bs)
 gathered-in (c ∷ bs) b (inl e) d i = in-left d (batchOf c) (gathered bs) (rw e at i)
@@ -66,15 +67,19 @@ some-datom b h e = head (batchOf b) (omega (arith, cells-length datomOf 32 (leng
     head [] k = absurd (omega arith)
     head (d ∷ ds) k = (d, inl refl)
 
-pub resending : (t : DatomOrd) → Preorder (t .cmp) → (size : ℕ) → (capacity size ≡ 0 → ⊥) → Resending t size
-resending t L size known m h k i b scratch lent some root n e m₁ l k₁ i₁ g scratch₁ lent₁ ready =
-    let I = inv t L size known (h .1) in
-    let w : WellFormed t b =
-    accepted-well-formed t L (m .extent) (m .store) scratch (gathered (k .batches)) b (inserted-at t L size known I k i b scratch lent) e in
-    let I₁ = inv t L size known (later-later (step (h .1) (inserts k i b scratch lent)) l) in
-    let d = some-datom b some (w .multiple) in
-    let sent : In b (k₁ .batches) = rw (g .1) (in-right b (g .0) (b ∷ k .batches) (inl refl)) in
-    let o : inserting t m₁ k₁ scratch₁ b ≡ refuse (Repeated 0) =
-    shared-refused t L (m₁ .extent) (m₁ .store) scratch₁ (gathered (k₁ .batches)) b (inserted-at t L size known I₁ k₁ i₁ b scratch₁ lent₁) w ready
-    (d .0) (d .1) (gathered-in (k₁ .batches) b sent) in
-    (rw o, rw o (store-same (m₁ .extent) (m₁ .store)))
+module _ (t : DatomOrd) (L : Preorder (t .cmp)) (size : ℕ) (known : capacity size ≡ 0 → ⊥) where
+  pub resending : Resending t size
+  resending m h c F root n e m₁ l k₁ i₁ g b lent w some part scratch ready =
+      let I₁ = inv t L size known (later-later (next (h .1) (calls c F)) l) in
+      let d = some-datom b some (w .multiple) in
+      let sent : In (givenBatch c) (k₁ .batches) =
+      rw (g .1) (in-right (givenBatch c) (g .0) (givenBatch c ∷ givenRoot c .batches) (inl refl)) in
+      let o : outcomeOf t m₁ (inserts k₁ b scratch) ≡ refuse (Repeated 0) =
+      shared-refused t L (m₁ .extent) (m₁ .store) scratch (gathered (k₁ .batches)) b (inserted-at t L size known I₁ k₁ i₁ b scratch lent) w ready
+      (d .0) (d .1) (λ y j. gathered-in (k₁ .batches) (givenBatch c) sent y (part y j)) in
+      (rw o, rw o (store-same (m₁ .extent) (m₁ .store)))
+
+  pub accepted-formed : AcceptedFormed t size
+  accepted-formed m h k b scratch F root n e =
+      accepted-well-formed t L (m .extent) (m .store) scratch (gathered (k .batches)) b
+      (inserted-at t L size known (inv t L size known (h .1)) k (F .known) b scratch (F .lent)) e

@@ -18,14 +18,15 @@ use Rattle.answer.specs.declared.Refusal.{Refusal}
 use Rattle.answer.specs.declared.Refusal.the-variants.{BadStore, Repeated}
 use Rattle.answer.specs.declared.Answer.the-variants.{Done, Refused}
 use Rattle.rules.specs.Page.{Node}
-use Rattle.rules.specs.Tree.{Fetched, fine, Env, Stage, writeRoot, insertTree}
+use Rattle.rules.specs.Tree.{Fetched, fine, Env, Stage, insertTree}
 use Rattle.rules.specs.Lookup.{Finding}
 use Rattle.rules.specs.Store.{orElse, badScratch, badRoot, fetchPage, envOf}
-use Rattle.rules.specs.Insert.{Outcome, refuse, outcome, storeFault, rootFault, sort, leafOf, writeFresh, insertAt, insertUnder, insert, initialise, batchOf, insertBytes, initialiseBytes}
+use Rattle.rules.specs.Insert.{Outcome, refuse, outcome, storeFault, rootFault, sort, leafOf, freshTree, writeFresh, insertAt, insertUnder, insertCounted, initialiseCounted, batchOf, insertBytes, initialiseBytes}
 use Rattle.rules.specs.Lists.{In, Rising}
 use Rattle.rules.specs.Reads.{fetch-tells}
 use Rattle.rules.specs.Sizes.{level-is, level-fine}
-use Rattle.history.specs.Statement.{Lent, WellFormed, FirstShared}
+use Rattle.history.specs.Statement.{Lent, WellFormed}
+use Rattle.history.specs.More.{FirstShared}
 use Rattle.history.specs.Tree.{Tree, blank, last, Good, Exactly, pending, pending-in, pending-good}
 use Rattle.history.specs.Pages.{page, child, Holds, noPage, aPage, hLast, hItem, Stored, leaf-full, none-is}
 use Rattle.history.specs.Look.{Lookups, noneMet, someMet, lookups-ok}
@@ -96,7 +97,7 @@ module _ (t : DatomOrd) (e : Env) (E : EnvOk e) where
   -- what is written where there is no tree
   fresh-ok :
       (ds : List Datom) → Rising (e .cmp) ds → ((y : Datom) → In y ds → Storable t y) →
-      Goes (Rooted t e (λ y. In y ds) []) (writeRoot e (length ds) (leafOf ds) [])
+      Goes (Rooted t e (λ y. In y ds) []) (freshTree e ds [])
   unfolding leafOf
   fresh-ok ds r a =
       write-root-ok t e E (λ y. In y ds) a [] (length ds) 0 (leafOf ds) [] refl
@@ -156,7 +157,7 @@ module _
 
             side :
                 {f : Finding} → Lookups (t .cmp) tr 0 (batchOf b) f →
-                Inserted t x s scratch u b (orElse refuse f (outcome (insertTree (envOf t x s) (n .level) root (batchOf b))))
+                Inserted t x s scratch u b (orElse refuse f (outcome (insertTree (envOf t x s) (n .level) root (batchOf b) [])))
             side (noneMet a) =
                 finish w (λ y z i j. a y z i (ex z .1 j)) _
                 (goes-map
@@ -191,7 +192,7 @@ module _
             rw (r, read) (at-page tr root n read (rw (level-is l (fetchPage t x s root) n q) h) g ex w)
 
         pub insert-ok : (root : PageId) → RootIs t x s root u → Inserted t x s scratch u b (insertBytes t x s scratch root b)
-        unfolding insertBytes insert storeFault rootFault
+        unfolding insertBytes insertCounted storeFault rootFault
         insert-ok root R = side (badScratch x scratch) refl
           where
             side : (v : Bool) → badScratch x scratch ≡ v → Inserted t x s scratch u b (insertBytes t x s scratch root b)
@@ -205,7 +206,7 @@ module _
                 at-root (R .holds) (R .good) (R .exactly) (record { multiple = even; few = few; form = form; order = order }))
 
     pub initialise-ok : (scratch : ℕ) (b : List ℕ) → Lent s b → Called t x s [] (batchOf b) (initialiseBytes t x s scratch b)
-    unfolding initialiseBytes initialise storeFault writeFresh outcome envOf
+    unfolding initialiseBytes initialiseCounted storeFault writeFresh outcome envOf
     initialise-ok scratch b lent = side (badScratch x scratch) refl
       where
         finish :

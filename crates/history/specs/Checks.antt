@@ -10,13 +10,14 @@ use lib.Dec.{ltb, eqb}
 use lib.ListN.{length}
 use Rattle.store.specs.Laws.{apart}
 use Rattle.datom.specs.declared.Datom.{Datom}
-use Rattle.index.specs.Order.{isLess, isSame}
+use Rattle.index.specs.Order.{isSame}
 use Rattle.index.specs.Laws.{Preorder}
 use Rattle.answer.specs.declared.Refusal.{Refusal}
 use Rattle.answer.specs.declared.Refusal.the-variants.{TooMany, BadDatom, OutOfOrder}
 use Rattle.rules.specs.Lookup.{Finding, clear, found}
-use Rattle.rules.specs.Insert.{countFault, formFault, lowFault, orderFault, anySame, twinFault, bytesFault}
-use Rattle.rules.specs.Lists.{In, Rising, less, below-all}
+use Rattle.rules.specs.Insert.{countFault, formFault, orderFault, anySame, twinFault, bytesFault}
+use Rattle.rules.specs.Lists.{In, Rising, rising-of, rising-in}
+use Rattle.rules.specs.Checks.{order-tells}
 use Rattle.history.specs.Order.{clash}
 use Rattle.history.specs.Sort.{Distinct}
 
@@ -60,25 +61,11 @@ finds-form ok i (d ∷ ds) = side (ok d) refl (finds-form ok (suc i) ds)
     side false e w = rw e (isFound (inr (inl (i, refl))) λ a. clash e (a d (inl refl)))
 
 module _ (cmp : Datom → Datom → Ordering) (L : Preorder cmp) where
-  finds-low : (i : ℕ) (p : Datom) (ds : List Datom) → Finds (Rising cmp (p ∷ ds)) (lowFault cmp i p ds)
-  unfolding lowFault isLess
-  finds-low i p [] = isClear (λ x j. absurd j, tt)
-  finds-low i p (d ∷ ds) = side (isLess (cmp p d)) refl (finds-low (suc i) d ds)
-    where
-      more : {f : Finding} → isLess (cmp p d) ≡ true → Finds (Rising cmp (d ∷ ds)) f → Finds (Rising cmp (p ∷ d ∷ ds)) f
-      more e (isClear r) = isClear (below-all cmp L p d ds (less cmp p d e) r, r)
-      more e (isFound r n) = isFound r λ a. n (a .1)
-
-      side :
-          (b : Bool) → isLess (cmp p d) ≡ b → Finds (Rising cmp (d ∷ ds)) (lowFault cmp (suc i) d ds) →
-          Finds (Rising cmp (p ∷ d ∷ ds)) (lowFault cmp i p (d ∷ ds))
-      side true e w = rw e (more e w)
-      side false e w = rw e (isFound (inr (inr (i, refl))) λ a. clash e (rw (a .0 d (inl refl))))
-
   pub finds-order : (ds : List Datom) → Finds (Rising cmp ds) (orderFault cmp ds)
-  unfolding orderFault
-  finds-order [] = isClear tt
-  finds-order (d ∷ ds) = finds-low 1 d ds
+  finds-order ds = elim (order-tells cmp ds) [
+    | inl w ↦ rw (w .1) (isClear (rising-in cmp L ds (w .0)))
+    | inr w ↦ rw (w .2) (isFound (inr (inr (w .1, refl))) λ a. clash (w .0) (rising-of cmp ds a))
+  ]
 
   -- for initialise: whether a datom is equal to one already seen
   abbrev Told : Datom → List Datom → Type 0

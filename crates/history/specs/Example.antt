@@ -1,108 +1,169 @@
--- A history that is one: examples c, e, f and g of document 01, as calls over bytes. So the theorem speaks of something.
--- Rests on Base and on the rules, computed.
-use Prim.Native.Nat.{ℕ, _≤_}
+-- A history that is one: examples c, e, f and g of document 01 as calls over bytes, then a batch that finds no room, and a slice that
+-- somebody else makes longer. So the theorem speaks of something. Rests on Base and on the rules, computed.
+use Prim.Native.Nat.{ℕ, _*_, _≤_}
 use native.Mathlib.Omega.{arith}
-use mathlib.Core.List.{List, [], _∷_}
+use mathlib.Core.List.{List, [], _∷_, _++_}
 use mathlib.Core.Logic.{inl, inr}
-use mathlib.Core.Path.{_≡_, refl, _∙_, ap}
-use lib.ListN.{length}
+use mathlib.Core.Path.{_≡_, refl}
+use lib.ListN.{length, take}
+use lib.Seq.{take-at, length-take-le}
 use Rattle.store.specs.Words.{zeros}
 use Rattle.store.specs.Page.{page}
 use Rattle.datom.specs.declared.Datom.{Datom}
 use Rattle.datom.specs.Datom.{datomsBytes}
 use Rattle.index.specs.Order.{eavt}
-use Rattle.rules.specs.Listing.{whole}
+use Rattle.answer.specs.declared.Refusal.the-variants.{Repeated, NoRoom}
+use Rattle.answer.specs.declared.Answer.the-variants.{Refused}
+use Rattle.rules.specs.Insert.{sort}
 use Rattle.rules.specs.Lists.{In}
 use Rattle.rules.specs.Table.{d, run}
 use Rattle.rules.specs.Open.{rules}
-use Rattle.history.specs.Statement.{Known, Moment, inserting, initialising, noRoot, beginning, after, inserts, initialises, Later, now, step, History, within, ordered, list}
+use Rattle.history.specs.Statement.{Known, Moment, Call, inserts, initialises, noRoot, beginning, Lent, outcomeOf, after, calls, others, Later, now, next, History, gathered, HandsOut, WellFormed}
+use Rattle.history.specs.Sort.{within}
 use Rattle.history.specs.Batch.{datoms-bytes}
-use Rattle.history.specs.Base.{base}
+use Rattle.history.specs.Base.{base, base-hands-out}
 
--- "d(k) .. 256-byte pages", room for eight of them, scratch in order
-abbrev pub initialised : Moment → List Datom → Moment
-initialised m ds = after m noRoot (datomsBytes ds) (initialising eavt m 65536 (datomsBytes ds))
+-- a batch of datoms, with scratch in order
+abbrev pub initialising : List Datom → Call
+initialising ds = initialises (datomsBytes ds) 65536
 
-abbrev pub inserted : Moment → Known → List Datom → Moment
-inserted m k ds = after m k (datomsBytes ds) (inserting eavt m k 65536 (datomsBytes ds))
+abbrev pub inserting : Known → List Datom → Call
+inserting k ds = inserts k (datomsBytes ds) 65536
 
--- the roots: "root 2", "root 3", "root 6"
+-- a root that a batch led to from another
+abbrev pub grown : ℕ → List Datom → Known → Known
+grown root ds k = record { root = page root; batches = datomsBytes ds ∷ k .batches }
+
+-- "root 2", "root 3", "root 6"
 abbrev pub rootC : Known
-rootC = record { root = page 2; batches = datomsBytes (run 0 7) ∷ [] }
+rootC = grown 2 (run 0 7) noRoot
 
 abbrev pub rootE : Known
-rootE = record { root = page 3; batches = datomsBytes (run 7 5) ∷ rootC .batches }
+rootE = grown 3 (run 7 5) rootC
 
 abbrev pub rootF : Known
-rootF = record { root = page 6; batches = datomsBytes (run 12 1) ∷ rootE .batches }
+rootF = grown 6 (run 12 1) rootE
 
--- "c d(0)..d(6)", "e After c, insert d7..d11", "f Then d12", "g Then d12 again: Repeated(0)"
+-- "256-byte pages", room for eight of them
 unfoldable pub start : Moment
 start = beginning 256 (zeros 2048)
 
+-- "c d(0)..d(6)", "e After c, insert d7..d11", "f Then d12", "g Then d12 again: Repeated(0)"
 unfoldable pub afterC : Moment
-afterC = initialised start (run 0 7)
+afterC = after eavt start (initialising (run 0 7))
 
 unfoldable pub afterE : Moment
-afterE = inserted afterC rootC (run 7 5)
+afterE = after eavt afterC (inserting rootC (run 7 5))
 
 unfoldable pub afterF : Moment
-afterF = inserted afterE rootE (run 12 1)
+afterF = after eavt afterE (inserting rootE (run 12 1))
 
 unfoldable pub afterG : Moment
-afterG = inserted afterF rootF (run 12 1)
+afterG = after eavt afterF (inserting rootF (run 12 1))
+
+-- d13 to d17 split a leaf, and only page 7 is free: NoRoom, with one page written past the count
+unfoldable pub afterH : Moment
+afterH = after eavt afterG (inserting rootF (run 13 5))
+
+-- somebody makes the slice longer, and cares for nothing past the count
+unfoldable pub longer : Moment
+longer = record { extent = afterH .extent; store = take 1792 (afterH .store) ++ zeros 2304; roots = afterH .roots }
 
 -- what is known at a moment, computed
-record At (m : Moment) (ks : List Known) : Type 0 where
+record At (m : Moment) (n count : ℕ) (ks : List Known) : Type 0 where
+  extent : m .extent ≡ record { size = 256; count = count }
   roots : m .roots ≡ ks
-  long : length (m .store) ≡ 2048
+  long : length (m .store) ≡ n
 
-at-start : At start (noRoot ∷ [])
+at-start : At start 2048 0 (noRoot ∷ [])
 unfolding rules start
-at-start = record { roots = refl; long = refl }
+at-start = record { extent = refl; roots = refl; long = refl }
 
-at-c : At afterC (rootC ∷ noRoot ∷ [])
+at-c : At afterC 2048 3 (rootC ∷ noRoot ∷ [])
 unfolding rules start afterC
-at-c = record { roots = refl; long = refl }
+at-c = record { extent = refl; roots = refl; long = refl }
 
-at-e : At afterE (rootE ∷ rootC ∷ noRoot ∷ [])
+at-e : At afterE 2048 4 (rootE ∷ rootC ∷ noRoot ∷ [])
 unfolding rules start afterC afterE
-at-e = record { roots = refl; long = refl }
+at-e = record { extent = refl; roots = refl; long = refl }
 
-at-f : At afterF (rootF ∷ rootE ∷ rootC ∷ noRoot ∷ [])
+at-f : At afterF 2048 7 (rootF ∷ rootE ∷ rootC ∷ noRoot ∷ [])
 unfolding rules start afterC afterE afterF
-at-f = record { roots = refl; long = refl }
+at-f = record { extent = refl; roots = refl; long = refl }
 
-at-g : At afterG (rootF ∷ rootE ∷ rootC ∷ noRoot ∷ [])
+at-g : At afterG 2048 7 (rootF ∷ rootE ∷ rootC ∷ noRoot ∷ [])
 unfolding rules start afterC afterE afterF afterG
-at-g = record { roots = refl; long = refl }
+at-g = record { extent = refl; roots = refl; long = refl }
 
-calls :
-    {m : Moment} {ks : List Known} (k : Known) (ds : List Datom) → At m ks → In k ks → Later eavt start m → Later eavt start (inserted m k ds)
-calls k ds a i l =
-    step l (inserts k (rw (a .roots) i) (datomsBytes ds) 65536 (record { short = omega (arith, a .long); bytes = datoms-bytes ds }))
+at-h : At afterH 2048 7 (rootF ∷ rootE ∷ rootC ∷ noRoot ∷ [])
+unfolding rules start afterC afterE afterF afterG afterH
+at-h = record { extent = refl; roots = refl; long = refl }
 
-pub example : History eavt 256 afterG
-unfolding start afterC afterE afterF afterG
-example = (
-  zeros 2048,
-  calls rootF (run 12 1) at-f (inl refl)
-      (calls rootE (run 12 1) at-e (inl refl)
-      (calls rootC (run 7 5) at-c (inl refl)
-      (step now (initialises (datomsBytes (run 0 7)) 65536 (record { short = omega (arith, at-start .long); bytes = datoms-bytes (run 0 7) }))))),
-)
+at-longer : At longer 4096 7 (rootF ∷ rootE ∷ rootC ∷ noRoot ∷ [])
+unfolding rules start afterC afterE afterF afterG afterH longer
+at-longer = record { extent = refl; roots = refl; long = refl }
 
--- what the theorem then says of listings: every datom once; and at the oldest root what it had
+-- the batch found no room
+pub no-room : outcomeOf eavt afterG (inserting rootF (run 13 5)) .answer ≡ Refused NoRoom
+unfolding rules start afterC afterE afterF afterG
+no-room = refl
+
+lent : {m : Moment} {n count : ℕ} {ks : List Known} → At m n count ks → n ≤ 4096 → (ds : List Datom) → Lent (m .store) (datomsBytes ds)
+lent a f ds = record { short = omega (arith, a .long); bytes = datoms-bytes ds }
+
+then-inserted :
+    {m : Moment} {n count : ℕ} {ks : List Known} (k : Known) (ds : List Datom) → At m n count ks → n ≤ 4096 → In k ks → Later eavt start m →
+    Later eavt start (after eavt m (inserting k ds))
+then-inserted k ds a f i l = next l (calls (inserting k ds) (record { known = rw (a .roots) i; lent = lent a f ds }))
+
+to-f : Later eavt start afterF
+unfolding start afterC afterE afterF
+to-f =
+    then-inserted rootE (run 12 1) at-e (omega arith) (inl refl)
+    (then-inserted rootC (run 7 5) at-c (omega arith) (inl refl)
+    (next now (calls (initialising (run 0 7)) (record { known = tt; lent = lent at-start (omega arith) (run 0 7) }))))
+
+to-h : Later eavt start afterH
+unfolding afterG afterH
+to-h =
+    then-inserted rootF (run 13 5) at-g (omega arith) (inl refl)
+    (then-inserted rootF (run 12 1) at-f (omega arith) (inl refl) to-f)
+
+to-longer : Later eavt start longer
+unfolding longer
+to-longer = next to-h (others _ same)
+  where
+    same :
+        take (afterH .extent .count * afterH .extent .size) (take 1792 (afterH .store) ++ zeros 2304)
+        ≡ take (afterH .extent .count * afterH .extent .size) (afterH .store)
+    same = rw (at-h .extent) (take-at (take 1792 (afterH .store)) (zeros 2304) 1792 (length-take-le 1792 (afterH .store) (omega (arith, at-h .long))))
+
+pub example : History eavt 256 longer
+unfolding start
+example = (zeros 2048, to-longer)
+
+-- what the theorem says of listings: every datom once; and at the oldest root what it had
 lists :
-    (k : Known) → In k (afterG .roots) → (n : ℕ) (ds : List Datom) → within (eavt .cmp) (d 0) (d 13) (ordered eavt k) ≡ ds → length ds ≤ n →
-    list eavt afterG k (d 0) (d 13) n ≡ whole ds
+    (k : Known) → In k (longer .roots) → (ds : List Datom) → within (eavt .cmp) (d 0) (d 13) (sort (eavt .cmp) (gathered (k .batches))) ≡ ds →
+    HandsOut eavt longer k (d 0) (d 13) ds
 unfolding rules
-lists k i n ds e f = base 256 (inl refl) afterG example k i .listed (d 0) (d 13) refl refl n (rw e f) ∙ ap whole e
+lists k i ds e = rw e at (base-hands-out 256 (inl refl) longer example k i (d 0) (d 13) refl refl)
 
-pub lists-c : list eavt afterG rootC (d 0) (d 13) 7 ≡ whole (run 0 7)
+pub lists-c : HandsOut eavt longer rootC (d 0) (d 13) (run 0 7)
 unfolding rules within
-lists-c = lists rootC (rw (at-g .roots) (inr (inr (inl refl)))) 7 (run 0 7) refl (omega arith)
+lists-c = lists rootC (rw (at-longer .roots) (inr (inr (inl refl)))) (run 0 7) refl
 
-pub lists-f : list eavt afterG rootF (d 0) (d 13) 13 ≡ whole (run 0 13)
+pub lists-f : HandsOut eavt longer rootF (d 0) (d 13) (run 0 13)
 unfolding rules within
-lists-f = lists rootF (rw (at-g .roots) (inl refl)) 13 (run 0 13) refl (omega arith)
+lists-f = lists rootF (rw (at-longer .roots) (inl refl)) (run 0 13) refl
+
+-- and of the batch that is sent again: it shares a datom, so it is Repeated
+one-formed : WellFormed eavt (datomsBytes (run 12 1))
+unfolding rules
+one-formed = record { multiple = refl; few = omega arith; form = λ x i. elim i [ inl e ↦ rw e | inr e ↦ absurd e ]; order = (λ x i. absurd i, tt) }
+
+pub repeated : (i : ℕ) × (outcomeOf eavt afterF (inserting rootF (run 12 1)) .answer ≡ Refused (Repeated i))
+unfolding rules start
+repeated =
+    base 256 (inl refl) afterF (zeros 2048, to-f) rootF (rw (at-f .roots) (inl refl)) .answered (datomsBytes (run 12 1)) (lent at-f (omega arith) (run 12 1))
+    one-formed 65536 (rw (at-f .extent)) .1 (d 12, inl refl, (d 12, inl refl, refl))

@@ -15,11 +15,12 @@ use Rattle.index.specs.Laws.{Preorder}
 use Rattle.rules.specs.Node.{anyPending}
 use Rattle.rules.specs.Tree.{Fetched}
 use Rattle.rules.specs.Lists.{In, Rising}
+use Rattle.rules.specs.Spans.{pendings, pendings-append, Closed}
 use Rattle.history.specs.Order.{clash}
 use Rattle.history.specs.Tree.{Tree, blank, last, item, InTree, Real, isBlank, real-flag, Full, Good, Exactly, Apart, pending, pending-in}
 use Rattle.history.specs.Graft.{prepend, Tail, nothing, then, join, graft, graft-in, join-in, prepend-in, prepend-has, prepend-rest, ClosedItems, Around, graft-good, run-around, prepend-good}
 use Rattle.history.specs.Pages.{page, child, Holds, noPage, aPage, hLast, hItem, Stored, Extends, holds-extends, child-real, child-blank, child-flag, child-page}
-use Rattle.history.specs.Span.{Nones, Closed}
+use Rattle.history.specs.Span.{Nones}
 
 -- the old pages, or the old and the new
 abbrev pub choose : Bool → (PageId → Fetched) → (PageId → Fetched) → (PageId → Fetched)
@@ -70,11 +71,6 @@ module _ {f : PageId → Fetched} {l : ℕ} where
       {g : PageId → Fetched} {ds : List Datom} {cs : List PageId} {r : Tree} (t : Tree) → Real t → Row f g l false ds cs r →
       Row f g l (isBlank t) ds cs r
   row-behind t u h = rw (real-flag t u) h
-
--- how many children are none: so many datoms are pending
-unfoldable pub pendings : List PageId → ℕ
-pendings [] = 0
-pendings (c ∷ cs) = elim (isNone c) [ true ↦ suc (pendings cs) | false ↦ pendings cs ]
 
 module _ {f g : PageId → Fetched} {l : ℕ} where
   pub row-pendings : {v : Bool} {ds : List Datom} {cs : List PageId} {t : Tree} → Row f g l v ds cs t → pendings cs ≤ length ds
@@ -246,15 +242,6 @@ module _ (cmp : Datom → Datom → Ordering) (L : Preorder cmp) {f g : PageId �
           assemble ks b (e .0) (rw (e .1) at x) (run-of f g l false b nC m a u (λ q. absurd (omega arith)) (rw (e .1) at y)) v
 
 -- a flush leaves fewer pending datoms
-pendings-append : (a b : List PageId) → pendings (a ++ b) ≡ pendings a + pendings b
-unfolding pendings
-pendings-append [] b = omega arith
-pendings-append (c ∷ a) b = side (isNone c) refl (pendings-append a b)
-  where
-    side : (v : Bool) → isNone c ≡ v → pendings (a ++ b) ≡ pendings a + pendings b → pendings (c ∷ (a ++ b)) ≡ pendings (c ∷ a) + pendings b
-    side true e ih = rw (e, pendings) (omega arith)
-    side false e ih = rw (e, pendings) ih
-
 pendings-nones : (r : List PageId) → Nones r → pendings r ≡ length r
 unfolding pendings
 pendings-nones [] a = refl
@@ -277,10 +264,10 @@ unfolding pendings
 pendings-fewer {mC} p r c q a z h u =
     simp pendings-append (omega (arith, full-pendings h u, pendings-nones r a, pendings-append (c ∷ []) q))
 
-pub no-pendings : (cs : List PageId) → anyPending cs ≡ false → pendings cs ≡ 0
+pub none-pending : (cs : List PageId) → anyPending cs ≡ false → pendings cs ≡ 0
 unfolding pendings anyPending
-no-pendings [] e = refl
-no-pendings (c ∷ cs) e = side (isNone c) refl (no-pendings cs)
+none-pending [] e = refl
+none-pending (c ∷ cs) e = side (isNone c) refl (none-pending cs)
   where
     side : (v : Bool) → isNone c ≡ v → (anyPending cs ≡ false → pendings cs ≡ 0) → pendings (c ∷ cs) ≡ 0
     side true q ih = absurd (clash e (rw q))

@@ -18,6 +18,7 @@ use Rattle.rules.specs.Node.{meets, mergeNode, Span, longestSpan, anyPending, s
 use Rattle.rules.specs.Tree.{Env, Stage, go, fetchAt, put, split, isOver, settle, Below, flush, flushAll, insertMerged, insertInto, rootOf, writeRoot, insertTree}
 use Rattle.rules.specs.Lists.{In, Rising}
 use Rattle.rules.specs.Sizes.{level-is}
+use Rattle.rules.specs.Spans.{pendings}
 use Rattle.history.specs.Order.{clash}
 use Rattle.history.specs.Tree.{Tree, last, InTree, Full, Good, own-in, Exactly, Apart}
 use Rattle.history.specs.Pages.{Place, page, child, Holds, hLast, hItem, Stored, holds-extends, holds-own, holds-lengths, holds-real, leaf-full, real-last}
@@ -25,7 +26,7 @@ use Rattle.history.specs.Merge.{merge-holds, merged-in, merged-good, mer
 use Rattle.history.specs.Held.{held, EnvOk, held-old, Storable, Written, none-written, More, same-more, more-more, Grown, Goes, goes, goes-then, goes-map, put-ok}
 use Rattle.history.specs.Split.{Made, split-ok}
 use Rattle.history.specs.Span.{Spotted, longest-ok, Cuts, cuts}
-use Rattle.history.specs.Flush.{Row, row-of, row-holds, pendings, row-pendings, row-full, Target, target, pendings-fewer, no-pendings}
+use Rattle.history.specs.Flush.{Row, row-of, row-holds, row-pendings, row-full, Target, target, pendings-fewer, none-pending}
 
 -- the same pages for a larger start and other words for the contents
 abbrev pub regrown :
@@ -173,7 +174,7 @@ module _ (t : DatomOrd) (e : Env) (E : EnvOk e) where
             ((n₁ : Node) (o₁ : List Node) → Flushing t e P l o₀ n₁ o₁ → pendings (n₁ .children) ≤ k → Goes (Settling t e P (suc l) o₀) (flushAll e ins k n₁ o₁)) →
             Goes (Settling t e P (suc l) o₀) (flushAll e ins (suc k) n o)
         side false u v w ih = rw (u, flushAll) (goes (settled F λ z. absurd (clash u z)))
-        side true u false w ih = rw (u, w, flushAll) (goes (settled F λ z. row-full (F .row) (no-pendings (n .children) w)))
+        side true u false w ih = rw (u, w, flushAll) (goes (settled F λ z. row-full (F .row) (none-pending (n .children) w)))
         side true u true w ih =
             rw (u, w, flushAll) (goes-then (flush ins n o) _ (flush-ok n o F w) λ n₁ o₁ r. ih n₁ o₁ (r .0) (omega (arith, r .1)))
 
@@ -272,7 +273,7 @@ module _ (t : DatomOrd) (e : Env) (E : EnvOk e) where
   pub insert-tree-ok :
       (l : ℕ) (root : PageId) (ds : List Datom) (tr : Tree) → Stored (e .fetch) l root tr → Good (e .cmp) tr → Rising (e .cmp) ds →
       Apart (e .cmp) ds tr →
-      ((x : Datom) → InTree x tr ⊎ In x ds → Storable t x) → Goes (Rooted t e (λ x. InTree x tr ⊎ In x ds) []) (insertTree e l root ds)
+      ((x : Datom) → InTree x tr ⊎ In x ds → Storable t x) → Goes (Rooted t e (λ x. InTree x tr ⊎ In x ds) []) (insertTree e l root ds [])
   unfolding insertTree
   insert-tree-ok l root ds tr s g r a b =
       goes-then (insertInto e l root ds []) _ (insert-into-ok t e E l root ds [] tr s g r a b (none-written t e))

@@ -13,7 +13,7 @@ use Rattle.store.specs.declared.PageId.{PageId}
 use Rattle.store.specs.Page.{page as pageId, isNone}
 use Rattle.store.specs.Laws.{apart}
 use Rattle.datom.specs.declared.Datom.{Datom}
-use Rattle.datom.specs.Datom.{Words}
+use Rattle.datom.specs.Datom.{WordSized}
 use Rattle.index.specs.Order.{DatomOrd}
 use Rattle.index.specs.Laws.{Preorder}
 use Rattle.answer.specs.declared.Fault.the-variants.{Missing}
@@ -98,7 +98,7 @@ module _ (e : Env) where
 -- what is asked of a datom that goes into a page
 pub record Storable (t : DatomOrd) (d : Datom) : Type 0 where
   pub form : t .stored d ≡ true
-  pub words : Words d
+  pub words : WordSized d
 
 -- the order as a call has it
 abbrev pub ordOf : DatomOrd → Env → DatomOrd

@@ -21,7 +21,7 @@ use Rattle.rules.specs.Tree.{fine}
 use Rattle.rules.specs.Store.{fetchPage, envOf, storeAfter}
 use Rattle.rules.specs.Insert.{Outcome, batchOf}
 use Rattle.rules.specs.Lists.{In, in-left, in-right, in-append}
-use Rattle.history.specs.Statement.{Known, Moment, inserting, noRoot, beginning, after, Lent, Next, inserts, initialises, others, Later, now, step, gathered}
+use Rattle.history.specs.Statement.{Known, Moment, Call, inserts, initialises, givenRoot, givenBatch, noRoot, beginning, left, outcomeOf, Lent, Fair, Next, calls, others, Later, now, next, gathered}
 use Rattle.history.specs.Tree.{blank}
 use Rattle.history.specs.Pages.{noPage, Extends, holds-extends, none-is}
 use Rattle.history.specs.Held.{nth, held, Storable}
@@ -139,13 +139,16 @@ module _ (t : DatomOrd) (L : Preorder (t .cmp)) (size : ℕ) (known : capacity s
               (r .0, grows p (r .0) (rw e (r .1)))
 
   after-call :
-      (m : Moment) (k : Known) (b : List ℕ) (o : Outcome) → Inv t size m → KnownOk t (m .extent) (m .store) k →
-      Called t (m .extent) (m .store) (gathered (k .batches)) (batchOf b) o → Inv t size (after m k b o)
-  after-call m k b o I K (refuses {o = pages}) =
+      (m : Moment) (c : Call) (o : Outcome) → Inv t size m → KnownOk t (m .extent) (m .store) (givenRoot c) →
+      Called t (m .extent) (m .store) (gathered (givenRoot c .batches)) (batchOf (givenBatch c)) o →
+      Inv t size (left m c (o .answer) (storeAfter (m .extent) (m .store) (o .pages)))
+  after-call m c o I K (refuses {o = pages}) =
       same-pages m (storeAfter (m .extent) (m .store) pages) (store-keeps (m .extent) (m .store) (I .fits) pages) I
-  after-call m k b o I K (accepts {root} {o = pages} d a f R) =
+  after-call m c o I K (accepts {root} {o = pages} d a f R) =
       let x = m .extent in
       let s = m .store in
+      let k = givenRoot c in
+      let b = givenBatch c in
       record {
         sized = I .sized;
         fits = fits-after x s (I .sized) (I .fits) k b root pages R;
@@ -159,17 +162,26 @@ module _ (t : DatomOrd) (L : Preorder (t .cmp)) (size : ℕ) (known : capacity s
   -- what an insert at a known root is
   pub inserted-at :
       {m : Moment} → Inv t size m → (k : Known) → In k (m .roots) → (b : List ℕ) (scratch : ℕ) → Lent (m .store) b →
-      Inserted t (m .extent) (m .store) scratch (gathered (k .batches)) b (inserting t m k scratch b)
+      Inserted t (m .extent) (m .store) scratch (gathered (k .batches)) b (outcomeOf t m (inserts k b scratch))
   inserted-at {m} I k i b scratch lent =
       let K = I .known k i in
       insert-ok t L (m .extent) (m .store) (rw (I .sized) known) (I .fits) scratch (gathered (k .batches)) (K .stored) b lent (k .root) (K .root)
 
+  -- what the root that a call is given has, and what the call is
+  given-known : {m : Moment} → Inv t size m → (c : Call) → Fair m c → KnownOk t (m .extent) (m .store) (givenRoot c)
+  given-known I (inserts k b scratch) F = I .known k (F .known)
+  given-known {m} I (initialises b scratch) F = nothing-known t (m .extent) (m .store)
+
+  pub called-at :
+      {m : Moment} → Inv t size m → (c : Call) → Fair m c →
+      Called t (m .extent) (m .store) (gathered (givenRoot c .batches)) (batchOf (givenBatch c)) (outcomeOf t m c)
+  called-at {m} I (inserts k b scratch) F =
+      called t (m .extent) (m .store) scratch (gathered (k .batches)) b (F .lent) (inserted-at I k (F .known) b scratch (F .lent))
+  called-at {m} I (initialises b scratch) F =
+      initialise-ok t L (m .extent) (m .store) (rw (I .sized) known) (I .fits) scratch b (F .lent)
+
   next-inv : {m m₁ : Moment} → Next t m m₁ → Inv t size m → Inv t size m₁
-  next-inv {m} (inserts k i b scratch lent) I =
-      after-call m k b _ I (I .known k i) (called t (m .extent) (m .store) scratch (gathered (k .batches)) b lent (inserted-at I k i b scratch lent))
-  next-inv {m} (initialises b scratch lent) I =
-      after-call m noRoot b _ I (nothing-known t (m .extent) (m .store))
-      (initialise-ok t L (m .extent) (m .store) (rw (I .sized) known) (I .fits) scratch b lent)
+  next-inv {m} (calls c F) I = after-call m c (outcomeOf t m c) I (given-known I c F) (called-at I c F)
   next-inv {m} (others s e) I = same-pages m s e I
 
   pub inv : {s : List ℕ} {m : Moment} → Later t (beginning size s) m → Inv t size m
@@ -180,4 +192,4 @@ module _ (t : DatomOrd) (L : Preorder (t .cmp)) (size : ℕ) (known : capacity s
         known = λ k i. elim i [ inl e ↦ rw e (nothing-known t (record { size = size; count = 0 }) s) | inr e ↦ absurd e ];
         readable = λ p h. absurd (omega arith);
       }
-  inv (step l n) = next-inv n (inv l)
+  inv (next l n) = next-inv n (inv l)

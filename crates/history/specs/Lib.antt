@@ -1,5 +1,7 @@
 -- What a history of calls promises: Statement says it, Demand and Again prove it, Base is its instance and Example a history.
 pub mod Statement
+pub mod Fit
+pub mod More
 -- trees, and pages that hold them
 pub mod Order
 pub mod Rank
@@ -29,6 +31,7 @@ pub mod After
 pub mod Calls
 pub mod Roots
 pub mod Invariant
+pub mod Listing
 pub mod Demand
 pub mod Again
 pub mod Base

@@ -1,4 +1,4 @@
--- A listing hands out the datoms of the tree from the lower bound up to but not including the upper, each once, ascending, and ends.
+-- One step of a listing over a good tree: it hands out the smallest datom that is left, or finds the end.
 -- Rests on Step and Cursor.
 use Prim.Native.Nat.{ℕ, zero, suc, _≤_, Ordering, Ordering·lt, Ordering·eq, Ordering·gt}
 use native.Mathlib.Omega.{arith}
@@ -21,7 +21,7 @@ use Rattle.rules.specs.Page.{Node}
 use Rattle.rules.specs.Node.{rankBy, below}
 use Rattle.rules.specs.Tree.{Fetched, fine, atLevel}
 use Rattle.rules.specs.Store.{badStore, fetchPage}
-use Rattle.rules.specs.Listing.{Frame, beginFrames, endFrames, cursorOf, frameOf, Least, sameIndices, staying, moved, onward, stepList, whole, listFrom}
+use Rattle.rules.specs.Listing.{Frame, beginFrames, endFrames, cursorOf, frameOf, Least, sameIndices, staying, moved, onward, stepList}
 use Rattle.rules.specs.Lists.{In, Rising, less, turned}
 use Rattle.history.specs.Order.{clash, is-true, is-false, same-test, upTo, Front, AtMost, up-false, up-above, same-below, one-way, not-self, below-front, up-front}
 use Rattle.history.specs.Rank.{Stop, stop-fails}
@@ -93,7 +93,7 @@ pub record Left (cmp : Datom → Datom → Ordering) (t : Tree) (hi : Datom) (p 
 
 module _ (cmp : Datom → Datom → Ordering) (L : Preorder cmp) (t : Tree) (hi : Datom) where
   -- after a step
-  left-next : (p : Datom → Bool) (d : Datom) (rest : List Datom) → Left cmp t hi p (d ∷ rest) → Left cmp t hi (upTo cmp d) rest
+  pub left-next : (p : Datom → Bool) (d : Datom) (rest : List Datom) → Left cmp t hi p (d ∷ rest) → Left cmp t hi (upTo cmp d) rest
   unfolding isLess
   left-next p d rest c =
       record {
@@ -151,7 +151,7 @@ module _
     frames-agree p e a =
         cc (along (fetchPage t x s) p l q n tr h .way, along (fetchPage t x s) e l q n tr h .way, path-agree (fetchPage t x s) p e l q n tr h a)
 
-    at-end : (p : Datom → Bool) → Left (t .cmp) tr hi p [] → stepList t x s (cursor p) ≡ staying (cursor p) step.Ended
+    pub at-end : (p : Datom → Bool) → Left (t .cmp) tr hi p [] → stepList t x s (cursor p) ≡ staying (cursor p) step.Ended
     unfolding stepList
     at-end p c =
         rw (inOrder, short p, begins p, ends p, frames-agree p (below (t .cmp) hi) agree, same-self (frames (below (t .cmp) hi)))
@@ -166,7 +166,7 @@ module _
         let o = c .only d (inl refl) in
         clash (o .1) (ends-agree (t .cmp) L (fetchPage t x s) p (below (t .cmp) hi) (c .front) (below-front (t .cmp) L hi) l q n tr h g e d (o .0) ∙ o .2)
 
-    goes-on :
+    pub goes-on :
         (p : Datom → Bool) (d : Datom) (rest : List Datom) → Left (t .cmp) tr hi p (d ∷ rest) →
         stepList t x s (cursor p) ≡ record { answer = step.Yields d; cursor = cursor (upTo (t .cmp) d) }
     unfolding stepList onward moved
@@ -190,14 +190,3 @@ module _
             same : AtMost (t .cmp) e d → e ≡ d
             same (inl u) = sym u
             same (inr u) = back u (c .every e i k (below-front (t .cmp) L hi e d u (c .only d (inl refl) .2)))
-
-    -- one step for each datom, and one that finds the end
-    pub lists-ok :
-        (k : ℕ) (p : Datom → Bool) (rest : List Datom) → Left (t .cmp) tr hi p rest → length rest ≤ k →
-        listFrom t x s k (stepList t x s (cursor p)) ≡ whole rest
-    unfolding listFrom
-    lists-ok zero p [] c b = rw (at-end p c)
-    lists-ok (suc k) p [] c b = rw (at-end p c)
-    lists-ok zero p (d ∷ rest) c b = absurd (omega arith)
-    lists-ok (suc k) p (d ∷ rest) c b =
-        rw (goes-on p d rest c, lists-ok k (upTo (t .cmp) d) rest (left-next (t .cmp) L tr hi p d rest c) (omega arith))

@@ -1,18 +1,22 @@
 -- A batch sorted: the same datoms, and rising where no two of them are equal; which datoms lie between two bounds.
 -- Rests on the order's laws.
 use Prim.Native.Nat.{Ordering, Ordering·lt, Ordering·eq, Ordering·gt}
-use mathlib.Core.Bool.{Bool, true, false, _&&_, not}
+use mathlib.Core.Bool.{Bool, true, false, _&&_, not, cond}
 use mathlib.Core.List.{List, [], _∷_, _++_}
 use mathlib.Core.Logic.{inl, inr, _↔_, Iff·rfl}
-use mathlib.Core.Path.{_≡_, refl}
+use mathlib.Core.Path.{_≡_, refl, sym, _∙_, ap₂}
 use Rattle.datom.specs.declared.Datom.{Datom}
 use Rattle.index.specs.Order.{isLess}
 use Rattle.index.specs.Laws.{Preorder}
 use Rattle.rules.specs.Node.{below}
 use Rattle.rules.specs.Insert.{place, sort}
 use Rattle.rules.specs.Lists.{In, in-append, Rising, less, turned, below-all}
-use Rattle.history.specs.Statement.{within}
-use Rattle.history.specs.Order.{clash, not-both, same-below, other}
+use Rattle.history.specs.Order.{clash, not-both, not-self, one-way, same-below, other}
+
+-- what lies from the lower bound up to but not including the upper
+unfoldable pub within : (Datom → Datom → Ordering) → Datom → Datom → List Datom → List Datom
+within cmp lo hi [] = []
+within cmp lo hi (d ∷ ds) = let rest = within cmp lo hi ds in cond (not (below cmp lo d) && below cmp hi d) (d ∷ rest) rest
 
 -- no two equal
 abbrev pub Distinct : (Datom → Datom → Ordering) → List Datom → Type 0
@@ -125,3 +129,22 @@ module _ (cmp : Datom → Datom → Ordering) (L : Preorder cmp) where
       out x a b Ordering·lt q = clash e (rw (L .trans lo x hi q b))
       out x a b Ordering·eq q = clash e (rw (same-below cmp L q b))
       out x a b Ordering·gt q = clash a (rw (turned cmp L q))
+
+  -- rising lists of the same datoms are the same
+  pub rising-once : (u v : List Datom) → Rising cmp u → Rising cmp v → ((x : Datom) → In x u ↔ In x v) → u ≡ v
+  rising-once [] [] r q e = refl
+  rising-once [] (y ∷ v) r q e = absurd (e y .1 (inl refl))
+  rising-once (x ∷ u) [] r q e = absurd (e x .0 (inl refl))
+  rising-once (x ∷ u) (y ∷ v) r q e =
+      let z : x ≡ y = same (e x .0 (inl refl)) (e y .1 (inl refl)) in
+      ap₂ _∷_ z (rising-once u v (r .1) (q .1) (λ w. (λ i. past v z (r .0 w i) (e w .0 (inr i)), λ i. past u (sym z) (q .0 w i) (e w .1 (inr i)))))
+    where
+      same : In x (y ∷ v) → In y (x ∷ u) → x ≡ y
+      same (inl i) j = i
+      same (inr i) (inl j) = sym j
+      same (inr i) (inr j) = absurd (one-way cmp L (q .0 x i) (r .0 y j))
+
+      -- what is above one head is not the other, so it stands behind it
+      past : {a b w : Datom} (s : List Datom) → a ≡ b → cmp a w ≡ Ordering·lt → In w (b ∷ s) → In w s
+      past s z k (inl i) = absurd (not-self cmp L (z ∙ sym i) k)
+      past s z k (inr i) = i

@@ -14,16 +14,12 @@ use Rattle.store.specs.declared.PageId.{PageId}
 use Rattle.store.specs.Page.{none, isNone}
 use Rattle.rules.specs.Node.{Span, spanFrom, longestSpan, anyPending}
 use Rattle.rules.specs.Lists.{In, in-append, in-getD}
+use Rattle.rules.specs.Spans.{Closed}
 use Rattle.history.specs.Order.{clash}
 
 -- all none
 abbrev pub Nones : List PageId → Type 0
 Nones cs = (c : PageId) → In c cs → isNone c ≡ true
-
--- no none right before what follows: v tells whether the child before these was none
-abbrev pub Closed : Bool → List PageId → Type 0
-Closed v [] = v ≡ false
-Closed v (c ∷ cs) = Closed (isNone c) cs
 
 pub record Spotted (all : List PageId) (s : Span) : Type 0 where
   pub before : List PageId

@@ -1,26 +1,29 @@
--- What a history of calls promises: the statement that the desk bought the product for, in the words of demand 3. Demand proves it.
-use Prim.Native.Nat.{ℕ, _+_, _*_, _%_, _^_, _≤_, _<_, Ordering, Ordering·eq}
-use mathlib.Core.Bool.{true, false, _&&_, not, cond}
+-- What a history of calls promises: the statement that the desk bought the product for, in the words of demand 3. It ends with the
+-- theorem's type, Demand3; Demand proves it. What is proved beyond it stands in More.
+use Prim.Native.Nat.{ℕ, zero, suc, _+_, _*_, _%_, _^_, _≤_, _<_, Ordering, Ordering·eq}
+use mathlib.Core.Bool.{true, false}
 use mathlib.Core.List.{List, [], _∷_, _++_}
-use mathlib.Core.Logic.{_⊎_, _↔_}
+use mathlib.Core.Logic.{_↔_}
 use mathlib.Core.Path.{_≡_}
-use lib.ListN.{length, take, getD}
+use lib.ListN.{length, take}
 use Rattle.store.specs.declared.PageId.{PageId}
 use Rattle.store.specs.declared.Extent.{Extent}
+use Rattle.store.specs.Bytes.{Bytes}
 use Rattle.store.specs.Page.{none}
 use Rattle.datom.specs.declared.Datom.{Datom}
 use Rattle.index.specs.Order.{DatomOrd}
-use Rattle.answer.specs.declared.Refusal.the-variants.{Repeated, TooTall, NoRoom}
+use Rattle.answer.specs.declared.Refusal.the-variants.{Repeated}
 use Rattle.answer.specs.declared.Answer.{Answer}
 use Rattle.answer.specs.declared.Answer.the-variants.{Done, Refused}
-use Rattle.answer.specs.declared.Check.the-variants.{Sound}
-use Rattle.rules.specs.Page.{Node}
+use Rattle.answer.specs.declared.Cursor.{Cursor}
+use Rattle.answer.specs.declared.Started.{Started}
+use Rattle.answer.specs.declared.Start.the-variants.{Begun}
+use Rattle.answer.specs.declared.Stepped.{Stepped}
+use Rattle.answer.specs.declared.Step.the-variants as step
 use Rattle.rules.specs.Node.{below}
-use Rattle.rules.specs.Tree.{fine}
-use Rattle.rules.specs.Store.{badScratch, fetchPage, storeAfter}
-use Rattle.rules.specs.Insert.{Outcome, sort, batchOf, insertBytes, initialiseBytes}
-use Rattle.rules.specs.Listing.{Listed, whole, startList, listing}
-use Rattle.rules.specs.Check.{checkTree}
+use Rattle.rules.specs.Store.{badScratch, storeAfter}
+use Rattle.rules.specs.Insert.{Outcome, batchOf, insertBytes, initialiseBytes}
+use Rattle.rules.specs.Listing.{Listed, whole, cut, more, also, startList, stepList}
 use Rattle.rules.specs.Lists.{In, Rising}
 
 -- a root that may be used, with the batches that led to it, the last one first
@@ -34,21 +37,42 @@ pub record Moment : Type 0 where
   pub store : List ℕ
   pub roots : List Known
 
--- the two calls, over bytes and with any length of scratch; initialise is a call at none
-abbrev pub inserting : DatomOrd → Moment → Known → ℕ → List ℕ → Outcome
-inserting t m k scratch b = insertBytes t (m .extent) (m .store) scratch (k .root) b
-
-abbrev pub initialising : DatomOrd → Moment → ℕ → List ℕ → Outcome
-initialising t m scratch b = initialiseBytes t (m .extent) (m .store) scratch b
-
--- "Start from no pages and no root."
+-- "Start from no pages and no root"
 abbrev pub noRoot : Known
 noRoot = record { root = none; batches = [] }
 
 abbrev pub beginning : ℕ → List ℕ → Moment
 beginning size s = record { extent = record { size = size; count = 0 }; store = s; roots = noRoot ∷ [] }
 
--- "hand each call the page count the last one left": more pages and one more root after Done, as it was after a refusal
+-- the calls that write: a batch of bytes, and the length of the scratch that is lent with it
+pub data Call : Type 0 where
+  inserts : Known → List ℕ → ℕ → Call
+  initialises : List ℕ → ℕ → Call
+
+-- initialise is a call at none
+abbrev pub givenRoot : Call → Known
+givenRoot (inserts k b scratch) = k
+givenRoot (initialises b scratch) = noRoot
+
+abbrev pub givenBatch : Call → List ℕ
+givenBatch (inserts k b scratch) = b
+givenBatch (initialises b scratch) = b
+
+-- "insert only at none or at a root that an accepted call returned"
+abbrev pub AtKnown : Moment → Call → Type 0
+AtKnown m (inserts k b scratch) = In k (m .roots)
+AtKnown m (initialises b scratch) = Unit {0}
+
+-- what the machine gives: a batch of bytes, and a slice of fewer than 2^64
+pub record Lent (s b : List ℕ) : Type 0 where
+  pub short : length s < 2 ^ 64
+  pub bytes : Bytes b
+
+pub record Fair (m : Moment) (c : Call) : Type 0 where
+  pub known : AtKnown m c
+  pub lent : Lent (m .store) (givenBatch c)
+
+-- "each call handed the page count the last one left": more pages and one more root after Done, as it was after a refusal
 abbrev pub extentAfter : Extent → Answer → Extent
 extentAfter x (Done root n) = record { size = x .size; count = x .count + n }
 extentAfter x (Refused r) = x
@@ -57,35 +81,32 @@ abbrev pub rootsAfter : Known → List ℕ → Answer → List Known → List Kn
 rootsAfter k b (Done root n) ks = record { root = root; batches = b ∷ k .batches } ∷ ks
 rootsAfter k b (Refused r) ks = ks
 
-abbrev pub after : Moment → Known → List ℕ → Outcome → Moment
-after m k b o =
-    record {
-      extent = extentAfter (m .extent) (o .answer);
-      store = storeAfter (m .extent) (m .store) (o .pages);
-      roots = rootsAfter k b (o .answer) (m .roots);
-    }
+-- where a call leaves things, by its answer and the store's bytes
+abbrev pub left : Moment → Call → Answer → List ℕ → Moment
+left m c a s =
+    record { extent = extentAfter (m .extent) a; store = s; roots = rootsAfter (givenRoot c) (givenBatch c) a (m .roots) }
 
--- what the machine gives: a batch of bytes, and a slice of fewer than 2^64
-pub record Lent (s b : List ℕ) : Type 0 where
-  pub short : length s < 2 ^ 64
-  pub bytes : (i : ℕ) → getD b i 0 < 256
+-- what the rules give a call
+abbrev pub outcomeOf : DatomOrd → Moment → Call → Outcome
+outcomeOf t m (inserts k b scratch) = insertBytes t (m .extent) (m .store) scratch (k .root) b
+outcomeOf t m (initialises b scratch) = initialiseBytes t (m .extent) (m .store) scratch b
 
--- what may come next: a call, accepted or refused, at any root that is known; or somebody else
+abbrev pub after : DatomOrd → Moment → Call → Moment
+after t m c = left m c (outcomeOf t m c .answer) (storeAfter (m .extent) (m .store) (outcomeOf t m c .pages))
+
+-- what may come next: a call, accepted or refused; or somebody else
 pub data Next (t : DatomOrd) (m : Moment) : Moment → Type 0 where
-  -- "Insert only at none or at a root an accepted call returned."
-  inserts :
-      (k : Known) → In k (m .roots) → (b : List ℕ) (scratch : ℕ) → Lent (m .store) b → Next t m (after m k b (inserting t m k scratch b))
-  initialises : (b : List ℕ) (scratch : ℕ) → Lent (m .store) b → Next t m (after m noRoot b (initialising t m scratch b))
-  -- "let nobody else write below it": the bytes at or past the count may change between calls, and so may the slice's length
+  calls : (c : Call) → Fair m c → Next t m (after t m c)
+  -- "nobody else writing below it": the bytes at or past the count may change between calls, and so may the slice's length
   others :
       (s : List ℕ) → take (m .extent .count * m .extent .size) s ≡ take (m .extent .count * m .extent .size) (m .store) →
       Next t m (record { extent = m .extent; store = s; roots = m .roots })
 
 pub data Later (t : DatomOrd) (m : Moment) : Moment → Type 0 where
   now : Later t m m
-  step : {m₁ m₂ : Moment} → Later t m m₁ → Next t m₁ m₂ → Later t m m₂
+  next : {m₁ m₂ : Moment} → Later t m m₁ → Next t m₁ m₂ → Later t m m₂
 
--- a history, with one order and one page size
+-- a history, with one order and "with one page size"
 abbrev pub History : DatomOrd → ℕ → Moment → Type 0
 History t size m = (s : List ℕ) × Later t (beginning size s) m
 
@@ -94,10 +115,30 @@ abbrev pub gathered : List (List ℕ) → List Datom
 gathered [] = []
 gathered (b ∷ bs) = batchOf b ++ gathered bs
 
--- "from the lower bound up to but not including the upper"
-unfoldable pub within : (Datom → Datom → Ordering) → Datom → Datom → List Datom → List Datom
-within cmp lo hi [] = []
-within cmp lo hi (d ∷ ds) = let rest = within cmp lo hi ds in cond (not (below cmp lo d) && below cmp hi d) (d ∷ rest) rest
+-- "exactly the datoms .., from the lower bound up to but not including the upper, each once, ascending"
+pub record Between (cmp : Datom → Datom → Ordering) (lo hi : Datom) (u ds : List Datom) : Type 0 where
+  pub exactly : (x : Datom) → In x ds ↔ (In x u × (below cmp lo x ≡ false) × (below cmp hi x ≡ true))
+  pub ascending : Rising cmp ds
+
+-- n steps of a listing, the first from a cursor, each other from what the step before it gave, each at a moment of its own
+abbrev pub StepsAlong : DatomOrd → (ℕ → Moment) → ℕ → Cursor → (ℕ → Stepped) → Type 0
+StepsAlong t at zero c r = Unit {0}
+StepsAlong t at (suc n) c r =
+    (r 0 ≡ stepList t (at 0 .extent) (at 0 .store) c) × StepsAlong t (λ i. at (suc i)) n (r 0 .cursor) (λ i. r (suc i))
+
+-- what n steps handed out, and whether the listing has then ended
+unfoldable pub handed : ℕ → (ℕ → Stepped) → Listed
+handed zero r = more []
+handed (suc n) r =
+    elim (r 0 .answer) [ step.Yields d ↦ also d (handed n (λ i. r (suc i))) | step.Ended ↦ whole [] | step.Refused e ↦ cut e [] ]
+
+-- "hands out .., and ends": begun at any later moment, each step taken at any moment later still, within one step more than datoms
+abbrev pub HandsOut : DatomOrd → Moment → Known → Datom → Datom → List Datom → Type 0
+HandsOut t m k lo hi ds =
+    (m₁ : Moment) → Later t m m₁ → (b : Started) → b ≡ startList t (m₁ .extent) (m₁ .store) (k .root) lo hi →
+    (b .answer ≡ Begun)
+    × ((at : ℕ → Moment) → ((i : ℕ) → Later t m₁ (at i)) → (n : ℕ) (r : ℕ → Stepped) → StepsAlong t at n (b .cursor) r → length ds < n →
+    handed n r ≡ whole ds)
 
 -- "A well-formed batch": what 2, 3 and 4 of the table let through
 pub record WellFormed (t : DatomOrd) (b : List ℕ) : Type 0 where
@@ -110,69 +151,24 @@ pub record WellFormed (t : DatomOrd) (b : List ℕ) : Type 0 where
 abbrev pub Shared : (Datom → Datom → Ordering) → List Datom → Datom → Type 0
 Shared cmp u d = (y : Datom) × In y u × (cmp y d ≡ Ordering·eq)
 
--- datom i of a batch is the first of it that is shared
-pub record FirstShared (cmp : Datom → Datom → Ordering) (u b : List Datom) (i : ℕ) : Type 0 where
-  pub before : List Datom
-  pub datom : Datom
-  pub rest : List Datom
-  pub batch : b ≡ before ++ (datom ∷ rest)
-  pub index : length before ≡ i
-  pub shared : Shared cmp u datom
-  pub first : (d : Datom) → In d before → Shared cmp u d → ⊥
-
--- what a well-formed batch b is answered at a root that the datoms u led to
-pub record Answered (cmp : Datom → Datom → Ordering) (u b : List Datom) (a : Answer) : Type 0 where
-  -- "is answered Repeated exactly if it shares a datom with them"
-  pub repeated : ((i : ℕ) × (a ≡ Refused (Repeated i))) ↔ ((d : Datom) × In d b × Shared cmp u d)
-  -- and the index is that of the first
-  pub first : (i : ℕ) → a ≡ Refused (Repeated i) → FirstShared cmp u b i
-  -- else it is Done, TooTall or NoRoom, so never Damaged
-  pub otherwise :
-      ((d : Datom) → In d b → Shared cmp u d → ⊥) →
-      ((root : PageId) × (n : ℕ) × (a ≡ Done root n)) ⊎ ((a ≡ Refused TooTall) ⊎ (a ≡ Refused NoRoom))
-
--- what led to a root, in order; and a listing at the root, of at most n + 1 steps
-abbrev pub ordered : DatomOrd → Known → List Datom
-ordered t k = sort (t .cmp) (gathered (k .batches))
-
-abbrev pub list : DatomOrd → Moment → Known → Datom → Datom → ℕ → Listed
-list t m k lo hi n = listing t (m .extent) (m .store) n (startList t (m .extent) (m .store) (k .root) lo hi)
-
 -- what is promised of a root at a moment
 pub record Promise (t : DatomOrd) (m : Moment) (k : Known) : Type 0 where
-  -- "exactly the datoms of the accepted batches that led to that root, .. each once, ascending"
-  pub exactly : (x : Datom) → In x (ordered t k) ↔ In x (gathered (k .batches))
-  pub ascending : Rising (t .cmp) (ordered t k)
-  -- "a listing between well-formed bounds at any such root, older ones too, hands out exactly .. from the lower bound up to but not
-  -- including the upper, .. and ends": within one step more than it hands out datoms
+  -- "Then a listing between well-formed bounds at any such root, older ones too, hands out exactly the datoms of the accepted batches
+  -- that led to that root, .. and ends. Later calls, accepted or refused, change none of it."
   pub listed :
-      (lo hi : Datom) → t .bound lo ≡ true → t .bound hi ≡ true → (n : ℕ) → length (within (t .cmp) lo hi (ordered t k)) ≤ n →
-      list t m k lo hi n ≡ whole (within (t .cmp) lo hi (ordered t k))
-  -- "Later calls, accepted or refused, change none of it.": the root stays known, so all of this holds there, and lists the same
+      (lo hi : Datom) → t .bound lo ≡ true → t .bound hi ≡ true →
+      (ds : List Datom) × Between (t .cmp) lo hi (gathered (k .batches)) ds × HandsOut t m k lo hi ds
+  -- the root stays one that may be used, so all of this holds of it at every later moment too
   pub stays : (m₁ : Moment) → Later t m m₁ → In k (m₁ .roots)
-  pub kept :
-      (m₁ : Moment) → Later t m m₁ → (lo hi : Datom) → t .bound lo ≡ true → t .bound hi ≡ true → (n : ℕ) →
-      length (within (t .cmp) lo hi (ordered t k)) ≤ n → list t m₁ k lo hi n ≡ list t m k lo hi n
-  -- "A well-formed batch inserted there, with store and scratch in order, is answered ..": in a history the store is in order
+  -- "A well-formed batch inserted there, store and scratch in order, is answered Repeated exactly if it shares a datom with them.": in a
+  -- history the store is in order
   pub answered :
       (b : List ℕ) → Lent (m .store) b → WellFormed t b → (scratch : ℕ) → badScratch (m .extent) scratch ≡ false →
-      Answered (t .cmp) (gathered (k .batches)) (batchOf b) (inserting t m k scratch b .answer)
-  -- the check finds no fault, and every page below the count can be read
-  pub sound : checkTree t (m .extent) (m .store) (k .root) ≡ Sound
-  pub readable : (p : PageId) → p .0 < m .extent .count → (n : Node) × (fetchPage t (m .extent) (m .store) p ≡ fine n)
+      ((i : ℕ) × (outcomeOf t m (inserts k b scratch) .answer ≡ Refused (Repeated i)))
+      ↔ ((d : Datom) × In d (batchOf b) × Shared (t .cmp) (gathered (k .batches)) d)
+  -- each of these datoms may be stored: so where an equal datom that may be stored is the same one, "shares a datom" is meant literally
+  pub stored : (x : Datom) → In x (gathered (k .batches)) → t .stored x ≡ true
 
--- a root that grew from another: the batches that led to it end in those that led to the other
-abbrev pub GrewFrom : Known → Known → Type 0
-GrewFrom k k₁ = (bs : List (List ℕ)) × (k₁ .batches ≡ bs ++ k .batches)
-
--- in the operator's words: an accepted batch that is sent again, at the root that it led to or at any that grew from that one, is
--- answered Repeated with index 0, and the store is byte for byte as before
-abbrev pub Resending : DatomOrd → ℕ → Type 0
-Resending t size =
-    (m : Moment) → History t size m → (k : Known) → In k (m .roots) → (b : List ℕ) (scratch : ℕ) → Lent (m .store) b → 0 < length b →
-    (root : PageId) (n : ℕ) → inserting t m k scratch b .answer ≡ Done root n →
-    (m₁ : Moment) → Later t (after m k b (inserting t m k scratch b)) m₁ →
-    (k₁ : Known) → In k₁ (m₁ .roots) → GrewFrom (record { root = root; batches = b ∷ k .batches }) k₁ →
-    (scratch₁ : ℕ) → Lent (m₁ .store) b → badScratch (m₁ .extent) scratch₁ ≡ false →
-    (inserting t m₁ k₁ scratch₁ b .answer ≡ Refused (Repeated 0))
-    × (after m₁ k₁ b (inserting t m₁ k₁ scratch₁ b) .store ≡ m₁ .store)
+-- the theorem: at every moment of a history every root that may be used is as promised
+abbrev pub Demand3 : DatomOrd → ℕ → Type 0
+Demand3 t size = (m : Moment) → History t size m → (k : Known) → In k (m .roots) → Promise t m k

@@ -8,18 +8,17 @@ use lib.ListN.{length, drop}
 use Rattle.store.specs.declared.PageId.{PageId}
 use Rattle.store.specs.declared.Extent.{Extent}
 use Rattle.store.specs.Size.{capacity}
-use Rattle.store.specs.Laws.{apart}
 use Rattle.datom.specs.declared.Datom.{Datom}
 use Rattle.datom.specs.Datom.{datomsOf}
-use Rattle.index.specs.Order.{cmpEavt, eavt}
+use Rattle.index.specs.Order.{DatomOrd}
 use Rattle.answer.specs.declared.Refusal.the-variants.{Damaged}
 use Rattle.rules.specs.Page.{Node, nodeOf}
 use Rattle.rules.specs.Node.{meets, mergeNode}
-use Rattle.rules.specs.Tree.{Fetched, faulty, fine, Env, Stage, stop, then, fetchAt, settle, insertMerged}
+use Rattle.rules.specs.Tree.{fine, Env, Stage, stop, then, fetchAt, settle, insertMerged}
 use Rattle.rules.specs.Store.{badStore, pageAt, envOf}
 use Rattle.memory_store.specs.Readable.{nodeAt, Opens, opens}
 use Rattle.memory_store.specs.declared.found.Opened.the-variants as opened
-use Rattle.memory_store.specs.Opened.{openedOf, at-level, opened-node}
+use Rattle.memory_store.specs.Opened.{openedOf, at-level, damaged-faulty, opened-node}
 use Rattle.htree.specs.declared.insert.Loaded.{Loaded}
 use Rattle.htree.specs.declared.insert.Loaded.the-variants as loaded
 
@@ -28,63 +27,53 @@ abbrev pub batchAt : ℕ → ℕ → List ℕ → List Datom
 batchAt m n s = datomsOf n (drop (40 * m + 8) s)
 
 -- whatever the insert goes on with: it has the merged node, which stands in the area, or stops as Damaged
-pub data Loads (x : Extent) (s : List ℕ) (l : ℕ) (p : PageId) (a : List ℕ) (m n : ℕ) (a₁ : List ℕ) : Loaded → Type 0 where
+pub data Loads (t : DatomOrd) (x : Extent) (s : List ℕ) (l : ℕ) (p : PageId) (a : List ℕ) (m n : ℕ) (a₁ : List ℕ) : Loaded → Type 0 where
   loads-node :
       {k : ℕ} → k ≤ capacity (x .size) + n → length a₁ ≡ length a →
       ((f : Node → List Node → Stage Node) (o : List Node) →
-      insertMerged (envOf eavt x s) p (batchAt m n a) f (fetchAt (envOf eavt x s) l p) o
-      ≡ then (f (nodeOf m l k a₁) o) λ n₁ o₁. settle (envOf eavt x s) n₁ o₁) →
-      Loads x s l p a m n a₁ (loaded.Node k)
+      insertMerged (envOf t x s) p (batchAt m n a) f (fetchAt (envOf t x s) l p) o
+      ≡ then (f (nodeOf m l k a₁) o) λ n₁ o₁. settle (envOf t x s) n₁ o₁) →
+      Loads t x s l p a m n a₁ (loaded.Node k)
   loads-bad :
       length a₁ ≡ length a →
       ((f : Node → List Node → Stage Node) (o : List Node) →
-      insertMerged (envOf eavt x s) p (batchAt m n a) f (fetchAt (envOf eavt x s) l p) o ≡ stop (Damaged p) o) →
-      Loads x s l p a m n a₁ loaded.Damaged
+      insertMerged (envOf t x s) p (batchAt m n a) f (fetchAt (envOf t x s) l p) o ≡ stop (Damaged p) o) →
+      Loads t x s l p a m n a₁ loaded.Damaged
 
 -- a merge that meets no equal datoms
 merged :
-    (e : Env) → e .cmp ≡ cmpEavt → (p : PageId) (N : Node) (ds : List Datom) → meets cmpEavt (N .datoms) ds ≡ false →
+    (e : Env) (p : PageId) (N : Node) (ds : List Datom) → meets (e .cmp) (N .datoms) ds ≡ false →
     (g : Node → List Node → Stage Node) (o : List Node) →
-    insertMerged e p ds g (fine N) o ≡ then (g (mergeNode cmpEavt N ds) o) λ n₁ o₁. settle e n₁ o₁
+    insertMerged e p ds g (fine N) o ≡ then (g (mergeNode (e .cmp) N ds) o) λ n₁ o₁. settle e n₁ o₁
 unfolding insertMerged
-merged e c p N ds q g o = rw (c, q)
-
-env-cmp : (x : Extent) (s : List ℕ) → envOf eavt x s .cmp ≡ cmpEavt
-unfolding envOf eavt
-env-cmp x s = refl
+merged e p N ds q g o = rw q
 
 datoms-are : (c l k : ℕ) (s : List ℕ) → nodeOf c l k s .datoms ≡ datomsOf k s
 unfolding nodeOf
 datoms-are c l k s = refl
 
--- no merge with a page that was opened as damaged
-not-merged :
-    (e : Env) (p : PageId) (ds : List Datom) (g : Node → List Node → Stage Node) (r : Fetched) (o : List Node) → opened.Damaged ≡ openedOf r →
-    insertMerged e p ds g r o ≡ stop (Damaged p) o
-unfolding insertMerged openedOf
-not-merged e p ds g (faulty f) o h = refl
-not-merged e p ds g (fine N) o h = absurd (apart (cc))
-
 -- by what the page was opened as
-module _ (x : Extent) (s : List ℕ) (l : ℕ) (p : PageId) (a : List ℕ) (m n : ℕ) where
-  pub load-damaged : opened.Damaged ≡ openedOf (fetchAt (envOf eavt x s) l p) → Loads x s l p a m n a loaded.Damaged
-  load-damaged h = loads-bad refl λ g o. not-merged (envOf eavt x s) p (batchAt m n a) g (fetchAt (envOf eavt x s) l p) o h
+module _ (t : DatomOrd) (x : Extent) (s : List ℕ) (l : ℕ) (p : PageId) (a : List ℕ) (m n : ℕ) where
+  pub load-damaged : opened.Damaged ≡ openedOf (fetchAt (envOf t x s) l p) → Loads t x s l p a m n a loaded.Damaged
+  unfolding insertMerged
+  load-damaged h = loads-bad refl λ g o. rw (damaged-faulty (fetchAt (envOf t x s) l p) h .1)
 
-  module _ (k : ℕ) (ok : badStore x s ≡ false) (e : opened.Node k ≡ openedOf (fetchAt (envOf eavt x s) l p)) where
-    pub load-opens : Opens x s p l k
-    load-opens = opens x s p l k ok (opened-node x s p l k e)
+  module _ (k : ℕ) (ok : badStore x s ≡ false) (e : opened.Node k ≡ openedOf (fetchAt (envOf t x s) l p)) where
+    pub load-opens : Opens t x s p l k
+    load-opens = opens t x s p l k ok (opened-node t x s p l k e)
 
     module _ (a₁ : List ℕ) (same : length a₁ ≡ length a) where
-      read : fetchAt (envOf eavt x s) l p ≡ fine (nodeAt x s p l k)
-      read = let r = opened-node x s p l k e in at-level x s p l k r ∙ r
+      read : fetchAt (envOf t x s) l p ≡ fine (nodeAt x s p l k)
+      read = let r = opened-node t x s p l k e in at-level t x s p l k r ∙ r
 
-      pub load-met : meets cmpEavt (datomsOf k (pageAt x s p)) (batchAt m n a) ≡ true → Loads x s l p a m n a₁ loaded.Damaged
-      unfolding insertMerged nodeOf eavt envOf
+      pub load-met : meets (t .cmp) (datomsOf k (pageAt x s p)) (batchAt m n a) ≡ true → Loads t x s l p a m n a₁ loaded.Damaged
+      unfolding insertMerged nodeOf envOf
       load-met q = loads-bad same λ g o. rw (read, q)
 
       pub load-whole :
-          meets cmpEavt (datomsOf k (pageAt x s p)) (batchAt m n a) ≡ false →
-          nodeOf m l (k + n) a₁ ≡ mergeNode cmpEavt (nodeAt x s p l k) (batchAt m n a) → Loads x s l p a m n a₁ (loaded.Node (k + n))
+          meets (t .cmp) (datomsOf k (pageAt x s p)) (batchAt m n a) ≡ false →
+          nodeOf m l (k + n) a₁ ≡ mergeNode (t .cmp) (nodeAt x s p l k) (batchAt m n a) → Loads t x s l p a m n a₁ (loaded.Node (k + n))
+      unfolding envOf
       load-whole q w =
           loads-node {k = k + n} (omega (arith, load-opens .few)) same
-          λ g o. rw (read, w) (merged (envOf eavt x s) (env-cmp x s) p (nodeAt x s p l k) (batchAt m n a) (rw (datoms-are (capacity (x .size)) l k (pageAt x s p)) q) g o)
+          λ g o. rw (read, w) (merged (envOf t x s) p (nodeAt x s p l k) (batchAt m n a) (rw (datoms-are (capacity (x .size)) l k (pageAt x s p)) q) g o)

@@ -13,7 +13,7 @@ use Rattle.store.specs.Words.{patch}
 use Rattle.store.specs.Page.{page, pageOf}
 use Rattle.store.specs.Laws.{cells-length}
 use Rattle.datom.specs.Datom.{datomOf}
-use Rattle.index.specs.Order.{eavt}
+use Rattle.index.specs.Order.{DatomOrd}
 use Rattle.answer.specs.declared.Refusal.the-variants.{TooTall, NoRoom}
 use Rattle.rules.specs.Page.{Node, nodeOf}
 use Rattle.rules.specs.Node.{partOf}
@@ -38,19 +38,19 @@ pub part-lens : (m l n i a : ℕ) (s : List ℕ) → i + a ≤ n → length (par
 unfolding partOf nodeOf
 part-lens m l n i a s h = length-take-le (suc a) (drop i _) (simp length-drop (omega (arith, cells-length pageOf 8 (suc n) (drop (32 * m) s))))
 
-module _ (x : Extent) (s : List ℕ) (n : Node) (o : List Node) where
-  pub put-tall : 8 ≤ n .level → PutTold x s s n o (Failed TooTall) (put (envOf eavt x s) n o)
+module _ (t : DatomOrd) (x : Extent) (s : List ℕ) (n : Node) (o : List Node) where
+  pub put-tall : 8 ≤ n .level → PutTold x s s n o (Failed TooTall) (put (envOf t x s) n o)
   unfolding put
   put-tall h = rw (le-leb 8 (n .level) h) (put-failed refl)
 
   module _ (low : n .level < 8) where
-    pub put-full : length s / x .size - x .count ≤ length o → PutTold x s s n o (Failed NoRoom) (put (envOf eavt x s) n o)
+    pub put-full : length s / x .size - x .count ≤ length o → PutTold x s s n o (Failed NoRoom) (put (envOf t x s) n o)
     unfolding put envOf
     put-full h = rw (lt-leb 8 (n .level) low, le-ltb (length o) (length s / x .size - x .count) h) (put-failed refl)
 
     pub put-done :
         (w : ℕ) → length o ≡ w → x .count + w < 2 ^ 64 → w < length s / x .size - x .count → {s₁ : List ℕ} → Wrote x s w (n ∷ []) s₁ →
-        PutTold x s s₁ n o (Placed (page (x .count + w))) (put (envOf eavt x s) n o)
+        PutTold x s s₁ n o (Placed (page (x .count + w))) (put (envOf t x s) n o)
     unfolding put envOf
     put-done w l f h q =
         rw (← l, lt-leb 8 (n .level) low, lt-ltb (length o) (length s / x .size - x .count) (omega arith)) (put-placed {id = page (x .count + length o)} (rw l f) (rw l q))

@@ -9,20 +9,20 @@ use Rattle.store.specs.declared.PageId.{PageId}
 use Rattle.store.specs.declared.Extent.{Extent}
 use Rattle.store.specs.Laws.{apart}
 use Rattle.datom.specs.declared.Datom.{Datom}
-use Rattle.index.specs.Order.{eavt}
+use Rattle.index.specs.Order.{DatomOrd}
 use Rattle.answer.specs.declared.Refusal.{Refusal}
 use Rattle.rules.specs.Page.{Node, nodeOf}
 use Rattle.rules.specs.Node.{meets, mergeNode}
-use Rattle.rules.specs.Tree.{Fetched, faulty, fine, Env, Stage, stop, go, then, fetchAt, put, isOver, settle, insertMerged, insertInto, writeRoot}
+use Rattle.rules.specs.Tree.{Fetched, faulty, fine, Env, Stage, stop, go, then, fetchAt, put, isOver, settle, insertMerged, insertInto, writeRoot, insertTree}
 use Rattle.rules.specs.Store.{envOf}
 use Rattle.rules.specs.Sizes.{level-is}
 use Rattle.htree.specs.declared.place.Inserted.the-variants as inserted
 use Rattle.htree.specs.declared.root.Rooted.{Rooted}
 use Rattle.htree.specs.declared.root.Rooted.the-variants as rooted
 use Rattle.htree.specs.Wrote.{wrote-env}
-use Rattle.htree.specs.Told.{Ready, Tells, Went, Stopped, went, stopped}
-use Rattle.htree.specs.Split.{blanks, blanks-length, ready-after}
-use Rattle.htree.specs.Flush.{node-count, flush-all-level}
+use Rattle.htree.specs.Told.{blanks, blanks-length, node-count, Ready, Tells, Went, Stopped, went, stopped}
+use Rattle.htree.specs.Split.{ready-after}
+use Rattle.htree.specs.Flush.{flush-all-level}
 use Rattle.htree.specs.Root.{Roots, tell-no-root, root-after, split-gives}
 
 -- what comes back stands one level higher
@@ -64,20 +64,17 @@ insert-level e zero p ds o k o₁ q = merged-level e p ds 0 (λ n o₂. go n o�
 insert-level e (suc l) p ds o k o₁ q =
     merged-level e p ds (suc l) _ (λ n o₂ j o₃ g. flush-all-level e (λ p₁ ds₁ o₄. insertInto e l p₁ ds₁ o₄) (length (n .datoms)) n o₂ j o₃ g) o k o₁ q
 
--- an insert at a root of level l, and the top of what comes back
-abbrev pub raised : Env → ℕ → PageId → List Datom → List Node → Stage PageId
-raised e l p ds o = then (insertInto e l p ds o) λ n o₁. writeRoot e (length (n .datoms)) n o₁
-
-module _ (x : Extent) (s : List ℕ) (l m : ℕ) (p : PageId) (ds : List Datom) (w : ℕ) where
+-- the code's insert at a root: the insert, then the top of what comes back
+module _ (t : DatomOrd) (x : Extent) (s : List ℕ) (l m : ℕ) (p : PageId) (ds : List Datom) (w : ℕ) where
   abbrev inserts : List Node → Stage Node
-  inserts o = insertInto (envOf eavt x s) l p ds o
+  inserts o = insertInto (envOf t x s) l p ds o
 
   pub raise-stops :
       (s₁ a₁ : List ℕ) (r : Refusal) (v : ℕ) → Tells x s s₁ m a₁ w (inserted.Failed r v) inserts →
-      Roots x s s₁ w (rooted.Failed r v) (raised (envOf eavt x s) l p ds)
-  unfolding then
+      Roots x s s₁ w (rooted.Failed r v) (insertTree (envOf t x s) l p ds)
+  unfolding then insertTree
   raise-stops s₁ a₁ r v T o e = let S = stopped (T o e) in
-      tell-no-root r (S .new) v (ap (λ (t : Stage Node). then t λ n o₁. writeRoot (envOf eavt x s) (length (n .datoms)) n o₁) (S .stage)) (S .count) (S .wrote)
+      tell-no-root r (S .new) v (ap (λ (g : Stage Node). then g λ n o₁. writeRoot (envOf t x s) (length (n .datoms)) n o₁) (S .stage)) (S .count) (S .wrote)
 
   module _ (s₁ a₁ : List ℕ) (k v : ℕ) (T : Tells x s s₁ m a₁ w (inserted.Placed k v) inserts) where
     pub raise-ready : {c : ℕ} → Ready x s c w → Ready x s₁ c v
@@ -89,18 +86,18 @@ module _ (x : Extent) (s : List ℕ) (l m : ℕ) (p : PageId) (ds : List Datom) 
     raise-few = went (T (blanks w) (blanks-length w)) .few
 
     pub raise-goes :
-        (s₂ : List ℕ) (r : Rooted) → Roots x s₁ s₂ v r (writeRoot (envOf eavt x s₁) k (nodeOf m (l + 1) k a₁)) →
-        Roots x s s₂ w r (raised (envOf eavt x s) l p ds)
-    unfolding then
+        (s₂ : List ℕ) (r : Rooted) → Roots x s₁ s₂ v r (writeRoot (envOf t x s₁) k (nodeOf m (l + 1) k a₁)) →
+        Roots x s s₂ w r (insertTree (envOf t x s) l p ds)
+    unfolding then insertTree
     raise-goes s₂ r U o e =
         let W = went (T o e) in
-        let env : envOf eavt x s₁ ≡ envOf eavt x s = wrote-env x s (length o) (W .wrote) eavt in
-        let lev : W .node .level ≡ l + 1 = insert-level (envOf eavt x s) l p ds o (W .node) _ (W .stage) ∙ (let z : suc l ≡ l + 1 = omega arith in z) in
+        let env : envOf t x s₁ ≡ envOf t x s = wrote-env x s (length o) (W .wrote) t in
+        let lev : W .node .level ≡ l + 1 = insert-level (envOf t x s) l p ds o (W .node) _ (W .stage) ∙ (let z : suc l ≡ l + 1 = omega arith in z) in
         let is : nodeOf m (l + 1) k a₁ ≡ W .node = ap (λ (j : ℕ). nodeOf m j k a₁) (sym lev) ∙ W .area in
         let many : k ≡ length (W .node .datoms) = sym (node-count m (l + 1) k a₁) ∙ ap (λ (j : Node). length (j .datoms)) is in
-        let same : raised (envOf eavt x s) l p ds o ≡ writeRoot (envOf eavt x s₁) k (nodeOf m (l + 1) k a₁) (o ++ W .new) =
-        ap (λ (t : Stage Node). then t λ n o₁. writeRoot (envOf eavt x s) (length (n .datoms)) n o₁) (W .stage)
-        ∙ sym (ap₂ (λ (j : ℕ) (n : Node). writeRoot (envOf eavt x s) j n (o ++ W .new)) many is)
+        let same : insertTree (envOf t x s) l p ds o ≡ writeRoot (envOf t x s₁) k (nodeOf m (l + 1) k a₁) (o ++ W .new) =
+        ap (λ (g : Stage Node). then g λ n o₁. writeRoot (envOf t x s) (length (n .datoms)) n o₁) (W .stage)
+        ∙ sym (ap₂ (λ (j : ℕ) (n : Node). writeRoot (envOf t x s) j n (o ++ W .new)) many is)
         ∙ sym (ap (λ (f : Env). writeRoot f k (nodeOf m (l + 1) k a₁) (o ++ W .new)) env) in
         rw same
         (root-after x s (length o) o refl (W .wrote) (U (o ++ W .new) (let g : length (o ++ W .new) ≡ v = sym (W .count ∙ sym (length-append o (W .new))) in g)))

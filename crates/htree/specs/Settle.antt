@@ -13,7 +13,7 @@ use Rattle.store.specs.Page.{pageBytes}
 use Rattle.store.specs.Size.{capacity}
 use Rattle.store.specs.Laws.{Known, cells-length}
 use Rattle.datom.specs.Datom.{datomOf}
-use Rattle.index.specs.Order.{eavt}
+use Rattle.index.specs.Order.{DatomOrd}
 use Rattle.answer.specs.declared.Refusal.{Refusal}
 use Rattle.rules.specs.Page.{Node, nodeOf}
 use Rattle.rules.specs.Tree.{Env, go, then, put, split, isOver, settle}
@@ -29,24 +29,24 @@ pub ready-next : {x : Extent} {s : List ℕ} {c w : ℕ} → Ready x s c w → x
 ready-next {x} {s} {c} {w} R =
     omega (arith, R .room, le-mul-of-pos-right {m = x .size} (x .count + w) (omega (arith, in-order x s (R .good) .known .fits)))
 
-module _ (x : Extent) (s : List ℕ) (m l n : ℕ) (a : List ℕ) where
-  pub settle-split : capacity (x .size) < n → (o : List Node) → settle (envOf eavt x s) (nodeOf m l n a) o ≡ split (envOf eavt x s) (nodeOf m l n a) o
+module _ (t : DatomOrd) (x : Extent) (s : List ℕ) (m l n : ℕ) (a : List ℕ) where
+  pub settle-split : capacity (x .size) < n → (o : List Node) → settle (envOf t x s) (nodeOf m l n a) o ≡ split (envOf t x s) (nodeOf m l n a) o
   unfolding settle isOver envOf nodeOf
   settle-split h o = rw (lt-ltb (capacity (x .size)) (length (cells datomOf 32 n a)) (omega (arith, cells-length datomOf 32 n a)))
 
   module _ (h : n ≤ capacity (x .size)) (fit : n ≤ m) (big : 40 * m + 8 ≤ length a) (o : List Node) where
     one-page :
-        settle (envOf eavt x s) (nodeOf m l n a) o
-        ≡ then (put (envOf eavt x s) (nodeOf m l n a) o) λ id o₁. go (record { level = suc l; datoms = []; children = id ∷ [] }) o₁
+        settle (envOf t x s) (nodeOf m l n a) o
+        ≡ then (put (envOf t x s) (nodeOf m l n a) o) λ id o₁. go (record { level = suc l; datoms = []; children = id ∷ [] }) o₁
     unfolding settle isOver envOf nodeOf
     one-page = rw (le-ltb (capacity (x .size)) (length (cells datomOf 32 n a)) (omega (arith, cells-length datomOf 32 n a)))
 
     pub settle-put :
-        (s₁ : List ℕ) (id : PageId) → PutTold x s s₁ (nodeOf m l n a) o (put.Placed id) (put (envOf eavt x s) (nodeOf m l n a) o) →
-        Went x s s₁ m (patch a (32 * m + 8 * 0) (pageBytes id)) o 0 (length o + 1) (settle (envOf eavt x s) (nodeOf m l n a) o)
+        (s₁ : List ℕ) (id : PageId) → PutTold x s s₁ (nodeOf m l n a) o (put.Placed id) (put (envOf t x s) (nodeOf m l n a) o) →
+        Went x s s₁ m (patch a (32 * m + 8 * 0) (pageBytes id)) o 0 (length o + 1) (settle (envOf t x s) (nodeOf m l n a) o)
     unfolding then
-    settle-put s₁ id t =
-        let u = put-is t in
+    settle-put s₁ id T =
+        let u = put-is T in
         record {
           node = record { level = suc l; datoms = []; children = id ∷ [] };
           new = nodeOf m l n a ∷ [];
@@ -58,11 +58,11 @@ module _ (x : Extent) (s : List ℕ) (m l n : ℕ) (a : List ℕ) where
         }
 
     pub settle-refused :
-        (s₁ : List ℕ) (r : Refusal) → PutTold x s s₁ (nodeOf m l n a) o (put.Failed r) (put (envOf eavt x s) (nodeOf m l n a) o) →
-        (x .count + length o) * x .size ≤ length s → Stopped x s s₁ o r (length o) (settle (envOf eavt x s) (nodeOf m l n a) o)
+        (s₁ : List ℕ) (r : Refusal) → PutTold x s s₁ (nodeOf m l n a) o (put.Failed r) (put (envOf t x s) (nodeOf m l n a) o) →
+        (x .count + length o) * x .size ≤ length s → Stopped x s s₁ o r (length o) (settle (envOf t x s) (nodeOf m l n a) o)
     unfolding then
-    settle-refused s₁ r t room =
-        let u = put-is-not t in
+    settle-refused s₁ r T room =
+        let u = put-is-not T in
         record {
           new = [];
           stage = one-page ∙ rw (u .0, append-nil);

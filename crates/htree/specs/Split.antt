@@ -5,7 +5,7 @@ use native.Mathlib.Numerals.{add-one}
 use native.Mathlib.Omega.{arith}
 use mathlib.Core.List.{List, [], _∷_, _++_, append-assoc, append-nil}
 use mathlib.Core.Path.{_≡_, refl, sym, _∙_, ap}
-use lib.ListN.{length, take, drop, replicate, length-append, length-take, length-replicate}
+use lib.ListN.{length, take, drop, length-append, length-take}
 use Rattle.store.specs.declared.PageId.{PageId}
 use Rattle.store.specs.declared.Extent.{Extent}
 use Rattle.store.specs.Words.{patch}
@@ -15,7 +15,7 @@ use Rattle.store.specs.Laws.{Known, page-length}
 use Rattle.store.specs.Cells.{patch-length}
 use Rattle.datom.specs.declared.Datom.{Datom}
 use Rattle.datom.specs.Datom.{datomAt, datomsOf}
-use Rattle.index.specs.Order.{eavt}
+use Rattle.index.specs.Order.{DatomOrd}
 use Rattle.answer.specs.declared.Refusal.{Refusal}
 use Rattle.rules.specs.Page.{Node, childrenOf, nodeOf}
 use Rattle.rules.specs.Node.{share, parts, between, pagesFor, splitParts, splitUp, partOf}
@@ -27,7 +27,7 @@ use Rattle.node.specs.Parts.{Splitting, parts-step, between-step, splitting-on,
 use Rattle.htree.specs.declared.place.Put.{Put}
 use Rattle.htree.specs.declared.place.Put.the-variants as put
 use Rattle.htree.specs.Wrote.{Wrote, wrote-none, wrote-more, wrote-length, wrote-bad, wrote-env}
-use Rattle.htree.specs.Told.{Ready, PutTold, Puts, put-is, put-is-not, Went, Stopped}
+use Rattle.htree.specs.Told.{anyOrder, blanks, blanks-length, Ready, PutTold, Puts, put-is, put-is-not, Went, Stopped}
 
 -- ids that came before those of a stage
 unfoldable pub prefixed : List PageId → Stage (List PageId) → Stage (List PageId)
@@ -82,7 +82,7 @@ zero-times : (a b : ℕ) → a ≡ 0 → a * b ≡ 0
 zero-times a b e = rw e (zero-mul b)
 
 -- p of P parts are written, and i children are in them
-pub record Halfway (x : Extent) (s₀ : List ℕ) (w l m n P q r : ℕ) (a₀ : List ℕ) (o : List Node) (s a : List ℕ) (p i next : ℕ) : Type 0 where
+pub record Halfway (t : DatomOrd) (x : Extent) (s₀ : List ℕ) (w l m n P q r : ℕ) (a₀ : List ℕ) (o : List Node) (s a : List ℕ) (p i next : ℕ) : Type 0 where
   pub new : List Node
   pub ids : List PageId
   pub ups : List Datom
@@ -90,20 +90,20 @@ pub record Halfway (x : Extent) (s₀ : List ℕ) (w l m n P q r : ℕ) (a₀ : 
   pub count : next ≡ w + length new
   pub area : Splitting m n p i a ups ids (datomsOf n a₀) (childrenOf m (suc n) a₀)
   pub stage :
-      putAll (envOf eavt x s₀) (splitParts (capacity (x .size)) (nodeOf m l n a₀)) o
-      ≡ prefixed ids (putAll (envOf eavt x s₀) (parts l (P - p) q (r - p) (drop i (datomsOf n a₀)) (drop i (childrenOf m (suc n) a₀))) (o ++ new))
+      putAll (envOf t x s₀) (splitParts (capacity (x .size)) (nodeOf m l n a₀)) o
+      ≡ prefixed ids (putAll (envOf t x s₀) (parts l (P - p) q (r - p) (drop i (datomsOf n a₀)) (drop i (childrenOf m (suc n) a₀))) (o ++ new))
   pub up : splitUp (capacity (x .size)) (nodeOf m l n a₀) ≡ ups ++ between (P - 1 - p) q (r - p) (drop i (datomsOf n a₀))
   pub total : i + ((P - p) * q + (r - p)) ≡ suc n
   pub same : length a ≡ length a₀
 
-module _ (x : Extent) (s₀ : List ℕ) (w l m n : ℕ) (a₀ : List ℕ) (o : List Node) (here : length o ≡ w) where
+module _ (t : DatomOrd) (x : Extent) (s₀ : List ℕ) (w l m n : ℕ) (a₀ : List ℕ) (o : List Node) (here : length o ≡ w) where
   abbrev e : Env
-  e = envOf eavt x s₀
+  e = envOf t x s₀
 
   -- how it begins, with the numbers that the rules give
   pub halfway-start :
       (P : ℕ) → P ≡ pagesFor (capacity (x .size)) n → (x .count + w) * x .size ≤ length s₀ →
-      Halfway x s₀ w l m n P (suc n / P) (suc n % P) a₀ o s₀ a₀ 0 0 w
+      Halfway t x s₀ w l m n P (suc n / P) (suc n % P) a₀ o s₀ a₀ 0 0 w
   halfway-start P f room =
       record {
         new = [];
@@ -118,7 +118,7 @@ module _ (x : Extent) (s₀ : List ℕ) (w l m n : ℕ) (a₀ : List ℕ) (o : L
         same = refl;
       }
 
-  module _ {P q r : ℕ} {s a : List ℕ} {p i next : ℕ} (H : Halfway x s₀ w l m n P q r a₀ o s a p i next) (some : 0 < q) where
+  module _ {P q r : ℕ} {s a : List ℕ} {p i next : ℕ} (H : Halfway t x s₀ w l m n P q r a₀ o s a p i next) (some : 0 < q) where
     abbrev k : ℕ
     k = share q (r - p)
 
@@ -158,12 +158,12 @@ module _ (x : Extent) (s₀ : List ℕ) (w l m n : ℕ) (a₀ : List ℕ) (o : L
 
     -- the next part is refused
     pub halfway-stop :
-        p < P → (s₁ : List ℕ) (f : Refusal) → PutTold x s s₁ part done (put.Failed f) (put (envOf eavt x s) part done) →
+        p < P → (s₁ : List ℕ) (f : Refusal) → PutTold x s s₁ part done (put.Failed f) (put (envOf t x s) part done) →
         Stopped x s₀ s₁ o f next (split e (nodeOf m l n a₀) o)
     unfolding envOf
-    halfway-stop h s₁ f t =
-        let u = put-is-not t in
-        let v : put e part done ≡ stop f done = rw (wrote-env x s₀ w (H .wrote) eavt) at (u .0) in
+    halfway-stop h s₁ f T =
+        let u = put-is-not T in
+        let v : put e part done ≡ stop f done = rw (wrote-env x s₀ w (H .wrote) t) at (u .0) in
         record {
           new = H .new;
           stage =
@@ -176,13 +176,13 @@ module _ (x : Extent) (s₀ : List ℕ) (w l m n : ℕ) (a₀ : List ℕ) (o : L
     -- the next part is written, and another follows
     pub halfway-on :
         p + 1 < P → n ≤ m → 40 * m + 8 ≤ length a₀ → (s₁ : List ℕ) (id : PageId) →
-        PutTold x s s₁ part done (put.Placed id) (put (envOf eavt x s) part done) →
-        Halfway x s₀ w l m n P q r a₀ o s₁
+        PutTold x s s₁ part done (put.Placed id) (put (envOf t x s) part done) →
+        Halfway t x s₀ w l m n P q r a₀ o s₁
         (patch (patch a (32 * p) (take 32 (drop (32 * (i + k - 1)) a))) (32 * m + 8 * p) (pageBytes id)) (p + 1) (i + k) (next + 1)
-    halfway-on h fit big s₁ id t =
-        let u = put-is t in
+    halfway-on h fit big s₁ id T =
+        let u = put-is T in
         let small = u .2 in
-        let v : put e part done ≡ go id (done ++ (part ∷ [])) = rw (wrote-env x s₀ w (H .wrote) eavt) at (u .0) in
+        let v : put e part done ≡ go id (done ++ (part ∷ [])) = rw (wrote-env x s₀ w (H .wrote) t) at (u .0) in
         let z : i + k ≤ n = share-inner (P - (p + 1)) q (r - p) i n (rw (one (omega arith)) at (H .total)) some (omega arith) in
         let kpos : 0 < k = share-some q (r - p) some in
         let first : length (patch a (32 * p) (take 32 (drop (32 * (i + k - 1)) a))) ≡ length a =
@@ -211,13 +211,13 @@ module _ (x : Extent) (s₀ : List ℕ) (w l m n : ℕ) (a₀ : List ℕ) (o : L
     -- and once it is written the area holds the node that goes up
     pub halfway-end :
         p + 1 ≡ P → r < P → n ≤ m → 40 * m + 8 ≤ length a₀ → (s₁ : List ℕ) (id : PageId) →
-        PutTold x s s₁ part done (put.Placed id) (put (envOf eavt x s) part done) →
+        PutTold x s s₁ part done (put.Placed id) (put (envOf t x s) part done) →
         Went x s₀ s₁ m (patch a (32 * m + 8 * p) (pageBytes id)) o p (next + 1) (split e (nodeOf m l n a₀) o)
     unfolding envOf nodeOf
-    halfway-end h f fit big s₁ id t =
-        let u = put-is t in
+    halfway-end h f fit big s₁ id T =
+        let u = put-is T in
         let small = u .2 in
-        let v : put e part done ≡ go id (done ++ (part ∷ [])) = rw (wrote-env x s₀ w (H .wrote) eavt) at (u .0) in
+        let v : put e part done ≡ go id (done ++ (part ∷ [])) = rw (wrote-env x s₀ w (H .wrote) t) at (u .0) in
         let up : splitUp (capacity (x .size)) (nodeOf m l n a₀) ≡ H .ups =
         H .up ∙ ap (λ (j : ℕ). H .ups ++ between j q (r - p) (drop i (datomsOf n a₀))) (let z : P - 1 - p ≡ 0 = omega arith in z) ∙ none-between (H .ups) q (r - p) _ in
         record {
@@ -238,7 +238,7 @@ module _ (x : Extent) (s₀ : List ℕ) (w l m n : ℕ) (a₀ : List ℕ) (o : L
 
 -- one part of a split: the page, and what becomes of the area
 pub record Parted (x : Extent) (s s₁ : List ℕ) (w l m n p i k : ℕ) (a a₁ : List ℕ) (r : Put) : Type 0 where
-  pub page : (o : List Node) → length o ≡ w → PutTold x s s₁ (partOf i (k - 1) (nodeOf m l n a)) o r (put (envOf eavt x s) (partOf i (k - 1) (nodeOf m l n a)) o)
+  pub page : Puts x s s₁ w (partOf i (k - 1) (nodeOf m l n a)) r
   pub area : (id : PageId) → r ≡ put.Placed id → a₁ ≡ patch (patch a (32 * p) (take 32 (drop (32 * (i + k - 1)) a))) (32 * m + 8 * p) (pageBytes id)
 
 -- how a node that is over C is divided: P parts of q children, r of them with one more
@@ -274,20 +274,12 @@ divided c n P q r pos over e f g =
       most = omega (arith, S .pages, S .most);
     }
 
--- what the loop keeps: it stands halfway whatever was written before, and a part is left to do
+-- what the loop keeps: it stands halfway whatever the order and whatever was written before, and a part is left to do
 pub record Looping (x : Extent) (s₀ : List ℕ) (c w l : ℕ) (a₀ : List ℕ) (m n P q r : ℕ) (s a : List ℕ) (p i next : ℕ) : Type 0 where
-  pub half : (o : List Node) → length o ≡ w → Halfway x s₀ w l m n P q r a₀ o s a p i next
+  pub half : (t : DatomOrd) (o : List Node) → length o ≡ w → Halfway t x s₀ w l m n P q r a₀ o s a p i next
   pub divided : Divided c n P q r
   pub begun : Ready x s₀ c w
   pub left : p < P
-
--- some list of so many pages, to read off what does not depend on them
-pub blanks : ℕ → List Node
-blanks w = replicate w (record { level = 0; datoms = []; children = [] })
-
-pub blanks-length : (w : ℕ) → length (blanks w) ≡ w
-unfolding blanks
-blanks-length w = length-replicate w _
 
 pub ready-after :
     {x : Extent} {s₀ s : List ℕ} {c w next : ℕ} {new : List Node} → Ready x s₀ c w → Wrote x s₀ w new s → next ≡ w + length new → Ready x s c next
@@ -299,8 +291,8 @@ ready-after {x} {s₀} {s} {c} {w} {next} {new} R W e =
     }
 
 module _ {x : Extent} {s₀ : List ℕ} {c w l : ℕ} {a₀ : List ℕ} {m n P q r : ℕ} {s a : List ℕ} {p i next : ℕ} (L : Looping x s₀ c w l a₀ m n P q r s a p i next) where
-  some : Halfway x s₀ w l m n P q r a₀ (blanks w) s a p i next
-  some = L .half (blanks w) (blanks-length w)
+  some : Halfway anyOrder x s₀ w l m n P q r a₀ (blanks w) s a p i next
+  some = L .half anyOrder (blanks w) (blanks-length w)
 
   pub looping-ready : Ready x s c next
   looping-ready = ready-after (L .begun) (some .wrote) (some .count)
@@ -318,19 +310,19 @@ module _ {x : Extent} {s₀ : List ℕ} {c w l : ℕ} {a₀ : List ℕ} {m n P q
   looping-share = (
     share-some q (r - p) (L .divided .full),
     share-most q (r - p) (c + 1) (L .divided .fit) (λ h. L .divided .fit₁ (omega arith)),
-    omega (arith, sum x s₀ w l m n a₀ (blanks w) (blanks-length w) some (L .divided .full) (L .left)),
+    omega (arith, sum anyOrder x s₀ w l m n a₀ (blanks w) (blanks-length w) some (L .divided .full) (L .left)),
   )
 
   -- another part follows
   pub looping-inner : p + 1 < P → i + share q (r - p) ≤ n
   looping-inner h =
       share-inner (P - (p + 1)) q (r - p) i n
-      (rw (one x s₀ w l m n a₀ (blanks w) (blanks-length w) some (L .divided .full) (L .left)) at (some .total)) (L .divided .full) (omega arith)
+      (rw (one anyOrder x s₀ w l m n a₀ (blanks w) (blanks-length w) some (L .divided .full) (L .left)) at (some .total)) (L .divided .full) (omega arith)
 
   -- the last part
   pub looping-last : p + 1 ≡ P → (share q (r - p) - 1 ≡ n - i) × (i ≤ n)
   looping-last h =
-      let e = last-takes x s₀ w l m n a₀ (blanks w) (blanks-length w) some (L .divided .full) h (L .divided .rest) in
+      let e = last-takes anyOrder x s₀ w l m n a₀ (blanks w) (blanks-length w) some (L .divided .full) h (L .divided .rest) in
       (e, omega (arith, looping-share .0, looping-share .2))
 
   pub looping-length : length s ≡ length s₀
@@ -352,36 +344,36 @@ module _ {x : Extent} {s₀ : List ℕ} {c w l : ℕ} {a₀ : List ℕ} {m n P q
         Looping x s₀ c w l a₀ m n P q r s₁ a₁ (p + 1) (i + k) (next + 1)
     looping-on k e h s₁ a₁ id T =
         record {
-          half = λ o here.
-              let H = L .half o here in
+          half = λ t o here.
+              let H = L .half t o here in
               rw (T .area id refl, e)
-              (halfway-on x s₀ w l m n a₀ o here H (L .divided .full) h fit big s₁ id
-              (rw e at (T .page (o ++ H .new) (done-count x s₀ w l m n a₀ o here H (L .divided .full)))));
+              (halfway-on t x s₀ w l m n a₀ o here H (L .divided .full) h fit big s₁ id
+              (rw e at (T .page t (o ++ H .new) (done-count t x s₀ w l m n a₀ o here H (L .divided .full)))));
           divided = L .divided;
           begun = L .begun;
           left = h;
         }
 
     pub looping-end :
-        p + 1 ≡ P → (s₁ : List ℕ) (id : PageId) → Puts x s s₁ next (partOf i (n - i) (nodeOf m l n a)) (put.Placed id) → (o : List Node) → length o ≡ w →
-        Went x s₀ s₁ m (patch a (32 * m + 8 * p) (pageBytes id)) o p (next + 1) (split (envOf eavt x s₀) (nodeOf m l n a₀) o)
-    looping-end h s₁ id T o here =
-        let H = L .half o here in
-        halfway-end x s₀ w l m n a₀ o here H (L .divided .full) h (L .divided .rest) fit big s₁ id
-        (rw (← looping-last h .0) at (T (o ++ H .new) (done-count x s₀ w l m n a₀ o here H (L .divided .full))))
+        p + 1 ≡ P → (s₁ : List ℕ) (id : PageId) → Puts x s s₁ next (partOf i (n - i) (nodeOf m l n a)) (put.Placed id) → (t : DatomOrd) (o : List Node) → length o ≡ w →
+        Went x s₀ s₁ m (patch a (32 * m + 8 * p) (pageBytes id)) o p (next + 1) (split (envOf t x s₀) (nodeOf m l n a₀) o)
+    looping-end h s₁ id T t o here =
+        let H = L .half t o here in
+        halfway-end t x s₀ w l m n a₀ o here H (L .divided .full) h (L .divided .rest) fit big s₁ id
+        (rw (← looping-last h .0) at (T t (o ++ H .new) (done-count t x s₀ w l m n a₀ o here H (L .divided .full))))
 
   pub looping-stop :
-      (k : ℕ) → k ≡ share q (r - p) → (s₁ a₁ : List ℕ) (f : Refusal) → Parted x s s₁ next l m n p i k a a₁ (put.Failed f) → (o : List Node) → length o ≡ w →
-      Stopped x s₀ s₁ o f next (split (envOf eavt x s₀) (nodeOf m l n a₀) o)
-  looping-stop k e s₁ a₁ f T o here =
-      let H = L .half o here in
-      halfway-stop x s₀ w l m n a₀ o here H (L .divided .full) (L .left) s₁ f
-      (rw e at (T .page (o ++ H .new) (done-count x s₀ w l m n a₀ o here H (L .divided .full))))
+      (k : ℕ) → k ≡ share q (r - p) → (s₁ a₁ : List ℕ) (f : Refusal) → Parted x s s₁ next l m n p i k a a₁ (put.Failed f) → (t : DatomOrd) (o : List Node) → length o ≡ w →
+      Stopped x s₀ s₁ o f next (split (envOf t x s₀) (nodeOf m l n a₀) o)
+  looping-stop k e s₁ a₁ f T t o here =
+      let H = L .half t o here in
+      halfway-stop t x s₀ w l m n a₀ o here H (L .divided .full) (L .left) s₁ f
+      (rw e at (T .page t (o ++ H .new) (done-count t x s₀ w l m n a₀ o here H (L .divided .full))))
 
   pub looping-refused :
-      p + 1 ≡ P → (s₁ : List ℕ) (f : Refusal) → Puts x s s₁ next (partOf i (n - i) (nodeOf m l n a)) (put.Failed f) → (o : List Node) → length o ≡ w →
-      Stopped x s₀ s₁ o f next (split (envOf eavt x s₀) (nodeOf m l n a₀) o)
-  looping-refused h s₁ f T o here =
-      let H = L .half o here in
-      halfway-stop x s₀ w l m n a₀ o here H (L .divided .full) (L .left) s₁ f
-      (rw (← looping-last h .0) at (T (o ++ H .new) (done-count x s₀ w l m n a₀ o here H (L .divided .full))))
+      p + 1 ≡ P → (s₁ : List ℕ) (f : Refusal) → Puts x s s₁ next (partOf i (n - i) (nodeOf m l n a)) (put.Failed f) → (t : DatomOrd) (o : List Node) → length o ≡ w →
+      Stopped x s₀ s₁ o f next (split (envOf t x s₀) (nodeOf m l n a₀) o)
+  looping-refused h s₁ f T t o here =
+      let H = L .half t o here in
+      halfway-stop t x s₀ w l m n a₀ o here H (L .divided .full) (L .left) s₁ f
+      (rw (← looping-last h .0) at (T t (o ++ H .new) (done-count t x s₀ w l m n a₀ o here H (L .divided .full))))

@@ -32,6 +32,10 @@ pub record Wrote (x : Extent) (s : List ℕ) (w : ℕ) (new : List Node) (s₁ :
   pub sized : length (pagesBytes x new) ≡ length new * x .size
   pub fits : (x .count + w + length new) * x .size ≤ length s
 
+-- the same pages leave the same store
+pub wrote-same : {x : Extent} {s s₁ s₂ : List ℕ} {w : ℕ} {a b : List Node} → Wrote x s w a s₁ → Wrote x s w b s₂ → a ≡ b → s₁ ≡ s₂
+wrote-same {x} {s} {w = w} A B e = A .bytes ∙ ap (λ (ns : List Node). patch s ((x .count + w) * x .size) (pagesBytes x ns)) e ∙ sym (B .bytes)
+
 module _ (x : Extent) (s : List ℕ) (w : ℕ) where
   pub wrote-none : (x .count + w) * x .size ≤ length s → Wrote x s w [] s
   unfolding spread

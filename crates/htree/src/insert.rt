@@ -19,7 +19,7 @@ ghost use Rattle.rules.specs.Store.{badStore, envOf};
 ghost use Rattle.memory_store.specs.Opened.{openedOf};
 ghost use Rattle.htree.specs.Told.{Ready, Tells};
 ghost use Rattle.htree.specs.Load.{Loads, batchAt};
-ghost use Rattle.htree.specs.Flush.{below};
+ghost use Rattle.htree.specs.Flush.{insertLower};
 
 // A page merged with a batch into the area, of so many datoms; or the page is damaged.
 pub enum Loaded {
@@ -40,14 +40,13 @@ fn load(
     n: usize,
 ) -> Loaded
     requires { ⌜ (badStore extent (now store) ≡ false) × (c ≡ capacity (extent .size)) × (c + n ≤ m) × (40 * m + 8 + 32 * n ≤ length (now s)) × (opened ≡ openedOf (fetchAt (envOf eavt extent (now store)) level page)) ⌝ }
-    ensures { λ r. ⌜ Loads extent (now (store .entry)) level page (now (s .entry)) m n (now (s .exit)) r ⌝ }
+    ensures { λ r. ⌜ Loads eavt extent (now (store .entry)) level page (now (s .entry)) m n (now (s .exit)) r ⌝ }
 {
     let Opened::Node(k) = opened else {
         return Loaded::Damaged;
     };
-    let size = extent.size as usize;
-    let at = page.0 as usize * size;
-    match node::merge(&store[at..at + size], c, k, s, m, 40 * m + 8, n) {
+    let part = memory_store::part_of(store, extent, page);
+    match node::merge(part, c, k, s, m, 40 * m + 8, n) {
         Merged::Whole => Loaded::Node(k + n),
         Merged::Met => Loaded::Damaged,
     }
@@ -109,7 +108,7 @@ fn drain(
     n: usize,
 ) -> Inserted
     requires { ⌜ Ready extent (now store) c written × (0 < level) × (level * c + n ≤ m) × ((level + 1) * (40 * m + 8) + 32 * m ≤ length (now s)) ⌝ }
-    ensures { λ r. ⌜ Tells extent (now (store .entry)) (now (store .exit)) m (now (s .exit)) written r (flushAll (envOf eavt extent (now (store .entry))) (below extent (now (store .entry)) level) n (nodeOf m level n (now (s .entry)))) ⌝ }
+    ensures { λ r. ⌜ Tells extent (now (store .entry)) (now (store .exit)) m (now (s .exit)) written r (flushAll (envOf eavt extent (now (store .entry))) (insertLower eavt extent (now (store .entry)) level) n (nodeOf m level n (now (s .entry)))) ⌝ }
 {
     let mut turns = n;
     let mut count = n;
@@ -165,12 +164,12 @@ fn flush(
     n: usize,
 ) -> Inserted
     requires { ⌜ Ready extent (now store) c written × (0 < level) × (level * c + n ≤ m) × ((level + 1) * (40 * m + 8) + 32 * m ≤ length (now s)) ⌝ }
-    ensures { λ r. ⌜ Tells extent (now (store .entry)) (now (store .exit)) m (now (s .exit)) written r (flush (below extent (now (store .entry)) level) (nodeOf m level n (now (s .entry)))) ⌝ }
+    ensures { λ r. ⌜ Tells extent (now (store .entry)) (now (store .exit)) m (now (s .exit)) written r (flush (insertLower eavt extent (now (store .entry)) level) (nodeOf m level n (now (s .entry)))) ⌝ }
 {
     let span = node::longest_pending_span(s, m, n);
     let from = span.from;
     let upto = span.upto;
-    let child = node::child_at(s, m, upto);
+    let child = store::child_at(s, m, upto);
     let lower = level - 1;
     let opened = found::open_at(store, extent, c, lower, child);
     let own = 40 * m + 8;

@@ -7,7 +7,7 @@ ghost use Prim.Native.Nat.{_+_, _*_, _-_, _≤_, _<_};
 ghost use lib.ListN.{length};
 ghost use Rattle.rules.specs.Page.{nodeOf};
 ghost use Rattle.rules.specs.Node.{partOf};
-ghost use Rattle.index.specs.Order.{eavt};
+ghost use Rattle.index.specs.Order.{DatomOrd};
 ghost use Rattle.rules.specs.Tree.{split, settle};
 ghost use Rattle.rules.specs.Store.{envOf};
 ghost use Rattle.htree.specs.Told.{Ready, Puts, Tells};
@@ -95,7 +95,7 @@ pub fn split(
     n: usize,
 ) -> Inserted
     requires { ⌜ Ready extent (now store) c written × (40 * m + 8 ≤ length (now s)) × (n ≤ m) × (c < n) ⌝ }
-    ensures { λ r. ⌜ Tells extent (now (store .entry)) (now (store .exit)) m (now (s .exit)) written r (split (envOf eavt extent (now (store .entry))) (nodeOf m level n (now (s .entry)))) ⌝ }
+    ensures { λ r. ⌜ ((t : DatomOrd) → Tells extent (now (store .entry)) (now (store .exit)) m (now (s .exit)) written r (split (envOf t extent (now (store .entry))) (nodeOf m level n (now (s .entry))))) ⌝ }
 {
     let pages = (n + (c - 1)) / c;
     let each = (n + 1) / pages;
@@ -146,7 +146,7 @@ pub fn settle(
     n: usize,
 ) -> Inserted
     requires { ⌜ Ready extent (now store) c written × (40 * m + 8 ≤ length (now s)) × (n ≤ m) ⌝ }
-    ensures { λ r. ⌜ Tells extent (now (store .entry)) (now (store .exit)) m (now (s .exit)) written r (settle (envOf eavt extent (now (store .entry))) (nodeOf m level n (now (s .entry)))) ⌝ }
+    ensures { λ r. ⌜ ((t : DatomOrd) → Tells extent (now (store .entry)) (now (store .exit)) m (now (s .exit)) written r (settle (envOf t extent (now (store .entry))) (nodeOf m level n (now (s .entry))))) ⌝ }
 {
     if c < n {
         return split(store, extent, c, written, level, s, m, n);

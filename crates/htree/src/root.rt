@@ -8,7 +8,7 @@ use store::PageId;
 ghost use mathlib.Core.Path.{_≡_};
 ghost use Prim.Native.Nat.{suc, _+_, _*_, _≤_};
 ghost use lib.ListN.{length};
-ghost use Rattle.index.specs.Order.{eavt};
+ghost use Rattle.index.specs.Order.{DatomOrd};
 ghost use Rattle.rules.specs.Page.{childrenOf, nodeOf};
 ghost use Rattle.rules.specs.Tree.{rootOf, writeRoot};
 ghost use Rattle.rules.specs.Store.{envOf};
@@ -33,11 +33,11 @@ fn top(
     n: usize,
 ) -> Rooted
     requires { ⌜ Ready extent (now store) c written × (40 * m + 8 ≤ length (now s)) × (n ≤ m) × (n ≤ c) ⌝ }
-    ensures { λ r. ⌜ Roots extent (now (store .entry)) (now (store .exit)) written r (rootOf (envOf eavt extent (now (store .entry))) (childrenOf m (suc n) (now (s .entry))) (nodeOf m level n (now (s .entry)))) ⌝ }
+    ensures { λ r. ⌜ ((t : DatomOrd) → Roots extent (now (store .entry)) (now (store .exit)) written r (rootOf (envOf t extent (now (store .entry))) (childrenOf m (suc n) (now (s .entry))) (nodeOf m level n (now (s .entry))))) ⌝ }
 {
     if n == 0 {
         return Rooted::Root {
-            root: node::child_at(s, m, 0),
+            root: store::child_at(s, m, 0),
             written,
         };
     }
@@ -62,7 +62,7 @@ pub fn write_root(
     n: usize,
 ) -> Rooted
     requires { ⌜ Ready extent (now store) c written × (40 * m + 8 ≤ length (now s)) × (n ≤ m) × (level ≤ 8) ⌝ }
-    ensures { λ r. ⌜ Roots extent (now (store .entry)) (now (store .exit)) written r (writeRoot (envOf eavt extent (now (store .entry))) n (nodeOf m level n (now (s .entry)))) ⌝ }
+    ensures { λ r. ⌜ ((t : DatomOrd) → Roots extent (now (store .entry)) (now (store .exit)) written r (writeRoot (envOf t extent (now (store .entry))) n (nodeOf m level n (now (s .entry))))) ⌝ }
 {
     let mut count = n;
     let mut next = written;

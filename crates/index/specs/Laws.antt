@@ -10,7 +10,7 @@ use Rattle.datom.specs.declared.Value.{Value}
 use Rattle.datom.specs.Value.{Content, int, str, top, content}
 use Rattle.datom.specs.Datom.{boundDatom}
 use Rattle.datom.specs.Laws.{content-tells}
-use Rattle.index.specs.Order.{andThen, cmpBytes, cmpContent, cmpValue, cmpEavt}
+use Rattle.index.specs.Order.{andThen, cmpBytes, cmpContent, cmpValue, cmpEavt, eavt}
 
 -- the other way round
 abbrev pub flipped : Ordering → Ordering
@@ -174,16 +174,16 @@ unfolding cmpValue
 values = through content (record { flip = content-flip; trans = content-trans; congr = λ a b c e. rw (content-eq a b e) })
 
 -- the base's order
-pub eavt-preorder : Preorder cmpEavt
-unfolding cmpEavt
+pub eavt-preorder : Preorder (eavt .cmp)
+unfolding eavt cmpEavt
 eavt-preorder =
     after (through (λ (d : Datom). d .entity .0) num)
     (after (through (λ (d : Datom). d .attribute .0) num)
     (after (through (λ (d : Datom). d .value) values) (through (λ (d : Datom). d .«transaction_operation» .0) num)))
 
 -- "equal only for equal datoms": of those that may be a bound, so also of those that may be stored
-pub eavt-equal : (a b : Datom) → boundDatom a ≡ true → boundDatom b ≡ true → cmpEavt a b ≡ Ordering·eq → a ≡ b
-unfolding cmpEavt boundDatom cmpValue
+pub eavt-equal : (a b : Datom) → eavt .bound a ≡ true → eavt .bound b ≡ true → eavt .cmp a b ≡ Ordering·eq → a ≡ b
+unfolding eavt cmpEavt boundDatom cmpValue
 eavt-equal a b p q e =
     let w₁ = then-eq (compare (a .entity .0) (b .entity .0)) _ e in
     let w₂ = then-eq (compare (a .attribute .0) (b .attribute .0)) _ (w₁ .1) in

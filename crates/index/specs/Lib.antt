@@ -7,3 +7,4 @@ pub mod Compare
 pub mod Keys
 pub mod Named
 pub mod Ways
+pub mod Form

@@ -4,7 +4,7 @@ use datom::TidOp;
 use datom::Value;
 ghost use mathlib.Core.Path.{_≡_};
 ghost use Prim.Native.Nat.{_+_, _*_, _/_, compare};
-ghost use Rattle.index.specs.Order.{andThen, cmpValue, cmpEavt, named};
+ghost use Rattle.index.specs.Order.{andThen, cmpValue, eavt, named};
 ghost use Rattle.index.specs.Key.{key, turned};
 
 // How one datom stands to another.
@@ -35,7 +35,11 @@ fn turn(v: u64) -> u64
     swap(v) / 256
 }
 
-// A number that is ordered as the value is, so that no comparison walks along bytes.
+// The key of max and of what is malformed: above the key of every byte string.
+const TOP_KEY: u64 = 0x8000_0000_0000_0000;
+
+// A number that is ordered as the value is, so that no comparison walks along bytes. Integers stay below the tag, byte strings stand
+// from it on.
 fn key_of(v: Value) -> u64
     ensures { λ r. ⌜ r ≡ key v ⌝ }
 {
@@ -43,9 +47,9 @@ fn key_of(v: Value) -> u64
         return v.0;
     }
     if v.is_bytes() {
-        return 4611686018427387904 + (turn(v.0) * 8 + v.0 / 72057594037927936 % 64);
+        return Value::TAG_EXTERNAL + (turn(v.0) * 8 + v.0 / Value::LENGTH_BIT % 64);
     }
-    9223372036854775808
+    TOP_KEY
 }
 
 // Value, then last word.
@@ -71,7 +75,7 @@ fn order_of_rest(a: Value, b: Value, s: TidOp, t: TidOp) -> Order
 
 // Entity, attribute, value, last word: the first difference decides.
 pub fn order_of(a: Datom, b: Datom) -> Order
-    ensures { λ r. ⌜ r ≡ named (cmpEavt a b) ⌝ }
+    ensures { λ r. ⌜ r ≡ named (eavt .cmp a b) ⌝ }
 {
     if a.entity.0 < b.entity.0 {
         return Order::Less;

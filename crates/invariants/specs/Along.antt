@@ -12,7 +12,7 @@ use Rattle.store.specs.Page.{isNone}
 use Rattle.store.specs.Size.{capacity}
 use Rattle.datom.specs.declared.Datom.{Datom}
 use Rattle.datom.specs.Datom.{datomsOf}
-use Rattle.index.specs.Order.{cmpEavt, eavt}
+use Rattle.index.specs.Order.{DatomOrd}
 use Rattle.answer.specs.declared.Refusal.{Refusal}
 use Rattle.answer.specs.declared.Check.{Check}
 use Rattle.answer.specs.declared.Check.the-variants.{Sound, Unsound, Refused}
@@ -27,32 +27,32 @@ use Rattle.invariants.specs.Walk.{underOf, under-is, leftOf, left-end, l
 use Rattle.invariants.specs.Leaf.{real-above}
 
 -- page p, of level l and k datoms, with the bytes b; index i is next
-pub record Along (x : Extent) (s : List ℕ) (c l : ℕ) (p : PageId) (k : ℕ) (b : List ℕ) (lower upper : Option Datom) (i : ℕ) (last midpoint : Option Datom) : Type 0 where
+pub record Along (t : DatomOrd) (x : Extent) (s : List ℕ) (c l : ℕ) (p : PageId) (k : ℕ) (b : List ℕ) (lower upper : Option Datom) (i : ℕ) (last midpoint : Option Datom) : Type 0 where
   pub good : badStore x s ≡ false
   pub room : c ≡ capacity (x .size)
-  pub read : fetchPage eavt x s p ≡ fine (nodeAt x s p l k)
+  pub read : fetchPage t x s p ≡ fine (nodeAt x s p l k)
   pub bytes : b ≡ pageAt x s p
-  pub whole : leftOf (underOf (fetchPage eavt x s) l) p c k b upper i last midpoint ≡ checkPage x s l p lower upper
+  pub whole : leftOf t (underOf t (fetchPage t x s) l) p c k b upper i last midpoint ≡ checkPage t x s l p lower upper
 
 pub along-start :
-    (x : Extent) (s : List ℕ) (c l : ℕ) (p : PageId) (m k : ℕ) (b : List ℕ) (lower upper : Option Datom) → badStore x s ≡ false →
-    c ≡ capacity (x .size) → fetchPage eavt x s p ≡ fine (nodeAt x s p m k) → m ≡ l → b ≡ fetched x s p →
-    Along x s c l p k b lower upper 0 lower lower
-along-start x s c l p m k b lower upper good room read same e =
-    let bytes : b ≡ pageAt x s p = e ∙ opens x s p m k good read .bytes in
+    (t : DatomOrd) (x : Extent) (s : List ℕ) (c l : ℕ) (p : PageId) (m k : ℕ) (b : List ℕ) (lower upper : Option Datom) → badStore x s ≡ false →
+    c ≡ capacity (x .size) → fetchPage t x s p ≡ fine (nodeAt x s p m k) → m ≡ l → b ≡ fetched x s p →
+    Along t x s c l p k b lower upper 0 lower lower
+along-start t x s c l p m k b lower upper good room read same e =
+    let bytes : b ≡ pageAt x s p = e ∙ opens t x s p m k good read .bytes in
     record {
       good = good;
       room = room;
       read = rw same at read;
       bytes = bytes;
-      whole = page-left x s l p lower upper m k read same b c bytes room;
+      whole = page-left t x s l p lower upper m k read same b c bytes room;
     }
 
-module _ {x : Extent} {s : List ℕ} {c l : ℕ} {p : PageId} {k : ℕ} {b : List ℕ} {lower upper : Option Datom} {i : ℕ} {last midpoint : Option Datom}
-    (A : Along x s c l p k b lower upper i last midpoint)
+module _ {t : DatomOrd} {x : Extent} {s : List ℕ} {c l : ℕ} {p : PageId} {k : ℕ} {b : List ℕ} {lower upper : Option Datom} {i : ℕ} {last midpoint : Option Datom}
+    (A : Along t x s c l p k b lower upper i last midpoint)
   where
-    page-open : Opens x s p l k
-    page-open = opens x s p l k (A .good) (A .read)
+    page-open : Opens t x s p l k
+    page-open = opens t x s p l k (A .good) (A .read)
 
     long : length b ≡ length (pageAt x s p)
     long = rw (A .bytes)
@@ -67,41 +67,41 @@ module _ {x : Extent} {s : List ℕ} {c l : ℕ} {p : PageId} {k : ℕ} {b : Lis
     pub along-few : k ≤ 102
     along-few = omega (arith, page-open .few, in-order x s (A .good) .known .few)
 
-    pub along-end : k < i → Sound ≡ checkPage x s l p lower upper
-    along-end h = sym (left-end (underOf (fetchPage eavt x s) l) p c k b upper i last midpoint h) ∙ A .whole
+    pub along-end : k < i → Sound ≡ checkPage t x s l p lower upper
+    along-end h = sym (left-end t (underOf t (fetchPage t x s) l) p c k b upper i last midpoint h) ∙ A .whole
 
     module _ (h : i ≤ k) (next : Option Datom) (n : next ≡ boundAt (drop i (datomsOf k b)) upper) where
-      pub along-outside : belowUpper cmpEavt last next ≡ false → Unsound p ≡ checkPage x s l p lower upper
-      along-outside e = sym (left-outside (underOf (fetchPage eavt x s) l) p c k b upper i last midpoint h next n e) ∙ A .whole
+      pub along-outside : belowUpper (t .cmp) last next ≡ false → Unsound p ≡ checkPage t x s l p lower upper
+      along-outside e = sym (left-outside t (underOf t (fetchPage t x s) l) p c k b upper i last midpoint h next n e) ∙ A .whole
 
-      module _ (within : belowUpper cmpEavt last next ≡ true) (child : PageId) (at : child ≡ childAt c b i) where
+      module _ (within : belowUpper (t .cmp) last next ≡ true) (child : PageId) (at : child ≡ childAt c b i) where
         goes :
             (m : Option Datom) →
-            leftOf (underOf (fetchPage eavt x s) l) p c k b upper i last midpoint ≡ leftOf (underOf (fetchPage eavt x s) l) p c k b upper (i + 1) next m →
-            Along x s c l p k b lower upper (i + 1) next m
+            leftOf t (underOf t (fetchPage t x s) l) p c k b upper i last midpoint ≡ leftOf t (underOf t (fetchPage t x s) l) p c k b upper (i + 1) next m →
+            Along t x s c l p k b lower upper (i + 1) next m
         goes m e = record { good = A .good; room = A .room; read = A .read; bytes = A .bytes; whole = sym e ∙ A .whole }
 
-        pub along-none : isNone child ≡ true → Along x s c l p k b lower upper (i + 1) next midpoint
-        along-none e = goes midpoint (left-none (underOf (fetchPage eavt x s) l) p c k b upper i last midpoint h next n within child at e)
+        pub along-none : isNone child ≡ true → Along t x s c l p k b lower upper (i + 1) next midpoint
+        along-none e = goes midpoint (left-none t (underOf t (fetchPage t x s) l) p c k b upper i last midpoint h next n within child at e)
 
         module _ (real : isNone child ≡ false) where
           pub along-above : l ≡ 0 → ⊥
           along-above =
-              real-above x s p l k (A .read) i h (rw (at, A .bytes, A .room) at real)
+              real-above t x s p l k (A .read) i h (rw (at, A .bytes, A .room) at real)
 
           -- the child gave a
-          module _ (a : Check) (e : a ≡ checkPage x s (l - 1) child midpoint next) where
-            gave : underOf (fetchPage eavt x s) l child midpoint next ≡ a
-            gave = sym (e ∙ under-is (fetchPage eavt x s) l child midpoint next along-above)
+          module _ (a : Check) (e : a ≡ checkPage t x s (l - 1) child midpoint next) where
+            gave : underOf t (fetchPage t x s) l child midpoint next ≡ a
+            gave = sym (e ∙ under-is t (fetchPage t x s) l child midpoint next along-above)
 
-            pub along-sound : a ≡ Sound → Along x s c l p k b lower upper (i + 1) next next
+            pub along-sound : a ≡ Sound → Along t x s c l p k b lower upper (i + 1) next next
             along-sound f =
-                goes next (left-sound (underOf (fetchPage eavt x s) l) p c k b upper i last midpoint h next n within child at real (gave ∙ f))
+                goes next (left-sound t (underOf t (fetchPage t x s) l) p c k b upper i last midpoint h next n within child at real (gave ∙ f))
 
-            pub along-unsound : (q : PageId) → a ≡ Unsound q → Unsound q ≡ checkPage x s l p lower upper
+            pub along-unsound : (q : PageId) → a ≡ Unsound q → Unsound q ≡ checkPage t x s l p lower upper
             along-unsound q f =
-                sym (left-unsound (underOf (fetchPage eavt x s) l) p c k b upper i last midpoint h next n within child at real q (gave ∙ f)) ∙ A .whole
+                sym (left-unsound t (underOf t (fetchPage t x s) l) p c k b upper i last midpoint h next n within child at real q (gave ∙ f)) ∙ A .whole
 
-            pub along-refused : (r : Refusal) → a ≡ Refused r → Refused r ≡ checkPage x s l p lower upper
+            pub along-refused : (r : Refusal) → a ≡ Refused r → Refused r ≡ checkPage t x s l p lower upper
             along-refused r f =
-                sym (left-refused (underOf (fetchPage eavt x s) l) p c k b upper i last midpoint h next n within child at real r (gave ∙ f)) ∙ A .whole
+                sym (left-refused t (underOf t (fetchPage t x s) l) p c k b upper i last midpoint h next n within child at real r (gave ∙ f)) ∙ A .whole

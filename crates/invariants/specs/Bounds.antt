@@ -10,7 +10,7 @@ use Rattle.store.specs.Laws.{apart}
 use Rattle.datom.specs.declared.Datom.{Datom}
 use Rattle.datom.specs.Datom.{datomAt, datomOf, datomsOf}
 use Rattle.datom.specs.Laws.{datoms-from}
-use Rattle.index.specs.Order.{isLess, cmpEavt}
+use Rattle.index.specs.Order.{DatomOrd, isLess}
 use Rattle.rules.specs.Check.{aboveLower, belowUpper}
 use Rattle.invariants.specs.declared.bound.Bound.{Bound}
 use Rattle.invariants.specs.declared.bound.Bound.the-variants.{Nothing, At}
@@ -32,20 +32,20 @@ unfoldable pub boundAt : List Datom → Option Datom → Option Datom
 boundAt [] upper = upper
 boundAt (d ∷ ds) upper = some d
 
-module _ (b : Bound) where
-  pub above-nothing : (d : Datom) → b ≡ Nothing → true ≡ aboveLower cmpEavt (boundOf b) d
+module _ (t : DatomOrd) (b : Bound) where
+  pub above-nothing : (d : Datom) → b ≡ Nothing → true ≡ aboveLower (t .cmp) (boundOf b) d
   unfolding aboveLower boundOf
   above-nothing d e = rw e
 
-  pub above-at : (x d : Datom) (v : Bool) → b ≡ At x → isLess (cmpEavt x d) ≡ v → v ≡ aboveLower cmpEavt (boundOf b) d
+  pub above-at : (x d : Datom) (v : Bool) → b ≡ At x → isLess (t .cmp x d) ≡ v → v ≡ aboveLower (t .cmp) (boundOf b) d
   unfolding aboveLower boundOf
   above-at x d v e h = rw e (sym h)
 
-  pub below-nothing : (lower : Bound) → b ≡ Nothing → true ≡ belowUpper cmpEavt (boundOf lower) (boundOf b)
+  pub below-nothing : (lower : Bound) → b ≡ Nothing → true ≡ belowUpper (t .cmp) (boundOf lower) (boundOf b)
   unfolding belowUpper boundOf
   below-nothing lower e = rw e
 
-  pub below-at : (lower : Bound) (y : Datom) → b ≡ At y → aboveLower cmpEavt (boundOf lower) y ≡ belowUpper cmpEavt (boundOf lower) (boundOf b)
+  pub below-at : (lower : Bound) (y : Datom) → b ≡ At y → aboveLower (t .cmp) (boundOf lower) y ≡ belowUpper (t .cmp) (boundOf lower) (boundOf b)
   unfolding belowUpper boundOf
   below-at lower y e = rw e
 

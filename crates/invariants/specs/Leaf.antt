@@ -12,7 +12,7 @@ use Rattle.store.specs.Page.{none, isNone, pageOf}
 use Rattle.store.specs.Size.{capacity}
 use Rattle.store.specs.Laws.{apart, both, cells-length}
 use Rattle.store.specs.Cells.{pages-at}
-use Rattle.index.specs.Order.{eavt}
+use Rattle.index.specs.Order.{DatomOrd}
 use Rattle.answer.specs.declared.Rule.the-variants.{LeafChild}
 use Rattle.rules.specs.Page.{childAt, childrenOf, Node, broken, good, nodeOf, all, childRules}
 use Rattle.rules.specs.Tree.{fine}
@@ -36,11 +36,11 @@ bare id n e z = side (all isNone (n .children)) refl
 
 -- so a real child is above level 0
 pub real-above :
-    (x : Extent) (s : List ℕ) (p : PageId) (l k : ℕ) → fetchPage eavt x s p ≡ fine (nodeAt x s p l k) → (i : ℕ) → i ≤ k →
+    (t : DatomOrd) (x : Extent) (s : List ℕ) (p : PageId) (l k : ℕ) → fetchPage t x s p ≡ fine (nodeAt x s p l k) → (i : ℕ) → i ≤ k →
     isNone (childAt (capacity (x .size)) (pageAt x s p) i) ≡ false → l ≡ 0 → ⊥
 unfolding nodeOf
-real-above x s p l k e i h r z =
-    let R = fetch-tells eavt x s p (nodeAt x s p l k) e .1 in
+real-above t x s p l k e i h r z =
+    let R = fetch-tells t x s p (nodeAt x s p l k) e .1 in
     let cs = childrenOf (capacity (x .size)) (suc k) (pageAt x s p) in
     let a : isNone (getD cs i none) ≡ true = all-at cs i (bare p (nodeAt x s p l k) (R .kids) z) (omega (arith, cells-length pageOf 8 (suc k) (drop (32 * capacity (x .size)) (pageAt x s p)))) in
     let b : isNone (childAt (capacity (x .size)) (pageAt x s p) i) ≡ true = rw (pages-at (suc k) i (32 * capacity (x .size)) (pageAt x s p) none (omega arith)) at a in

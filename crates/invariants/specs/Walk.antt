@@ -18,7 +18,7 @@ use Rattle.store.specs.Cells.{cells-end, pages-from}
 use Rattle.datom.specs.declared.Datom.{Datom}
 use Rattle.datom.specs.Datom.{datomAt, datomOf, datomsOf}
 use Rattle.datom.specs.Laws.{datoms-from}
-use Rattle.index.specs.Order.{cmpEavt, eavt}
+use Rattle.index.specs.Order.{DatomOrd}
 use Rattle.answer.specs.declared.Fault.{Fault}
 use Rattle.answer.specs.declared.Fault.the-variants.{WrongLevel}
 use Rattle.answer.specs.declared.Refusal.{Refusal}
@@ -32,71 +32,71 @@ use Rattle.memory_store.specs.Readable.{nodeAt}
 use Rattle.invariants.specs.Bounds.{boundAt}
 
 -- the check of a child of a page of level l
-unfoldable pub underOf : (PageId → Fetched) → ℕ → Under
-underOf fetch zero c lower upper = Sound
-underOf fetch (suc l) c lower upper = checkAt cmpEavt fetch l c lower upper (atLevel l (fetch c))
+unfoldable pub underOf : DatomOrd → (PageId → Fetched) → ℕ → Under
+underOf t fetch zero c lower upper = Sound
+underOf t fetch (suc l) c lower upper = checkAt (t .cmp) fetch l c lower upper (atLevel l (fetch c))
 
 pub under-is :
-    (fetch : PageId → Fetched) (l : ℕ) (c : PageId) (lower upper : Option Datom) → (l ≡ 0 → ⊥) →
-    checkAt cmpEavt fetch (l - 1) c lower upper (atLevel (l - 1) (fetch c)) ≡ underOf fetch l c lower upper
+    (t : DatomOrd) (fetch : PageId → Fetched) (l : ℕ) (c : PageId) (lower upper : Option Datom) → (l ≡ 0 → ⊥) →
+    checkAt (t .cmp) fetch (l - 1) c lower upper (atLevel (l - 1) (fetch c)) ≡ underOf t fetch l c lower upper
 unfolding underOf
-under-is fetch zero c lower upper h = absurd (h refl)
-under-is fetch (suc l) c lower upper h =
+under-is t fetch zero c lower upper h = absurd (h refl)
+under-is t fetch (suc l) c lower upper h =
     let e : suc l - 1 ≡ l = omega arith in
     rw e
 
 -- one turn of a walk
-module _ (under : Under) (p : PageId) (cs : List PageId) (last midpoint upper : Option Datom) where
+module _ (t : DatomOrd) (under : Under) (p : PageId) (cs : List PageId) (last midpoint upper : Option Datom) where
   abbrev child : PageId
   child = getD cs 0 none
 
   turn-outside :
-      (ds : List Datom) → belowUpper cmpEavt last (boundAt ds upper) ≡ false → walk cmpEavt under p ds cs last midpoint upper ≡ Unsound p
+      (ds : List Datom) → belowUpper (t .cmp) last (boundAt ds upper) ≡ false → walk (t .cmp) under p ds cs last midpoint upper ≡ Unsound p
   unfolding walk boundAt belowUpper
   turn-outside [] h = rw h
   turn-outside (d ∷ ds) h = rw (walk, h)
 
   module _ (r : Check) where
-    turn-last : belowUpper cmpEavt last upper ≡ true → checkChild under child midpoint upper ≡ r → walk cmpEavt under p [] cs last midpoint upper ≡ r
+    turn-last : belowUpper (t .cmp) last upper ≡ true → checkChild under child midpoint upper ≡ r → walk (t .cmp) under p [] cs last midpoint upper ≡ r
     unfolding walk
     turn-last h e = rw (h, e)
 
-  module _ (d : Datom) (ds : List Datom) (h : belowUpper cmpEavt last (some d) ≡ true) where
+  module _ (d : Datom) (ds : List Datom) (h : belowUpper (t .cmp) last (some d) ≡ true) where
     turn-on :
         checkChild under child midpoint (some d) ≡ Sound →
-        walk cmpEavt under p (d ∷ ds) cs last midpoint upper ≡ walk cmpEavt under p ds (drop 1 cs) (some d) (midpointNext child midpoint d) upper
+        walk (t .cmp) under p (d ∷ ds) cs last midpoint upper ≡ walk (t .cmp) under p ds (drop 1 cs) (some d) (midpointNext child midpoint d) upper
     unfolding walk belowUpper
     turn-on e = rw (walk, h, e)
 
     turn-unsound :
-        (q : PageId) → checkChild under child midpoint (some d) ≡ Unsound q → walk cmpEavt under p (d ∷ ds) cs last midpoint upper ≡ Unsound q
+        (q : PageId) → checkChild under child midpoint (some d) ≡ Unsound q → walk (t .cmp) under p (d ∷ ds) cs last midpoint upper ≡ Unsound q
     unfolding walk belowUpper
     turn-unsound q e = rw (walk, h, e)
 
     turn-refused :
-        (r : Refusal) → checkChild under child midpoint (some d) ≡ Refused r → walk cmpEavt under p (d ∷ ds) cs last midpoint upper ≡ Refused r
+        (r : Refusal) → checkChild under child midpoint (some d) ≡ Refused r → walk (t .cmp) under p (d ∷ ds) cs last midpoint upper ≡ Refused r
     unfolding walk belowUpper
     turn-refused r e = rw (walk, h, e)
 
 -- what is left of a walk at index i of a page of k datoms, with room for c
-unfoldable pub leftOf : Under → PageId → ℕ → ℕ → List ℕ → Option Datom → ℕ → Option Datom → Option Datom → Check
-leftOf under p c k b upper i last midpoint =
-    cond (leb i k) (walk cmpEavt under p (drop i (datomsOf k b)) (drop i (childrenOf c (suc k) b)) last midpoint upper) Sound
+unfoldable pub leftOf : DatomOrd → Under → PageId → ℕ → ℕ → List ℕ → Option Datom → ℕ → Option Datom → Option Datom → Check
+leftOf t under p c k b upper i last midpoint =
+    cond (leb i k) (walk (t .cmp) under p (drop i (datomsOf k b)) (drop i (childrenOf c (suc k) b)) last midpoint upper) Sound
 
-module _ (under : Under) (p : PageId) (c k : ℕ) (b : List ℕ) (upper : Option Datom) (i : ℕ) (last midpoint : Option Datom) where
+module _ (t : DatomOrd) (under : Under) (p : PageId) (c k : ℕ) (b : List ℕ) (upper : Option Datom) (i : ℕ) (last midpoint : Option Datom) where
   abbrev left : Check
-  left = leftOf under p c k b upper i last midpoint
+  left = leftOf t under p c k b upper i last midpoint
 
   pub left-end : k < i → left ≡ Sound
   unfolding leftOf
   left-end h = rw (lt-leb i k h)
 
   module _ (h : i ≤ k) (next : Option Datom) (n : next ≡ boundAt (drop i (datomsOf k b)) upper) where
-    pub left-outside : belowUpper cmpEavt last next ≡ false → left ≡ Unsound p
+    pub left-outside : belowUpper (t .cmp) last next ≡ false → left ≡ Unsound p
     unfolding leftOf
-    left-outside e = rw (le-leb i k h) (turn-outside under p _ last midpoint upper (drop i (datomsOf k b)) (rw (← n) e))
+    left-outside e = rw (le-leb i k h) (turn-outside t under p _ last midpoint upper (drop i (datomsOf k b)) (rw (← n) e))
 
-    module _ (within : belowUpper cmpEavt last next ≡ true) (ch : PageId) (at : ch ≡ childAt c b i) where
+    module _ (within : belowUpper (t .cmp) last next ≡ true) (ch : PageId) (at : ch ≡ childAt c b i) where
       here : getD (drop i (childrenOf c (suc k) b)) 0 none ≡ ch
       here = rw (pages-from (suc k) i (32 * c) b (omega arith)) (sym at)
 
@@ -119,7 +119,7 @@ module _ (under : Under) (p : PageId) (c k : ℕ) (b : List ℕ) (upper : Option
       unfolding leftOf
       left-last r e g =
           rw (le-leb i k h, ends g)
-          (turn-last under p _ last midpoint upper r (rw (← bound-ends g) within) (rw (here, ← bound-ends g) e))
+          (turn-last t under p _ last midpoint upper r (rw (← bound-ends g) within) (rw (here, ← bound-ends g) e))
 
       child-none : isNone ch ≡ true → checkChild under ch midpoint next ≡ Sound
       unfolding checkChild
@@ -132,7 +132,7 @@ module _ (under : Under) (p : PageId) (c k : ℕ) (b : List ℕ) (upper : Option
       -- on to the next index, with m for the midpoint
       left-next :
           (m : Option Datom) → checkChild under ch midpoint next ≡ Sound → ((d : Datom) → next ≡ some d → midpointNext ch midpoint d ≡ m) →
-          left ≡ leftOf under p c k b upper (i + 1) next m
+          left ≡ leftOf t under p c k b upper (i + 1) next m
       unfolding leftOf
       left-next m e f = elim (decLe k i) [
         | yes g ↦ left-last Sound e g ∙ sym (rw (lt-leb (i + 1) k (omega (arith, g))))
@@ -140,15 +140,15 @@ module _ (under : Under) (p : PageId) (c k : ℕ) (b : List ℕ) (upper : Option
             let lt : i < k = omega (arith, g) in
             let n₁ = bound-goes lt in
             rw (le-leb i k h, le-leb (i + 1) k (omega arith), datoms-from k i b lt)
-            (turn-on under p _ last midpoint upper _ _ (rw (← n₁) within) (rw (here, ← n₁) e) ∙ rw (here, rest, f _ n₁, n₁))
+            (turn-on t under p _ last midpoint upper _ _ (rw (← n₁) within) (rw (here, ← n₁) e) ∙ rw (here, rest, f _ n₁, n₁))
       ]
 
-      pub left-none : isNone ch ≡ true → left ≡ leftOf under p c k b upper (i + 1) next midpoint
+      pub left-none : isNone ch ≡ true → left ≡ leftOf t under p c k b upper (i + 1) next midpoint
       unfolding midpointNext
       left-none e = left-next midpoint (child-none e) (λ d g. rw e)
 
       module _ (real : isNone ch ≡ false) where
-        pub left-sound : under ch midpoint next ≡ Sound → left ≡ leftOf under p c k b upper (i + 1) next next
+        pub left-sound : under ch midpoint next ≡ Sound → left ≡ leftOf t under p c k b upper (i + 1) next next
         unfolding midpointNext
         left-sound e = left-next next (child-real real ∙ e) (λ d g. rw (real, g))
 
@@ -160,7 +160,7 @@ module _ (under : Under) (p : PageId) (c k : ℕ) (b : List ℕ) (upper : Option
               let lt : i < k = omega (arith, g) in
               let n₁ = bound-goes lt in
               rw (le-leb i k h, datoms-from k i b lt)
-              (turn-unsound under p _ last midpoint upper _ _ (rw (← n₁) within) q (rw (here, ← n₁) (child-real real ∙ e)))
+              (turn-unsound t under p _ last midpoint upper _ _ (rw (← n₁) within) q (rw (here, ← n₁) (child-real real ∙ e)))
         ]
 
         pub left-refused : (r : Refusal) → under ch midpoint next ≡ Refused r → left ≡ Refused r
@@ -171,38 +171,38 @@ module _ (under : Under) (p : PageId) (c k : ℕ) (b : List ℕ) (upper : Option
               let lt : i < k = omega (arith, g) in
               let n₁ = bound-goes lt in
               rw (le-leb i k h, datoms-from k i b lt)
-              (turn-refused under p _ last midpoint upper _ _ (rw (← n₁) within) r (rw (here, ← n₁) (child-real real ∙ e)))
+              (turn-refused t under p _ last midpoint upper _ _ (rw (← n₁) within) r (rw (here, ← n₁) (child-real real ∙ e)))
         ]
 
 -- a page of the store, which is to be of level l
-module _ (x : Extent) (s : List ℕ) (l : ℕ) (p : PageId) (lower upper : Option Datom) where
+module _ (t : DatomOrd) (x : Extent) (s : List ℕ) (l : ℕ) (p : PageId) (lower upper : Option Datom) where
   abbrev pub checkPage : Check
-  checkPage = checkAt cmpEavt (fetchPage eavt x s) l p lower upper (atLevel l (fetchPage eavt x s p))
+  checkPage = checkAt (t .cmp) (fetchPage t x s) l p lower upper (atLevel l (fetchPage t x s p))
 
-  unsound : (m : ℕ) (f : Fault) → Unsound p ≡ checkAt cmpEavt (fetchPage eavt x s) m p lower upper (faulty f)
+  unsound : (m : ℕ) (f : Fault) → Unsound p ≡ checkAt (t .cmp) (fetchPage t x s) m p lower upper (faulty f)
   unfolding checkAt
   unsound zero f = refl
   unsound (suc m) f = refl
 
-  pub page-faulty : (f : Fault) → fetchPage eavt x s p ≡ faulty f → Unsound p ≡ checkPage
+  pub page-faulty : (f : Fault) → fetchPage t x s p ≡ faulty f → Unsound p ≡ checkPage
   unfolding atLevel
   page-faulty f e = rw e (unsound l f)
 
-  module _ (m k : ℕ) (e : fetchPage eavt x s p ≡ fine (nodeAt x s p m k)) where
+  module _ (m k : ℕ) (e : fetchPage t x s p ≡ fine (nodeAt x s p m k)) where
     pub page-other : (m ≡ l → ⊥) → Unsound p ≡ checkPage
     unfolding atLevel nodeOf
     page-other h = rw (e, ne-eqb m l h) (unsound l WrongLevel)
 
     walked :
         (v : ℕ) →
-        walk cmpEavt (underOf (fetchPage eavt x s) v) p (datomsOf k (pageAt x s p)) (childrenOf (capacity (x .size)) (suc k) (pageAt x s p)) lower lower upper
-        ≡ checkAt cmpEavt (fetchPage eavt x s) v p lower upper (fine (nodeAt x s p m k))
+        walk (t .cmp) (underOf t (fetchPage t x s) v) p (datomsOf k (pageAt x s p)) (childrenOf (capacity (x .size)) (suc k) (pageAt x s p)) lower lower upper
+        ≡ checkAt (t .cmp) (fetchPage t x s) v p lower upper (fine (nodeAt x s p m k))
     unfolding checkAt underOf nodeOf
     walked zero = refl
     walked (suc v) = refl
 
     pub page-left :
         m ≡ l → (b : List ℕ) (c : ℕ) → b ≡ pageAt x s p → c ≡ capacity (x .size) →
-        leftOf (underOf (fetchPage eavt x s) l) p c k b upper 0 lower lower ≡ checkPage
+        leftOf t (underOf t (fetchPage t x s) l) p c k b upper 0 lower lower ≡ checkPage
     unfolding leftOf atLevel nodeOf
     page-left h b c u v = rw (u, v, e, eq-eqb m l h, le-leb 0 k (omega arith)) (walked l)

@@ -5,7 +5,7 @@ ghost use mathlib.Core.Path.{_≡_};
 ghost use Prim.Native.Nat.{_*_, _≤_};
 ghost use lib.ListN.{length, drop};
 ghost use Rattle.datom.specs.Datom.{datomsOf};
-ghost use Rattle.index.specs.Order.{cmpEavt};
+ghost use Rattle.index.specs.Order.{eavt};
 ghost use Rattle.rules.specs.Check.{aboveLower, belowUpper};
 ghost use Rattle.invariants.specs.Bounds.{boundOf, boundAt};
 
@@ -16,7 +16,7 @@ pub enum Bound {
 
 // Whether a datom is above a lower bound.
 fn is_above(lower: Bound, d: Datom) -> bool
-    ensures { λ r. ⌜ r ≡ aboveLower cmpEavt (boundOf lower) d ⌝ }
+    ensures { λ r. ⌜ r ≡ aboveLower (eavt .cmp) (boundOf lower) d ⌝ }
 {
     match lower {
         Bound::Nothing => true,
@@ -30,7 +30,7 @@ fn is_above(lower: Bound, d: Datom) -> bool
 
 // Whether a lower bound is below an upper one.
 pub fn is_below(lower: Bound, upper: Bound) -> bool
-    ensures { λ r. ⌜ r ≡ belowUpper cmpEavt (boundOf lower) (boundOf upper) ⌝ }
+    ensures { λ r. ⌜ r ≡ belowUpper (eavt .cmp) (boundOf lower) (boundOf upper) ⌝ }
 {
     match upper {
         Bound::Nothing => true,

@@ -5,14 +5,13 @@ pub mod bound;
 use crate::bound::Bound;
 use answer::Check;
 use answer::Refusal;
-use memory_store::access;
 use memory_store::found::Found;
 use store::Extent;
 use store::PageId;
 ghost use mathlib.Core.Bool.{false};
 ghost use mathlib.Core.Path.{_≡_};
 ghost use Rattle.store.specs.Size.{capacity};
-ghost use Rattle.index.specs.Order.{cmpEavt, eavt};
+ghost use Rattle.index.specs.Order.{eavt};
 ghost use Rattle.rules.specs.Tree.{atLevel};
 ghost use Rattle.rules.specs.Store.{badStore, fetchPage};
 ghost use Rattle.rules.specs.Check.{checkAt, checkTree};
@@ -33,7 +32,7 @@ fn check_at(
     upper: Bound,
 ) -> Check
     requires { ⌜ (badStore extent (now store) ≡ false) × (c ≡ capacity (extent .size)) × (told extent (now store) page found ≡ fetchPage eavt extent (now store) page) ⌝ }
-    ensures { λ r. ⌜ r ≡ checkAt cmpEavt (fetchPage eavt extent (now (store .entry))) level page (boundOf lower) (boundOf upper) (atLevel level (fetchPage eavt extent (now (store .entry)) page)) ⌝ }
+    ensures { λ r. ⌜ r ≡ checkAt (eavt .cmp) (fetchPage eavt extent (now (store .entry))) level page (boundOf lower) (boundOf upper) (atLevel level (fetchPage eavt extent (now (store .entry)) page)) ⌝ }
 {
     let Found::Fine { level: l, count: k } = found else {
         return Check::Unsound(page);
@@ -50,7 +49,7 @@ fn check_at(
         if !bound::is_below(last, next) {
             return Check::Unsound(page);
         }
-        let child = access::child_at(part, c, i);
+        let child = store::child_at(part, c, i);
         i += 1;
         last = next;
         if !child.is_none() {
@@ -75,11 +74,11 @@ pub fn check(store: &[u8], extent: Extent, root: PageId) -> Check
     if memory_store::is_bad(store, extent) {
         return Check::Refused(Refusal::BadStore);
     }
+    if memory_store::is_bad_root(extent, root) {
+        return Check::Refused(Refusal::NoPage);
+    }
     if root.is_none() {
         return Check::Sound;
-    }
-    if extent.count <= root.0 {
-        return Check::Refused(Refusal::NoPage);
     }
     let c = store::capacity_of(extent.size);
     let found = memory_store::found::node_at(store, extent, c, root);

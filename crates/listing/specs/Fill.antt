@@ -4,13 +4,13 @@ use native.Mathlib.Omega.{arith}
 use mathlib.Core.List.{List, [], _∷_}
 use mathlib.Core.Path.{_≡_, refl, ap, _∙_}
 use lib.ListN.{length, drop, getD, set, length-set}
-use lib.Seq.{getD-set-same, getD-set-other}
+use lib.Seq.{getD-set-same, getD-set-other, set-getD}
 use Rattle.store.specs.declared.PageId.{PageId}
 use Rattle.store.specs.declared.Extent.{Extent}
 use Rattle.store.specs.Page.{page}
 use Rattle.store.specs.Laws.{apart}
 use Rattle.datom.specs.declared.Datom.{Datom}
-use Rattle.index.specs.Order.{eavt}
+use Rattle.index.specs.Order.{DatomOrd}
 use mathlib.Core.Bool.{Bool}
 use Rattle.rules.specs.Node.{rankBy, nextMidpoint}
 use Rattle.rules.specs.Tree.{Fetched, faulty, fine, atLevel}
@@ -21,6 +21,9 @@ use Rattle.listing.specs.declared.way.Way.{Way}
 use Rattle.listing.specs.Way.{framesOf}
 use Rattle.listing.specs.WayLaws.{Full}
 use Rattle.listing.specs.Descent.{putFrame, fill, downOf}
+
+kept : (l : ℕ) (w : Way) → putFrame w l (getD (w .indices) l 0) (getD (w .pages) l (page 0)) ≡ w
+kept l w = λ i. record { indices = set-getD (w .indices) l 0 i; pages = set-getD (w .pages) l (page 0) i }
 
 put-full : (w : Way) (l i : ℕ) (q : PageId) → Full w → Full (putFrame w l i q)
 put-full w l i q f = (length-set (w .indices) l i ∙ f .0, length-set (w .pages) l q ∙ f .1)
@@ -71,10 +74,16 @@ filled zero w (a ∷ b ∷ fs) h f e = absurd (omega (arith, e))
 filled (suc l) w (a ∷ fs) h f e =
     let v = putFrame w (suc l) (a .at) (a .page) in
     let rest : framesOf (suc l) (fill l v fs) ≡ fs = filled l v fs (omega (arith, h)) (put-full w (suc l) (a .at) (a .page) f) (omega (arith, e)) in
-    let below : l < suc l = omega arith in
+    let lt : l < suc l = omega arith in
     let at : record { at = getD (fill l v fs .indices) (suc l) 0; page = getD (fill l v fs .pages) (suc l) (page 0) } ≡ a =
-    rw (fill-index fs l v (suc l) below, fill-page fs l v (suc l) below) (put-at (suc l) w a h f) in
+    rw (fill-index fs l v (suc l) lt, fill-page fs l v (suc l) lt) (put-at (suc l) w a h f) in
     λ i. at i ∷ rest i
+
+-- frames that stand there already change nothing
+pub refilled : (l : ℕ) (w : Way) → fill l w (framesOf (suc l) w) ≡ w
+unfolding fill framesFrom
+refilled zero w = kept zero w
+refilled (suc l) w = ap (λ (v : Way). fill l v (framesOf (suc l) w)) (kept (suc l) w) ∙ refilled l w
 
 longer-by :
     (l : ℕ) (a : Frame) (o o′ : Path) → o ≡ o′ → (gs : List Frame) → longer a o ≡ path gs → ((hs : List Frame) → o ≡ path hs → length hs ≡ suc l) →
@@ -86,7 +95,7 @@ longer-by l a o (path hs) u gs v k =
     rw (← y) (ap suc (k hs u))
 
 -- a way down has a frame for each level
-long-by : (fetch : PageId → Fetched) (p : Datom → Bool) (l : ℕ) (q : PageId) (r : Fetched) (fs : List Frame) → pathBy fetch p l q r ≡ path fs → length fs ≡ suc l
+pub long-by : (fetch : PageId → Fetched) (p : Datom → Bool) (l : ℕ) (q : PageId) (r : Fetched) (fs : List Frame) → pathBy fetch p l q r ≡ path fs → length fs ≡ suc l
 unfolding pathBy
 long-by fetch p zero q (faulty f) fs e = absurd (apart (cc))
 long-by fetch p zero q (fine n) [] e = absurd (apart (cc))
@@ -95,8 +104,9 @@ long-by fetch p zero q (fine n) (a ∷ b ∷ fs) e = absurd (apart (cc))
 long-by fetch p (suc l) q (faulty f) fs e = absurd (apart (cc))
 long-by fetch p (suc l) q (fine n) fs e =
     let c = childOf (nextMidpoint (drop (rankBy p (n .datoms)) (n .children))) in
-    let below = pathBy fetch p l c (atLevel l (fetch c)) in
-    longer-by l (record { at = rankBy p (n .datoms); page = q }) below below refl fs e (λ gs. long-by fetch p l c (atLevel l (fetch c)) gs)
+    let rest = pathBy fetch p l c (atLevel l (fetch c)) in
+    longer-by l (record { at = rankBy p (n .datoms); page = q }) rest rest refl fs e (λ gs. long-by fetch p l c (atLevel l (fetch c)) gs)
 
-pub down-long : (x : Extent) (s : List ℕ) (p : Datom → Bool) (l : ℕ) (q : PageId) (fs : List Frame) → downOf x s p l q ≡ path fs → length fs ≡ suc l
-down-long x s p l q fs e = long-by (fetchPage eavt x s) p l q (atLevel l (fetchPage eavt x s q)) fs e
+pub down-long :
+    (t : DatomOrd) (x : Extent) (s : List ℕ) (p : Datom → Bool) (l : ℕ) (q : PageId) (fs : List Frame) → downOf t x s p l q ≡ path fs → length fs ≡ suc l
+down-long t x s p l q fs e = long-by (fetchPage t x s) p l q (atLevel l (fetchPage t x s q)) fs e

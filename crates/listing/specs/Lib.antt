@@ -1,6 +1,7 @@
 -- What the parts of a listing answer, by the rules, and laws for their loops.
 pub mod Way
 pub mod WayLaws
+pub mod Levels
 pub mod Descent
 pub mod Fill
 pub mod Starts

@@ -12,7 +12,7 @@ use Rattle.store.specs.declared.PageId.{PageId}
 use Rattle.store.specs.declared.Extent.{Extent}
 use Rattle.store.specs.Page.{page}
 use Rattle.store.specs.Laws.{apart}
-use Rattle.index.specs.Order.{eavt}
+use Rattle.index.specs.Order.{DatomOrd}
 use Rattle.rules.specs.Page.{Node}
 use Rattle.rules.specs.Tree.{Fetched, faulty, fine, atLevel, fetchAt}
 use Rattle.rules.specs.Store.{fetchPage, envOf}
@@ -21,7 +21,7 @@ use Rattle.listing.specs.declared.opening.Opening.{Opening}
 use Rattle.listing.specs.declared.opening.Opening.the-variants.{Open, Damaged}
 use Rattle.listing.specs.WayLaws.{frames-count}
 use Rattle.memory_store.specs.declared.found.Opened.the-variants as found
-use Rattle.memory_store.specs.Opened.{openedOf}
+use Rattle.memory_store.specs.Opened.{openedOf, damaged-faulty}
 
 -- a page with no fewer datoms than the index
 unfoldable pub isOpen : ℕ → Fetched → Bool
@@ -33,18 +33,14 @@ openingOf (notOpen q) = Damaged q
 openingOf (opened os) = Open
 
 -- one page, by what it is opened as at its level
-module _ (x : Extent) (s : List ℕ) (q : PageId) (i l : ℕ) where
-  pub open-lost : found.Damaged ≡ openedOf (fetchAt (envOf eavt x s) l q) → false ≡ isOpen i (atLevel l (fetchPage eavt x s q))
-  unfolding fetchAt envOf isOpen openedOf
-  open-lost e = side (atLevel l (fetchPage eavt x s q)) e
-    where
-      side : (r : Fetched) → found.Damaged ≡ openedOf r → false ≡ isOpen i r
-      side (faulty f) u = refl
-      side (fine n) u = absurd (apart (cc))
+module _ (t : DatomOrd) (x : Extent) (s : List ℕ) (q : PageId) (i l : ℕ) where
+  pub open-lost : found.Damaged ≡ openedOf (fetchAt (envOf t x s) l q) → false ≡ isOpen i (atLevel l (fetchPage t x s q))
+  unfolding fetchAt envOf isOpen
+  open-lost e = rw (damaged-faulty (atLevel l (fetchPage t x s q)) e .1)
 
-  pub open-node : (k : ℕ) → found.Node k ≡ openedOf (fetchAt (envOf eavt x s) l q) → isOpen i (atLevel l (fetchPage eavt x s q)) ≡ leb i k
+  pub open-node : (k : ℕ) → found.Node k ≡ openedOf (fetchAt (envOf t x s) l q) → isOpen i (atLevel l (fetchPage t x s q)) ≡ leb i k
   unfolding fetchAt envOf isOpen openedOf
-  open-node k e = side (atLevel l (fetchPage eavt x s q)) e
+  open-node k e = side (atLevel l (fetchPage t x s q)) e
     where
       side : (r : Fetched) → found.Node k ≡ openedOf r → isOpen i r ≡ leb i k
       side (faulty f) u = absurd (apart (cc))

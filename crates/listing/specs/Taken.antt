@@ -5,16 +5,16 @@ use native.Mathlib.Nat.{le-refl}
 use native.Mathlib.Numerals.{add-one}
 use native.Mathlib.Omega.{arith}
 use mathlib.Core.Bool.{Bool, true, false}
-use mathlib.Core.List.{List, _∷_, map}
+use mathlib.Core.List.{List, [], _∷_, map}
 use mathlib.Core.Path.{_≡_, refl, sym, ap, _∙_}
-use lib.ListN.{length, getD, set, length-set}
+use lib.ListN.{length, length-map, getD, set, length-set}
 use lib.Seq.{getD-set-same, getD-set-other}
 use Rattle.store.specs.declared.PageId.{PageId}
 use Rattle.store.specs.declared.Extent.{Extent}
 use Rattle.store.specs.Page.{page, none}
 use Rattle.store.specs.Laws.{apart}
 use Rattle.datom.specs.declared.Datom.{Datom}
-use Rattle.index.specs.Order.{cmpEavt, eavt}
+use Rattle.index.specs.Order.{DatomOrd}
 use Rattle.answer.specs.declared.Fault.{Fault}
 use Rattle.answer.specs.declared.Refusal.the-variants.{Damaged}
 use Rattle.answer.specs.declared.Cursor.{Cursor}
@@ -22,7 +22,7 @@ use Rattle.answer.specs.declared.Stepped.{Stepped}
 use Rattle.rules.specs.Node.{isMidpoint}
 use Rattle.rules.specs.Tree.{Fetched}
 use Rattle.rules.specs.Store.{fetchPage}
-use Rattle.rules.specs.Listing.{Frame, framesFrom, frameOf, beginFrames, Opens, notOpen, opened, openFrames, Path, lostAt, path, never, after, least, moved, onward, refuseStep}
+use Rattle.rules.specs.Listing.{Frame, framesFrom, frameOf, beginFrames, Open, Opens, notOpen, opened, openFrames, Path, lostAt, path, never, after, least, moved, onward, refuseStep}
 use Rattle.listing.specs.declared.way.Way.{Way}
 use Rattle.listing.specs.declared.descent.Descent.{Descent}
 use Rattle.listing.specs.declared.descent.End.the-variants.{Bottom, Lost}
@@ -31,87 +31,63 @@ use Rattle.listing.specs.declared.candidate.Candidate.{Candidate}
 use Rattle.listing.specs.declared.candidate.Candidate.the-variants.{Nothing, At, Twice}
 use Rattle.listing.specs.Way.{framesOf}
 use Rattle.listing.specs.WayLaws.{Full}
-use Rattle.listing.specs.Descent.{childFrom, descentOf, downOf}
-use Rattle.listing.specs.Fill.{fill-index, fill-page, filled, down-long}
+use Rattle.listing.specs.Levels.{nodeIn, fine-in, openAt, opensOf, opens-count}
+use Rattle.listing.specs.Descent.{fill, descentOf}
+use Rattle.listing.specs.Fill.{fill-index, fill-page, filled, long-by}
 use Rattle.listing.specs.Opening.{openingOf, openBelow, OpenAt}
-use Rattle.listing.specs.Candidate.{nodeIn, picked}
-use Rattle.listing.specs.CandidateLaws.{fine-in}
-use Rattle.listing.specs.Advance.{Within, beginOf, stays, taken, advanced, yieldOf}
-use Rattle.listing.specs.AdvanceLaws.{childrenAt, adv-bottom, pending-at, midpoint-at, yield-lost, yield-bottom}
-use Rattle.listing.specs.Least.{openAt, opensOf, all-opened, frames-of, opens-count, takenFrom, taken-here, taken-above, leastAs, least-is, picked-under}
+use Rattle.listing.specs.Candidate.{candidateBelow}
+use Rattle.listing.specs.Advance.{Within, beginOf, taken, afterAt, advanced, yieldOf}
+use Rattle.listing.specs.AdvanceLaws.{yield-lost, yield-bottom}
+use Rattle.listing.specs.Least.{all-opened, takenFrom, taken-here, taken-above, leastAs, least-is, candidate-under}
 
 -- what an advance gives beside what the rules give for the levels below m; from m on only the index of m has changed
-pub data Outcome (w : Way) (m : ℕ) (a : Descent) (o : Path) : Type 0 where
-  gone : (q : PageId) (f : Fault) → a .end ≡ Lost q → o ≡ lostAt q f → Outcome w m a o
+pub data Advances (w : Way) (m : ℕ) (a : Descent) (o : Path) : Type 0 where
+  gone : (q : PageId) (f : Fault) → a .end ≡ Lost q → o ≡ lostAt q f → Advances w m a o
   came :
       a .end ≡ Bottom → o ≡ path (framesOf m (a .way)) →
       ((j : ℕ) → m ≤ j → getD (a .way .indices) j 0 ≡ getD (set (w .indices) m (getD (w .indices) m 0 + 1)) j 0) →
-      ((j : ℕ) → m ≤ j → getD (a .way .pages) j (page 0) ≡ getD (w .pages) j (page 0)) → Outcome w m a o
+      ((j : ℕ) → m ≤ j → getD (a .way .pages) j (page 0) ≡ getD (w .pages) j (page 0)) → Advances w m a o
 
-same-outcome : (w : Way) (m : ℕ) (a b : Descent) (o u : Path) → a ≡ b → o ≡ u → Outcome w m b u → Outcome w m a o
-same-outcome w m a b o u e h k = rw (e, h) k
-
--- an index at or past the height is in no frame
-frames-kept : (h : ℕ) (is : List ℕ) (ps : List PageId) (j v : ℕ) → h ≤ j → framesFrom h (set is j v) ps ≡ framesFrom h is ps
-unfolding framesFrom
-frames-kept zero is ps j v u = refl
-frames-kept (suc h) is ps j v u =
-    let at : getD (set is j v) h 0 ≡ getD is h 0 = getD-set-other is j h v 0 (λ e. before e) in
-    let rest : framesFrom h (set is j v) ps ≡ framesFrom h is ps = frames-kept h is ps j v (omega (arith, u)) in
-    λ i. record { at = at i; page = getD ps h (page 0) } ∷ rest i
-  where
-    before : h ≡ j → ⊥
-    before e = omega (arith, u, e)
-
-down-outcome :
+advances-down :
     (w : Way) (l : ℕ) (o : Path) → Full w → l ≤ 7 → ((fs : List Frame) → o ≡ path fs → length fs ≡ suc l) →
-    Outcome w (suc l) (descentOf l (taken w (suc l)) o) o
+    Advances w (suc l) (descentOf l (taken w (suc l)) o) o
 unfolding descentOf
-down-outcome w l (lostAt q f) full low long = gone q f refl refl
-down-outcome w l (path fs) full low long =
+advances-down w l (lostAt q f) full low long = gone q f refl refl
+advances-down w l (path fs) full low long =
     let v = taken w (suc l) in
     let fv : Full v = (length-set (w .indices) (suc l) (getD (w .indices) (suc l) 0 + 1) ∙ full .0, full .1) in
     came refl (ap path (sym (filled l v fs low fv (long fs refl)))) (λ j h. fill-index fs l v j (omega (arith, h))) (λ j h. fill-page fs l v j (omega (arith, h)))
 
-module _ (x : Extent) (s : List ℕ) (w : Way) (full : Full w) where
+-- the rules' levels below one are as many as they were
+after-long : (fetch : PageId → Fetched) (o : Open) (os : List Open) (fs : List Frame) → after fetch o os ≡ path fs → length fs ≡ length os
+unfolding after
+after-long fetch o [] [] e = refl
+after-long fetch o [] (f ∷ fs) e = absurd (apart (cc))
+after-long fetch o (b ∷ bs) fs e = side (isMidpoint (o .node .children) (o .at)) refl
+  where
+    side : (m : Bool) → isMidpoint (o .node .children) (o .at) ≡ m → length fs ≡ suc (length bs)
+    side false u =
+        let k : path (map frameOf (b ∷ bs)) ≡ path fs = rw (after, u) at e in
+        let v : map frameOf (b ∷ bs) ≡ fs = cc in
+        rw (← v) (length-map (b ∷ bs) frameOf)
+    side true u = long-by fetch never (length bs) _ _ fs (rw (after, u) at e)
+
+module _ (t : DatomOrd) (x : Extent) (s : List ℕ) (w : Way) (full : Full w) where
   abbrev fetch : PageId → Fetched
-  fetch = fetchPage eavt x s
+  fetch = fetchPage t x s
 
-  abbrev below : ℕ → Path
-  below m = after fetch (openAt fetch (w .indices) (w .pages) m) (opensOf fetch (w .indices) (w .pages) m)
-
-  after-pending :
-      (l : ℕ) → isMidpoint (childrenAt x s w (suc l)) (getD (w .indices) (suc l) 0) ≡ false →
-      below (suc l) ≡ path (map frameOf (opensOf fetch (w .indices) (w .pages) (suc l)))
-  unfolding after opensOf
-  after-pending l h = rw (after, h)
-
-  after-midpoint :
-      (l : ℕ) → isMidpoint (childrenAt x s w (suc l)) (getD (w .indices) (suc l) 0) ≡ true →
-      below (suc l) ≡ downOf x s never l (childFrom (suc l) (getD (w .indices) (suc l) 0 + 1) (childrenAt x s w (suc l)))
-  unfolding after opensOf childFrom
-  after-midpoint l h = rw (after, h, opens-count fetch (w .indices) (w .pages) l, add-one)
-
-  outcome : (m : ℕ) → m ≤ 7 → Outcome w m (advanced x s w m) (below m)
-  unfolding after opensOf framesFrom
-  outcome zero low = same-outcome w 0 _ _ _ _ (sym (adv-bottom x s w 0 refl)) refl (came refl refl (λ j h. refl) (λ j h. refl))
-  outcome (suc l) low = side (isMidpoint (childrenAt x s w (suc l)) (getD (w .indices) (suc l) 0)) refl
-    where
-      side : (b : Bool) → isMidpoint (childrenAt x s w (suc l)) (getD (w .indices) (suc l) 0) ≡ b → Outcome w (suc l) (advanced x s w (suc l)) (below (suc l))
-      side false e =
-          let k : below (suc l) ≡ path (framesOf (suc l) (taken w (suc l))) =
-          after-pending l e ∙ ap path (frames-of fetch (w .indices) (w .pages) (suc l) ∙ sym (frames-kept (suc l) (w .indices) (w .pages) (suc l) (getD (w .indices) (suc l) 0 + 1) (le-refl (suc l)))) in
-          same-outcome w (suc l) (advanced x s w (suc l)) (stays (taken w (suc l))) (below (suc l)) (path (framesOf (suc l) (taken w (suc l)))) (sym (pending-at x s w l e)) k
-          (came refl refl (λ j h. refl) (λ j h. refl))
-      side true e =
-          let c = childFrom (suc l) (getD (w .indices) (suc l) 0 + 1) (childrenAt x s w (suc l)) in
-          same-outcome w (suc l) (advanced x s w (suc l)) (descentOf l (taken w (suc l)) (downOf x s never l c)) (below (suc l)) (downOf x s never l c) (sym (midpoint-at x s w l e)) (after-midpoint l e)
-          (down-outcome w l (downOf x s never l c) full (omega (arith, low)) (down-long x s never l c))
+  advances : (m : ℕ) → m ≤ 7 → Advances w m (advanced t x s w m) (afterAt t x s w m)
+  unfolding advanced after opensOf framesFrom descentOf fill
+  advances zero low = came refl refl (λ j h. refl) (λ j h. refl)
+  advances (suc l) low =
+      advances-down w l (afterAt t x s w (suc l)) full (omega (arith, low)) λ fs e.
+      after-long fetch (openAt fetch (w .indices) (w .pages) (suc l)) (opensOf fetch (w .indices) (w .pages) (suc l)) fs e
+      ∙ opens-count fetch (w .indices) (w .pages) (suc l)
 
   abbrev from : ℕ → ℕ → Path
   from h m = takenFrom fetch (w .indices) (w .pages) h m
 
-  lost-from : (m : ℕ) (q : PageId) (f : Fault) → below m ≡ lostAt q f → (h : ℕ) → m < h → from h m ≡ lostAt q f
+  lost-from : (m : ℕ) (q : PageId) (f : Fault) → afterAt t x s w m ≡ lostAt q f → (h : ℕ) → m < h → from h m ≡ lostAt q f
   lost-from m q f e zero u = absurd (omega (arith, u))
   lost-from m q f e (suc l) u = elim (decLe l m) [
     | yes a ↦ let k : l ≡ m = omega (arith, a, u) in rw (k, taken-here fetch (w .indices) (w .pages) m, e)
@@ -121,7 +97,7 @@ module _ (x : Extent) (s : List ℕ) (w : Way) (full : Full w) where
   ]
 
   module _
-      (m : ℕ) (low : m ≤ 7) (r : Way) (e : below m ≡ path (framesOf m r))
+      (m : ℕ) (low : m ≤ 7) (r : Way) (e : afterAt t x s w m ≡ path (framesOf m r))
       (is : (j : ℕ) → m ≤ j → getD (r .indices) j 0 ≡ getD (set (w .indices) m (getD (w .indices) m 0 + 1)) j 0)
       (ps : (j : ℕ) → m ≤ j → getD (r .pages) j (page 0) ≡ getD (w .pages) j (page 0)) where
     here-from : from (suc m) m ≡ path (framesOf (suc m) r)
@@ -151,39 +127,41 @@ module _ (x : Extent) (s : List ℕ) (w : Way) (full : Full w) where
     ]
 
 -- what a step answers, by the candidate
-module _ (x : Extent) (s : List ℕ) (c : Cursor) (full : Full (beginOf c)) (most : c .height ≤ 8) where
+module _ (t : DatomOrd) (x : Extent) (s : List ℕ) (c : Cursor) (full : Full (beginOf c)) (most : c .height ≤ 8) where
   took-at :
       (m : ℕ) (d : Datom) → m < c .height →
-      moved c (least d (takenFrom (fetchPage eavt x s) (c .«begin_indices») (c .«begin_pages») (c .height) m)) ≡ yieldOf c d (advanced x s (beginOf c) m)
+      moved c (least d (takenFrom (fetchPage t x s) (c .«begin_indices») (c .«begin_pages») (c .height) m)) ≡ yieldOf c d (advanced t x s (beginOf c) m)
   unfolding moved
-  took-at m d h = side (outcome x s (beginOf c) full m (omega (arith, h, most)))
+  took-at m d h = side (advances t x s (beginOf c) full m (omega (arith, h, most)))
     where
       side :
-          Outcome (beginOf c) m (advanced x s (beginOf c) m) (below x s (beginOf c) full m) →
-          moved c (least d (takenFrom (fetchPage eavt x s) (c .«begin_indices») (c .«begin_pages») (c .height) m)) ≡ yieldOf c d (advanced x s (beginOf c) m)
-      side (gone q f e o) = rw (lost-from x s (beginOf c) full m q f o (c .height) h) (yield-lost c d _ (advanced x s (beginOf c) m) refl q e)
+          Advances (beginOf c) m (advanced t x s (beginOf c) m) (afterAt t x s (beginOf c) m) →
+          moved c (least d (takenFrom (fetchPage t x s) (c .«begin_indices») (c .«begin_pages») (c .height) m)) ≡ yieldOf c d (advanced t x s (beginOf c) m)
+      side (gone q f e o) = rw (lost-from t x s (beginOf c) full m q f o (c .height) h) (yield-lost c d _ (advanced t x s (beginOf c) m) refl q e)
       side (came e o is ps) =
-          rw (path-from x s (beginOf c) full m (omega (arith, h, most)) (advanced x s (beginOf c) m .way) o is ps (c .height) h)
-          (yield-bottom c d _ (advanced x s (beginOf c) m) refl e)
+          rw (path-from t x s (beginOf c) full m (omega (arith, h, most)) (advanced t x s (beginOf c) m .way) o is ps (c .height) h)
+          (yield-bottom c d _ (advanced t x s (beginOf c) m) refl e)
 
 -- the answers of a step past its checks
-pub on-damaged : (x : Extent) (s : List ℕ) (c : Cursor) (q : PageId) (os : Opens) → opening.Damaged q ≡ openingOf os → refuseStep c (Damaged q) ≡ onward cmpEavt (fetchPage eavt x s) c os
+pub on-damaged :
+    (t : DatomOrd) (x : Extent) (s : List ℕ) (c : Cursor) (q : PageId) (os : Opens) → opening.Damaged q ≡ openingOf os →
+    refuseStep c (Damaged q) ≡ onward (t .cmp) (fetchPage t x s) c os
 unfolding openingOf onward
-on-damaged x s c q (notOpen z) e = let k : q ≡ z = cc in rw k
-on-damaged x s c q (opened os) e = absurd (apart (cc))
+on-damaged t x s c q (notOpen z) e = let k : q ≡ z = cc in rw k
+on-damaged t x s c q (opened os) e = absurd (apart (cc))
 
-module _ (x : Extent) (s : List ℕ) (c : Cursor) (ready : openBelow (fetchPage eavt x s) (c .height) (c .«begin_indices») (c .«begin_pages») ≡ opening.Open) where
+module _ (t : DatomOrd) (x : Extent) (s : List ℕ) (c : Cursor) (ready : openBelow (fetchPage t x s) (c .height) (c .«begin_indices») (c .«begin_pages») ≡ opening.Open) where
   abbrev candidate : Candidate
-  candidate = picked (fetchPage eavt x s) (c .height) (c .«begin_indices») (c .«begin_pages»)
+  candidate = candidateBelow t (fetchPage t x s) (c .height) (c .«begin_indices») (c .«begin_pages»)
 
   abbrev onwards : Stepped
-  onwards = onward cmpEavt (fetchPage eavt x s) c (openFrames (fetchPage eavt x s) (beginFrames c))
+  onwards = onward (t .cmp) (fetchPage t x s) c (openFrames (fetchPage t x s) (beginFrames c))
 
-  on-open : onwards ≡ moved c (leastAs (fetchPage eavt x s) (c .«begin_indices») (c .«begin_pages») (c .height) candidate)
+  on-open : onwards ≡ moved c (leastAs (fetchPage t x s) (c .«begin_indices») (c .«begin_pages») (c .height) candidate)
   unfolding onward
   on-open =
-      rw (all-opened (fetchPage eavt x s) (c .«begin_indices») (c .«begin_pages») (c .height) ready)
-      (ap (moved c) (least-is (fetchPage eavt x s) (c .«begin_indices») (c .«begin_pages») (c .height)))
+      rw (all-opened (fetchPage t x s) (c .«begin_indices») (c .«begin_pages») (c .height) ready)
+      (ap (moved c) (least-is t (fetchPage t x s) (c .«begin_indices») (c .«begin_pages») (c .height)))
 
   pub on-nothing : Nothing ≡ candidate → refuseStep c (Damaged none) ≡ onwards
   unfolding moved leastAs
@@ -194,11 +172,11 @@ module _ (x : Extent) (s : List ℕ) (c : Cursor) (ready : openBelow (fetchPage 
   on-twice q e = rw (on-open, ← e)
 
   pub on-under : (m : ℕ) (d : Datom) → At m d ≡ candidate → m < c .height
-  on-under m d e = picked-under (fetchPage eavt x s) (c .«begin_indices») (c .«begin_pages») (c .height) m d (sym e)
+  on-under m d e = candidate-under t (fetchPage t x s) (c .«begin_indices») (c .«begin_pages») (c .height) m d (sym e)
 
-  pub on-at : Full (beginOf c) → c .height ≤ 8 → (m : ℕ) (d : Datom) → At m d ≡ candidate → yieldOf c d (advanced x s (beginOf c) m) ≡ onwards
+  pub on-at : Full (beginOf c) → c .height ≤ 8 → (m : ℕ) (d : Datom) → At m d ≡ candidate → yieldOf c d (advanced t x s (beginOf c) m) ≡ onwards
   unfolding leastAs
-  on-at full most m d e = rw (on-open, ← e) (sym (took-at x s c full most m d (on-under m d e)))
+  on-at full most m d e = rw (on-open, ← e) (sym (took-at t x s c full most m d (on-under m d e)))
 
 -- a page of an open cursor is read with its index within it
 pub within-of : (r : Fetched) (l i : ℕ) → OpenAt r l i → Within r i

@@ -16,11 +16,11 @@ use store::PageId;
 ghost use mathlib.Core.Bool.{false, _&&_, not};
 ghost use mathlib.Core.List.{[]};
 ghost use mathlib.Core.Path.{_≡_};
-ghost use Prim.Native.Nat.{_≤_, suc};
+ghost use Prim.Native.Nat.{_≤_};
 ghost use Rattle.store.specs.Page.{isNone};
 ghost use Rattle.store.specs.Size.{capacity};
-ghost use Rattle.index.specs.Order.{cmpEavt, eavt, isLess};
-ghost use Rattle.rules.specs.Store.{badStore, badRoot};
+ghost use Rattle.index.specs.Order.{eavt, isLess};
+ghost use Rattle.rules.specs.Store.{badStore};
 ghost use Rattle.rules.specs.Listing.{cursorOf, refuseStart, joinPaths, startUnder, startList};
 ghost use Rattle.listing.specs.Way.{framesOf};
 ghost use Rattle.listing.specs.Descent.{testOf, downOf};
@@ -52,10 +52,10 @@ pub fn nothing() -> Cursor
 {
     Cursor {
         height: 0,
-        begin_indices: [0; 8],
-        begin_pages: [PageId(0); 8],
-        end_indices: [0; 8],
-        end_pages: [PageId(0); 8],
+        begin_indices: [0; way::LEVELS],
+        begin_pages: [PageId(0); way::LEVELS],
+        end_indices: [0; way::LEVELS],
+        end_pages: [PageId(0); way::LEVELS],
     }
 }
 
@@ -79,7 +79,7 @@ fn start_at(
     upper: Datom,
 ) -> Started
     requires { ⌜ (badStore extent (now store) ≡ false) × ((c ≡ capacity (extent .size)) × (level ≤ 7)) ⌝ }
-    ensures { λ r. ⌜ r ≡ joinPaths (downOf extent (now (store .entry)) (testOf (NotBelow lower)) level root) (downOf extent (now (store .entry)) (testOf (NotBelow upper)) level root) ⌝ }
+    ensures { λ r. ⌜ r ≡ joinPaths (downOf eavt extent (now (store .entry)) (testOf eavt (NotBelow lower)) level root) (downOf eavt extent (now (store .entry)) (testOf eavt (NotBelow upper)) level root) ⌝ }
 {
     let b = descent::descend(
         store,
@@ -117,7 +117,7 @@ fn start_at(
 
 // Whether there can be something to list: a root, and a lower bound below the upper.
 fn is_any_between(root: PageId, lower: Datom, upper: Datom) -> bool
-    ensures { λ r. ⌜ r ≡ (isLess (cmpEavt lower upper) && not (isNone root)) ⌝ }
+    ensures { λ r. ⌜ r ≡ (isLess (eavt .cmp lower upper) && not (isNone root)) ⌝ }
 {
     match index::order_of(lower, upper) {
         Order::Less => !root.is_none(),
@@ -145,19 +145,6 @@ fn start_under(store: &[u8], extent: Extent, root: PageId, lower: Datom, upper: 
     start_at(store, extent, c, root, level, lower, upper)
 }
 
-// Whether the root is neither none nor below the count.
-fn is_bad_root(extent: Extent, root: PageId) -> bool
-    ensures { λ r. ⌜ r ≡ badRoot extent root ⌝ }
-{
-    if root.is_none() {
-        return false;
-    }
-    if extent.count <= root.0 {
-        return true;
-    }
-    false
-}
-
 // A cursor to the datoms from the lower bound on and below the upper. Document 01: "Starting a listing checks 1, 10, 5, then the
 // bounds' order, then pages."
 pub fn start(store: &[u8], extent: Extent, root: PageId, lower: Datom, upper: Datom) -> Started
@@ -172,7 +159,7 @@ pub fn start(store: &[u8], extent: Extent, root: PageId, lower: Datom, upper: Da
     if !upper.is_bound() {
         return refused(Refusal::BadBound);
     }
-    if is_bad_root(extent, root) {
+    if memory_store::is_bad_root(extent, root) {
         return refused(Refusal::NoPage);
     }
     start_under(store, extent, root, lower, upper)

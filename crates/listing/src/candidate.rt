@@ -2,6 +2,7 @@
 use answer::Cursor;
 use datom::Datom;
 use index::Order;
+use memory_store::access;
 use store::Extent;
 use store::PageId;
 ghost use mathlib.Core.Bool.{false};
@@ -14,8 +15,9 @@ ghost use Rattle.rules.specs.Tree.{fine};
 ghost use Rattle.rules.specs.Store.{badStore, fetchPage};
 ghost use Rattle.rules.specs.Listing.{beginFrames, openFrames};
 ghost use Rattle.listing.specs.declared.opening.Opening.the-variants.{Open};
+ghost use Rattle.listing.specs.Levels.{nodeIn};
 ghost use Rattle.listing.specs.Opening.{openingOf};
-ghost use Rattle.listing.specs.Candidate.{nodeIn, pickOne, pick, picked};
+ghost use Rattle.listing.specs.Candidate.{pickOne, pick, candidateBelow};
 
 // No datom so far, the smallest one and its level, or the page of the higher level of an equal pair.
 pub enum Candidate {
@@ -26,7 +28,7 @@ pub enum Candidate {
 
 // The datom x of a level against the smallest of the levels below.
 fn against(level: usize, page: PageId, x: Datom, best: Candidate) -> Candidate
-    ensures { λ r. ⌜ r ≡ pickOne level page x best ⌝ }
+    ensures { λ r. ⌜ r ≡ pickOne eavt level page x best ⌝ }
 {
     match best {
         Candidate::Nothing => Candidate::At { level, datom: x },
@@ -50,11 +52,10 @@ fn chosen(
     best: Candidate,
 ) -> Candidate
     requires { ⌜ (badStore extent (now store) ≡ false) × ((c ≡ capacity (extent .size)) × (fetchPage eavt extent (now store) page ≡ fine (nodeIn (fetchPage eavt extent (now store) page)))) ⌝ }
-    ensures { λ r. ⌜ r ≡ pick level page (drop index (nodeIn (fetchPage eavt extent (now (store .entry)) page) .datoms)) best ⌝ }
+    ensures { λ r. ⌜ r ≡ pick eavt level page (drop index (nodeIn (fetchPage eavt extent (now (store .entry)) page) .datoms)) best ⌝ }
 {
     let part = memory_store::fetch(store, extent, page);
-    let count = part[40 * c + 9] as u64;
-    if count <= index {
+    if access::count_of(part, c) as u64 <= index {
         return best;
     }
     against(
@@ -68,7 +69,7 @@ fn chosen(
 // All levels of a cursor whose pages are open.
 pub fn smallest(store: &[u8], extent: Extent, c: usize, cursor: Cursor) -> Candidate
     requires { ⌜ (badStore extent (now store) ≡ false) × ((c ≡ capacity (extent .size)) × ((cursor .height ≤ 8) × (openingOf (openFrames (fetchPage eavt extent (now store)) (beginFrames cursor)) ≡ Open))) ⌝ }
-    ensures { λ r. ⌜ r ≡ picked (fetchPage eavt extent (now (store .entry))) (cursor .height) (cursor .«begin_indices») (cursor .«begin_pages») ⌝ }
+    ensures { λ r. ⌜ r ≡ candidateBelow eavt (fetchPage eavt extent (now (store .entry))) (cursor .height) (cursor .«begin_indices») (cursor .«begin_pages») ⌝ }
 {
     let height = cursor.height as usize;
     let mut best = Candidate::Nothing;

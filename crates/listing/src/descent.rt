@@ -14,12 +14,12 @@ ghost use Prim.Native.Nat.{suc, _+_, _*_, _≤_};
 ghost use lib.ListN.{length};
 ghost use Rattle.store.specs.Size.{capacity};
 ghost use Rattle.datom.specs.Datom.{datomsOf};
-ghost use Rattle.index.specs.Order.{cmpEavt, eavt};
+ghost use Rattle.index.specs.Order.{eavt};
 ghost use Rattle.rules.specs.Page.{childrenOf, rising};
 ghost use Rattle.rules.specs.Node.{rankBy};
 ghost use Rattle.rules.specs.Tree.{atLevel};
 ghost use Rattle.rules.specs.Store.{badStore, fetchPage};
-ghost use Rattle.listing.specs.Descent.{testOf, childFrom, placedOf, descentOf, downOf};
+ghost use Rattle.listing.specs.Descent.{testOf, nextFrom, placedOf, lost, descentOf, downOf};
 
 // Where a page is entered: at its first datom, or at the first that is not below a bound.
 pub enum Seek {
@@ -27,10 +27,10 @@ pub enum Seek {
     NotBelow(Datom),
 }
 
-// The index that is found in a page, and the child that the way goes on to.
+// The index that is found in a page, and the child that the way goes on to, if any.
 pub enum Placed {
     Lost,
-    At { index: usize, child: PageId },
+    At { index: usize, next: NextMidpoint },
 }
 
 // Where a way ends: at level 0, or at a page that cannot be read.
@@ -45,10 +45,20 @@ pub struct Descent {
     pub way: Way,
 }
 
+// A way that is lost at a page.
+pub fn lost_at(page: PageId) -> Descent
+    ensures { λ r. ⌜ r ≡ lost page ⌝ }
+{
+    Descent {
+        end: End::Lost(page),
+        way: way::empty(),
+    }
+}
+
 // The index in a page of k datoms.
 fn index_in(part: &[u8], k: usize, seek: Seek) -> usize
-    requires { ⌜ (32 * k ≤ length (now part)) × (rising cmpEavt (datomsOf k (now part)) ≡ true) ⌝ }
-    ensures { λ r. ⌜ r ≡ rankBy (testOf seek) (datomsOf k (now (part .entry))) ⌝ }
+    requires { ⌜ (32 * k ≤ length (now part)) × (rising (eavt .cmp) (datomsOf k (now part)) ≡ true) ⌝ }
+    ensures { λ r. ⌜ r ≡ rankBy (testOf eavt seek) (datomsOf k (now (part .entry))) ⌝ }
 {
     match seek {
         Seek::First => 0,
@@ -56,18 +66,15 @@ fn index_in(part: &[u8], k: usize, seek: Seek) -> usize
     }
 }
 
-// The first real child at or after an index. Below level 0 there is none, so its children are not looked at.
-pub fn child_from(part: &[u8], level: usize, c: usize, k: usize, index: usize) -> PageId
+// The first real child at or after an index. At level 0 a way ends, so the children there are not looked at.
+fn next_from(part: &[u8], level: usize, c: usize, k: usize, index: usize) -> NextMidpoint
     requires { ⌜ (k ≤ c) × (40 * c + 8 ≤ length (now part)) ⌝ }
-    ensures { λ r. ⌜ r ≡ childFrom level index (childrenOf c (suc k) (now (part .entry))) ⌝ }
+    ensures { λ r. ⌜ r ≡ nextFrom level index (childrenOf c (suc k) (now (part .entry))) ⌝ }
 {
     if level == 0 {
-        return PageId::max();
+        return NextMidpoint::Nothing;
     }
-    let NextMidpoint::Child(child) = access::next_midpoint(part, c, k, index) else {
-        return PageId::max();
-    };
-    child
+    access::next_midpoint(part, c, k, index)
 }
 
 // Page `page`, which is to be of this level.
@@ -80,15 +87,15 @@ fn place_in(
     page: PageId,
 ) -> Placed
     requires { ⌜ (badStore extent (now store) ≡ false) × (c ≡ capacity (extent .size)) ⌝ }
-    ensures { λ r. ⌜ r ≡ placedOf (testOf seek) level (atLevel level (fetchPage eavt extent (now (store .entry)) page)) ⌝ }
+    ensures { λ r. ⌜ r ≡ placedOf (testOf eavt seek) level (atLevel level (fetchPage eavt extent (now (store .entry)) page)) ⌝ }
 {
     let Opened::Node(k) = found::open_at(store, extent, c, level, page) else {
         return Placed::Lost;
     };
     let part = memory_store::fetch(store, extent, page);
     let index = index_in(part, k, seek);
-    let child = child_from(part, level, c, k, index);
-    Placed::At { index, child }
+    let next = next_from(part, level, c, k, index);
+    Placed::At { index, next }
 }
 
 // From page `page`, of this level, down to level 0. The places of the levels above stay as they are in `way`.
@@ -102,17 +109,14 @@ pub fn descend(
     way: Way,
 ) -> Descent
     requires { ⌜ (badStore extent (now store) ≡ false) × ((c ≡ capacity (extent .size)) × (level ≤ 7)) ⌝ }
-    ensures { λ r. ⌜ r ≡ descentOf level way (downOf extent (now (store .entry)) (testOf seek) level page) ⌝ }
+    ensures { λ r. ⌜ r ≡ descentOf level way (downOf eavt extent (now (store .entry)) (testOf eavt seek) level page) ⌝ }
 {
     let mut filled = way;
     let mut l = level;
     let mut p = page;
     loop {
-        let Placed::At { index, child } = place_in(store, extent, c, seek, l, p) else {
-            return Descent {
-                end: End::Lost(p),
-                way: way::empty(),
-            };
+        let Placed::At { index, next } = place_in(store, extent, c, seek, l, p) else {
+            return lost_at(p);
         };
         filled.indices[l] = index as u64;
         filled.pages[l] = p;
@@ -122,6 +126,9 @@ pub fn descend(
                 way: filled,
             };
         }
+        let NextMidpoint::Child(child) = next else {
+            return lost_at(PageId::max());
+        };
         l -= 1;
         p = child;
     }

@@ -11,6 +11,7 @@ use crate::opening::Opening;
 use crate::way;
 use crate::way::Way;
 use answer::Cursor;
+use answer::NextMidpoint;
 use answer::Refusal;
 use answer::Step;
 use answer::Stepped;
@@ -21,26 +22,24 @@ use store::PageId;
 ghost use mathlib.Core.Bool.{false};
 ghost use mathlib.Core.Path.{_≡_};
 ghost use Prim.Native.Nat.{_≤_};
-ghost use lib.ListN.{length, getD};
+ghost use lib.ListN.{getD};
 ghost use Rattle.store.specs.Page.{page};
 ghost use Rattle.store.specs.Size.{capacity};
-ghost use Rattle.index.specs.Order.{cmpEavt, eavt};
-ghost use Rattle.rules.specs.Tree.{fine};
+ghost use Rattle.index.specs.Order.{eavt};
 ghost use Rattle.rules.specs.Store.{badStore, fetchPage};
 ghost use Rattle.rules.specs.Listing.{beginFrames, openFrames, refuseStep, staying, onward, stepList};
 ghost use Rattle.answer.specs.declared.Step.the-variants.{Ended};
-ghost use Rattle.listing.specs.Candidate.{nodeIn};
 ghost use Rattle.listing.specs.Advance.{beginOf, advanced, yieldOf, Within};
 
 // The index of a level is taken. Beside a pending datom the levels below stay, behind a midpoint they are filled anew from the next child.
 fn advance(store: &[u8], extent: Extent, c: usize, level: usize, begin: Way) -> Descent
     requires { ⌜ (badStore extent (now store) ≡ false) × ((c ≡ capacity (extent .size)) × ((level ≤ 7) × Within (fetchPage eavt extent (now store) (getD (begin .pages) level (page 0))) (getD (begin .indices) level 0))) ⌝ }
-    ensures { λ r. ⌜ r ≡ advanced extent (now (store .entry)) begin level ⌝ }
+    ensures { λ r. ⌜ r ≡ advanced eavt extent (now (store .entry)) begin level ⌝ }
 {
     let index = begin.indices[level];
     let page = begin.pages[level];
     let part = memory_store::fetch(store, extent, page);
-    let count = part[40 * c + 9] as usize;
+    let count = access::count_of(part, c);
     let i = index as usize;
     let mut next = begin;
     next.indices[level] = index + 1;
@@ -56,7 +55,9 @@ fn advance(store: &[u8], extent: Extent, c: usize, level: usize, begin: Way) -> 
             way: next,
         };
     }
-    let child = descent::child_from(part, level, c, count, i + 1);
+    let NextMidpoint::Child(child) = access::next_midpoint(part, c, count, i + 1) else {
+        return descent::lost_at(PageId::max());
+    };
     descent::descend(store, extent, c, Seek::First, level - 1, child, next)
 }
 
@@ -86,7 +87,7 @@ fn yield_at(
     datom: Datom,
 ) -> Stepped
     requires { ⌜ (badStore extent (now store) ≡ false) × ((c ≡ capacity (extent .size)) × ((cursor .height ≤ 8) × ((level ≤ 7) × Within (fetchPage eavt extent (now store) (getD (cursor .«begin_pages») level (page 0))) (getD (cursor .«begin_indices») level 0)))) ⌝ }
-    ensures { λ r. ⌜ r ≡ yieldOf cursor datom (advanced extent (now (store .entry)) (beginOf cursor) level) ⌝ }
+    ensures { λ r. ⌜ r ≡ yieldOf cursor datom (advanced eavt extent (now (store .entry)) (beginOf cursor) level) ⌝ }
 {
     let indices = cursor.begin_indices;
     let pages = cursor.begin_pages;
@@ -112,7 +113,7 @@ fn yield_at(
 // The begin pages are opened, and the smallest datom under the indices is yielded.
 fn step_on(store: &[u8], extent: Extent, cursor: Cursor) -> Stepped
     requires { ⌜ (badStore extent (now store) ≡ false) × (cursor .height ≤ 8) ⌝ }
-    ensures { λ r. ⌜ r ≡ onward cmpEavt (fetchPage eavt extent (now (store .entry))) cursor (openFrames (fetchPage eavt extent (now (store .entry))) (beginFrames cursor)) ⌝ }
+    ensures { λ r. ⌜ r ≡ onward (eavt .cmp) (fetchPage eavt extent (now (store .entry))) cursor (openFrames (fetchPage eavt extent (now (store .entry))) (beginFrames cursor)) ⌝ }
 {
     let c = store::capacity_of(extent.size);
     if let Opening::Damaged(page) = opening::open_all(store, extent, c, cursor) {
@@ -132,7 +133,7 @@ pub fn step(store: &[u8], extent: Extent, cursor: Cursor) -> Stepped
     if memory_store::is_bad(store, extent) {
         return refused(cursor, Refusal::BadStore);
     }
-    if 8 < cursor.height {
+    if (way::LEVELS as u64) < cursor.height {
         return refused(cursor, Refusal::Damaged(PageId::max()));
     }
     if way::is_at_end(cursor) {

@@ -4,12 +4,15 @@ use store::PageId;
 ghost use mathlib.Core.List.{[]};
 ghost use mathlib.Core.Path.{_≡_};
 ghost use Prim.Native.Nat.{_≤_};
-ghost use Rattle.rules.specs.Listing.{framesFrom, beginFrames, endFrames, sameIndices};
+ghost use Rattle.rules.specs.Listing.{beginFrames, endFrames, sameIndices};
 ghost use Rattle.listing.specs.Way.{framesOf, wayOf};
 
+// Document 01: "a height of at most 8", so an end has a place for each level below it.
+pub const LEVELS: usize = 8;
+
 pub struct Way {
-    pub indices: [u64; 8],
-    pub pages: [PageId; 8],
+    pub indices: [u64; LEVELS],
+    pub pages: [PageId; LEVELS],
 }
 
 // The way that uses no level.
@@ -17,8 +20,8 @@ pub fn empty() -> Way
     ensures { λ r. ⌜ r ≡ wayOf [] ⌝ }
 {
     Way {
-        indices: [0; 8],
-        pages: [PageId(0); 8],
+        indices: [0; LEVELS],
+        pages: [PageId(0); LEVELS],
     }
 }
 
@@ -44,7 +47,7 @@ pub fn only_used(way: Way, height: usize) -> Way
 {
     let mut kept = way;
     let mut level = height;
-    while level < 8 {
+    while level < LEVELS {
         kept.indices[level] = 0;
         kept.pages[level] = PageId(0);
         level += 1;

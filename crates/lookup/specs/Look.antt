@@ -4,7 +4,7 @@ use mathlib.Core.List.{List}
 use Rattle.store.specs.declared.PageId.{PageId}
 use Rattle.store.specs.declared.Extent.{Extent}
 use Rattle.datom.specs.declared.Datom.{Datom}
-use Rattle.index.specs.Order.{eavt}
+use Rattle.index.specs.Order.{DatomOrd}
 use Rattle.rules.specs.Lookup as rules
 use Rattle.rules.specs.Store.{fetchPage, envOf}
 use Rattle.lookup.specs.declared.Look.{Look}
@@ -17,5 +17,5 @@ lookOf (rules.absent p) = Absent
 lookOf (rules.lost p f) = Lost p
 
 -- the path of d from page p, which is to be of level l
-abbrev pub pathOf : Extent → List ℕ → Datom → ℕ → PageId → rules.Look
-pathOf x s d l p = rules.lookup (envOf eavt x s) d l p (fetchPage eavt x s p)
+abbrev pub pathOf : DatomOrd → Extent → List ℕ → Datom → ℕ → PageId → rules.Look
+pathOf t x s d l p = rules.lookup (envOf t x s) d l p (fetchPage t x s p)

@@ -15,7 +15,8 @@ use Rattle.store.specs.Size.{capacity}
 use Rattle.store.specs.Laws.{apart}
 use Rattle.datom.specs.declared.Datom.{Datom}
 use Rattle.datom.specs.Datom.{datomsOf}
-use Rattle.index.specs.Order.{cmpEavt, eavt}
+use Rattle.index.specs.Order.{DatomOrd}
+use Rattle.index.specs.Laws.{Preorder}
 use Rattle.answer.specs.declared.NextMidpoint.{NextMidpoint}
 use Rattle.answer.specs.declared.NextMidpoint.the-variants.{Child, Nothing}
 use Rattle.rules.specs.Page.{childrenOf}
@@ -48,27 +49,27 @@ abbrev pub withPage : Path → ℕ → PageId → ℕ → Path
 withPage path l p n = record { pages = set (path .pages) l p; counts = set (path .counts) l n }
 
 -- at each level stands a page that was read, with its count, or none
-pub record Kept (x : Extent) (s : List ℕ) (path : Path) : Type 0 where
+pub record Kept (t : DatomOrd) (x : Extent) (s : List ℕ) (path : Path) : Type 0 where
   pub pages : length (path .pages) ≡ 8
   pub counts : length (path .counts) ≡ 8
-  pub read : (l : ℕ) → l < 8 → isNone (pageOn path l) ≡ false → fetchPage eavt x s (pageOn path l) ≡ fine (nodeAt x s (pageOn path l) l (countOn path l))
+  pub read : (l : ℕ) → l < 8 → isNone (pageOn path l) ≡ false → fetchPage t x s (pageOn path l) ≡ fine (nodeAt x s (pageOn path l) l (countOn path l))
 
-pub kept-unread : (x : Extent) (s : List ℕ) → Kept x s unread
+pub kept-unread : (t : DatomOrd) (x : Extent) (s : List ℕ) → Kept t x s unread
 unfolding isNone
-kept-unread x s =
+kept-unread t x s =
     record {
       pages = refl;
       counts = refl;
       read = λ l h e. let k : isNone none ≡ false = rw (getD-replicate 8 l none (page 0) h) at e in absurd (apart (cc));
     }
 
-module _ {x : Extent} {s : List ℕ} {path : Path} (K : Kept x s path) (l : ℕ) (h : l < 8) (p : PageId) where
-  pub kept-hit : isNone p ≡ false → pageOn path l .0 ≡ p .0 → opened.Node (countOn path l) ≡ openedOf (fetchAt (envOf eavt x s) l p)
+module _ {t : DatomOrd} {x : Extent} {s : List ℕ} {path : Path} (K : Kept t x s path) (l : ℕ) (h : l < 8) (p : PageId) where
+  pub kept-hit : isNone p ≡ false → pageOn path l .0 ≡ p .0 → opened.Node (countOn path l) ≡ openedOf (fetchAt (envOf t x s) l p)
   kept-hit real e =
       let same : pageOn path l ≡ p = ap page e in
-      node-opened x s p l (countOn path l) (rw same at (K .read l h (rw same real)))
+      node-opened t x s p l (countOn path l) (rw same at (K .read l h (rw same real)))
 
-  pub kept-set : (n : ℕ) → fetchPage eavt x s p ≡ fine (nodeAt x s p l n) → Kept x s (withPage path l p n)
+  pub kept-set : (n : ℕ) → fetchPage t x s p ≡ fine (nodeAt x s p l n) → Kept t x s (withPage path l p n)
   kept-set n e =
       record {
         pages = simp length-set (K .pages);
@@ -78,7 +79,7 @@ module _ {x : Extent} {s : List ℕ} {path : Path} (K : Kept x s path) (l : ℕ)
     where
       side :
           (j : ℕ) → j < 8 → isNone (pageOn (withPage path l p n) j) ≡ false → (b : Bool) → eqb j l ≡ b →
-          fetchPage eavt x s (pageOn (withPage path l p n) j)
+          fetchPage t x s (pageOn (withPage path l p n) j)
           ≡ fine (nodeAt x s (pageOn (withPage path l p n) j) j (countOn (withPage path l p n) j))
       side j k r true u =
           rw (
@@ -92,55 +93,55 @@ module _ {x : Extent} {s : List ℕ} {path : Path} (K : Kept x s path) (l : ℕ)
           rw (other, getD-set-other (path .counts) l j n 0 (eqb-false j l u)) (K .read j k (rw other at r))
 
 -- the path of d from page `top` of level h has come to page p, of level l and k datoms, and so have those of the gap above d
-pub record Going (x : Extent) (s : List ℕ) (d : Datom) (h : ℕ) (top : PageId) (path : Path) (g : Gap) (p : PageId) (l k : ℕ) : Type 0 where
-  pub kept : Kept x s path
-  pub read : fetchPage eavt x s p ≡ fine (nodeAt x s p l k)
-  pub rest : pathOf x s d l p ≡ pathOf x s d h top
-  pub alike : Alike x s d h top g l p
+pub record Going (t : DatomOrd) (x : Extent) (s : List ℕ) (d : Datom) (h : ℕ) (top : PageId) (path : Path) (g : Gap) (p : PageId) (l k : ℕ) : Type 0 where
+  pub kept : Kept t x s path
+  pub read : fetchPage t x s p ≡ fine (nodeAt x s p l k)
+  pub rest : pathOf t x s d l p ≡ pathOf t x s d h top
+  pub alike : Alike t x s d h top g l p
 
-module _ {x : Extent} {s : List ℕ} {d : Datom} {h : ℕ} {top : PageId} {path : Path} {gap : Gap} {p : PageId} {l k : ℕ}
-    (g : Going x s d h top path gap p l k)
+module _ {t : DatomOrd} {x : Extent} {s : List ℕ} {d : Datom} {h : ℕ} {top : PageId} {path : Path} {gap : Gap} {p : PageId} {l k : ℕ}
+    (g : Going t x s d h top path gap p l k)
   where
     -- what the calls on the page's part of the store say
-    pub gap-is : {part : List ℕ} {i : ℕ} {r : Gap} → part ≡ pageAt x s p → i ≡ rank cmpEavt d (datomsOf k part) → r ≡ narrowed gap (drop i (datomsOf k part)) → r ≡ gapIn x s d gap p k
+    pub gap-is : {part : List ℕ} {i : ℕ} {r : Gap} → part ≡ pageAt x s p → i ≡ rank (t .cmp) d (datomsOf k part) → r ≡ narrowed t gap (drop i (datomsOf k part)) → r ≡ gapIn t x s d gap p k
     gap-is e f u = u ∙ rw (← e, ← f)
 
     pub met-is :
-        {part : List ℕ} {i : ℕ} {r b : Bool} → part ≡ pageAt x s p → i ≡ rank cmpEavt d (datomsOf k part) →
-        r ≡ headSame cmpEavt d (drop i (datomsOf k part)) → r ≡ b → metIn x s d p k ≡ b
+        {part : List ℕ} {i : ℕ} {r b : Bool} → part ≡ pageAt x s p → i ≡ rank (t .cmp) d (datomsOf k part) →
+        r ≡ headSame (t .cmp) d (drop i (datomsOf k part)) → r ≡ b → metIn t x s d p k ≡ b
     met-is e f u v = rw (← e, ← f) (sym u ∙ v)
 
     pub next-is :
-        {part : List ℕ} {i c : ℕ} {r b : NextMidpoint} → part ≡ pageAt x s p → i ≡ rank cmpEavt d (datomsOf k part) → c ≡ capacity (x .size) →
-        r ≡ nextMidpoint (drop i (childrenOf c (suc k) part)) → r ≡ b → nextIn x s d p k ≡ b
+        {part : List ℕ} {i c : ℕ} {r b : NextMidpoint} → part ≡ pageAt x s p → i ≡ rank (t .cmp) d (datomsOf k part) → c ≡ capacity (x .size) →
+        r ≡ nextMidpoint (drop i (childrenOf c (suc k) part)) → r ≡ b → nextIn t x s d p k ≡ b
     next-is e f cap u v = rw (← e, ← f, ← cap) (sym u ∙ v)
 
-    pub going-met : metIn x s d p k ≡ true → Met ≡ lookOf (pathOf x s d h top)
-    going-met m = way-met x s d p l k (g .read) m ∙ ap lookOf (g .rest)
+    pub going-met : metIn t x s d p k ≡ true → Met ≡ lookOf (pathOf t x s d h top)
+    going-met m = way-met t x s d p l k (g .read) m ∙ ap lookOf (g .rest)
 
-    module _ (other : metIn x s d p k ≡ false) where
-      pub going-absent : l ≡ 0 → Absent ≡ lookOf (pathOf x s d h top)
-      going-absent z = way-absent x s d p l k (g .read) other z ∙ ap lookOf (g .rest)
+    module _ (other : metIn t x s d p k ≡ false) where
+      pub going-absent : l ≡ 0 → Absent ≡ lookOf (pathOf t x s d h top)
+      going-absent z = way-absent t x s d p l k (g .read) other z ∙ ap lookOf (g .rest)
 
-      pub going-free : l ≡ 0 → Free x s d h top (gapIn x s d gap p k)
-      going-free z = free-at (g .alike) k (g .read) z
+      pub going-free : Preorder (t .cmp) → l ≡ 0 → Free t x s d h top (gapIn t x s d gap p k)
+      going-free L z = free-at L (g .alike) k (g .read) z
 
       module _ (up : l ≡ 0 → ⊥) where
-        pub going-stuck : x .count ≤ none .0 → nextIn x s d p k ≡ Nothing → Lost none ≡ lookOf (pathOf x s d h top)
-        going-stuck few next = way-stuck x s d p l k (g .read) other up few next ∙ ap lookOf (g .rest)
+        pub going-stuck : x .count ≤ none .0 → nextIn t x s d p k ≡ Nothing → Lost none ≡ lookOf (pathOf t x s d h top)
+        going-stuck few next = way-stuck t x s d p l k (g .read) other up few next ∙ ap lookOf (g .rest)
 
-        module _ {c : PageId} (next : nextIn x s d p k ≡ Child c) where
-          pub going-lost : opened.Damaged ≡ openedOf (fetchAt (envOf eavt x s) (l - 1) c) → Lost c ≡ lookOf (pathOf x s d h top)
-          going-lost e = way-lost x s d p l k (g .read) other up c next e ∙ ap lookOf (g .rest)
+        module _ {c : PageId} (next : nextIn t x s d p k ≡ Child c) where
+          pub going-lost : opened.Damaged ≡ openedOf (fetchAt (envOf t x s) (l - 1) c) → Lost c ≡ lookOf (pathOf t x s d h top)
+          going-lost e = way-lost t x s d p l k (g .read) other up c next e ∙ ap lookOf (g .rest)
 
           pub going-down :
-              {n : ℕ} → opened.Node n ≡ openedOf (fetchAt (envOf eavt x s) (l - 1) c) → l - 1 < 8 →
-              Going x s d h top (withPage path (l - 1) c n) (gapIn x s d gap p k) c (l - 1) n
-          going-down {n} e low =
-              let read = opened-node x s c (l - 1) n e in
+              Preorder (t .cmp) → {n : ℕ} → opened.Node n ≡ openedOf (fetchAt (envOf t x s) (l - 1) c) → l - 1 < 8 →
+              Going t x s d h top (withPage path (l - 1) c n) (gapIn t x s d gap p k) c (l - 1) n
+          going-down L {n} e low =
+              let read = opened-node t x s c (l - 1) n e in
               record {
                 kept = kept-set (g .kept) (l - 1) low c n read;
                 read = read;
-                rest = way-down x s d p l k (g .read) other up c next n read ∙ g .rest;
-                alike = alike-down (g .alike) k (g .read) up c next n read;
+                rest = way-down t x s d p l k (g .read) other up c next n read ∙ g .rest;
+                alike = alike-down L (g .alike) k (g .read) up c next n read;
               }

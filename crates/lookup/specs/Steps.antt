@@ -5,7 +5,6 @@ use native.Mathlib.Omega.{arith}
 use mathlib.Core.Bool.{Bool, true, false}
 use mathlib.Core.List.{List, [], _∷_}
 use mathlib.Core.Path.{_≡_, refl, sym, ap, _∙_}
-use borrow.Author.Tests.{le-ltb}
 use lib.ListN.{drop}
 use Rattle.store.specs.declared.PageId.{PageId}
 use Rattle.store.specs.declared.Extent.{Extent}
@@ -16,7 +15,8 @@ use Rattle.store.specs.Cells.{cells-end}
 use Rattle.datom.specs.declared.Datom.{Datom}
 use Rattle.datom.specs.Datom.{datomAt, datomOf, datomsOf}
 use Rattle.datom.specs.Laws.{datoms-from}
-use Rattle.index.specs.Order.{isSame, cmpEavt, eavt}
+use Rattle.index.specs.Order.{DatomOrd, isSame}
+use Rattle.answer.specs.declared.Fault.{Fault}
 use Rattle.answer.specs.declared.Refusal.the-variants.{Repeated, Damaged}
 use Rattle.answer.specs.declared.NextMidpoint.{NextMidpoint}
 use Rattle.answer.specs.declared.NextMidpoint.the-variants.{Child, Nothing}
@@ -26,10 +26,11 @@ use Rattle.rules.specs.Tree.{Fetched, faulty, fine, Env, atLevel, fetchAt}
 use Rattle.rules.specs.Lookup as rules
 use Rattle.rules.specs.Lookup.{clear, found, lookup, afterLook, lookupAll}
 use Rattle.rules.specs.Store.{pageAt, fetchPage, envOf}
+use Rattle.memory_store.specs.FetchLaws.{none-missing}
 use Rattle.memory_store.specs.Readable.{nodeAt}
 use Rattle.lookup.specs.declared.Look.the-variants.{Met, Absent, Lost}
 use Rattle.memory_store.specs.declared.found.Opened.the-variants as opened
-use Rattle.memory_store.specs.Opened.{openedOf, at-level}
+use Rattle.memory_store.specs.Opened.{openedOf, at-level, damaged-faulty}
 use Rattle.lookup.specs.Look.{lookOf, pathOf}
 
 -- the equal datom at an index, and past the end
@@ -43,70 +44,72 @@ module _ (cmp : Datom → Datom → Ordering) (d : Datom) (n i : ℕ) (s : List 
   same-at h = rw (datoms-from n i s h)
 
 -- a path that cannot go on
+lost-faulty : (e : Env) (d : Datom) (l : ℕ) (p : PageId) (f : Fault) → lookOf (lookup e d l p (faulty f)) ≡ Lost p
+unfolding lookup lookOf
+lost-faulty e d zero p f = refl
+lost-faulty e d (suc l) p f = refl
+
 lost-at : (e : Env) (d : Datom) (l : ℕ) (p : PageId) (r : Fetched) → opened.Damaged ≡ openedOf r → lookOf (lookup e d l p r) ≡ Lost p
-unfolding lookup lookOf openedOf
-lost-at e d zero p (faulty f) h = refl
-lost-at e d (suc l) p (faulty f) h = refl
-lost-at e d l p (fine n) h = absurd (apart (cc))
+lost-at e d l p r h = let w = damaged-faulty r h in rw (w .1) (lost-faulty e d l p (w .0))
 
 -- "none" is no page
-none-lost : (x : Extent) (s : List ℕ) (l : ℕ) → x .count ≤ none .0 → opened.Damaged ≡ openedOf (fetchAt (envOf eavt x s) l none)
-unfolding openedOf fetchAt atLevel envOf fetchPage
-none-lost x s l h = rw (le-ltb (none .0) (x .count) h)
+none-lost : (t : DatomOrd) (x : Extent) (s : List ℕ) (l : ℕ) → x .count ≤ none .0 → opened.Damaged ≡ openedOf (fetchAt (envOf t x s) l none)
+unfolding openedOf fetchAt atLevel envOf
+none-lost t x s l h = rw (none-missing t x s h)
 
 -- in page p, of k datoms: the index of the first datom not below d, whether that is equal, and the first real child from there on
-abbrev pub seekIn : Extent → List ℕ → Datom → PageId → ℕ → ℕ
-seekIn x s d p k = rank cmpEavt d (datomsOf k (pageAt x s p))
+abbrev pub seekIn : DatomOrd → Extent → List ℕ → Datom → PageId → ℕ → ℕ
+seekIn t x s d p k = rank (t .cmp) d (datomsOf k (pageAt x s p))
 
-abbrev pub metIn : Extent → List ℕ → Datom → PageId → ℕ → Bool
-metIn x s d p k = headSame cmpEavt d (drop (seekIn x s d p k) (datomsOf k (pageAt x s p)))
+abbrev pub metIn : DatomOrd → Extent → List ℕ → Datom → PageId → ℕ → Bool
+metIn t x s d p k = headSame (t .cmp) d (drop (seekIn t x s d p k) (datomsOf k (pageAt x s p)))
 
-abbrev pub nextIn : Extent → List ℕ → Datom → PageId → ℕ → NextMidpoint
-nextIn x s d p k = nextMidpoint (drop (seekIn x s d p k) (childrenOf (capacity (x .size)) (suc k) (pageAt x s p)))
+abbrev pub nextIn : DatomOrd → Extent → List ℕ → Datom → PageId → ℕ → NextMidpoint
+nextIn t x s d p k = nextMidpoint (drop (seekIn t x s d p k) (childrenOf (capacity (x .size)) (suc k) (pageAt x s p)))
 
 -- the ways of a path through a page that was read
-module _ (x : Extent) (s : List ℕ) (d : Datom) (p : PageId) (l k : ℕ) (read : fetchPage eavt x s p ≡ fine (nodeAt x s p l k)) where
-  met-at : metIn x s d p k ≡ true → (m : ℕ) → lookup (envOf eavt x s) d m p (fine (nodeAt x s p l k)) ≡ rules.met p (seekIn x s d p k)
-  unfolding lookup envOf eavt nodeOf
+module _ (t : DatomOrd) (x : Extent) (s : List ℕ) (d : Datom) (p : PageId) (l k : ℕ) (read : fetchPage t x s p ≡ fine (nodeAt x s p l k)) where
+  met-at : metIn t x s d p k ≡ true → (m : ℕ) → lookup (envOf t x s) d m p (fine (nodeAt x s p l k)) ≡ rules.met p (seekIn t x s d p k)
+  unfolding lookup envOf nodeOf
   met-at h zero = rw h
   met-at h (suc m) = rw (lookup, h)
 
-  pub way-met : metIn x s d p k ≡ true → Met ≡ lookOf (pathOf x s d l p)
+  pub way-met : metIn t x s d p k ≡ true → Met ≡ lookOf (pathOf t x s d l p)
   unfolding lookOf
   way-met h = rw (read, met-at h l)
 
-  module _ (other : metIn x s d p k ≡ false) where
-    absent-at : Absent ≡ lookOf (lookup (envOf eavt x s) d 0 p (fine (nodeAt x s p l k)))
-    unfolding lookOf lookup envOf eavt nodeOf
+  module _ (other : metIn t x s d p k ≡ false) where
+    absent-at : Absent ≡ lookOf (lookup (envOf t x s) d 0 p (fine (nodeAt x s p l k)))
+    unfolding lookOf lookup envOf nodeOf
     absent-at = rw other
 
-    pub way-absent : l ≡ 0 → Absent ≡ lookOf (pathOf x s d l p)
-    way-absent z = rw read (absent-at ∙ ap (λ (m : ℕ). lookOf (lookup (envOf eavt x s) d m p (fine (nodeAt x s p l k)))) (sym z))
+    pub way-absent : l ≡ 0 → Absent ≡ lookOf (pathOf t x s d l p)
+    way-absent z = rw read (absent-at ∙ ap (λ (m : ℕ). lookOf (lookup (envOf t x s) d m p (fine (nodeAt x s p l k)))) (sym z))
 
     -- on to a child, one level lower
     module _ (up : l ≡ 0 → ⊥) where
       down-at :
-          (c : PageId) → rules.childOf (nextIn x s d p k) ≡ c → (m : ℕ) →
-          lookup (envOf eavt x s) d (suc m) p (fine (nodeAt x s p l k)) ≡ lookup (envOf eavt x s) d m c (fetchAt (envOf eavt x s) m c)
-      unfolding lookup envOf eavt nodeOf
+          (c : PageId) → rules.childOf (nextIn t x s d p k) ≡ c → (m : ℕ) →
+          lookup (envOf t x s) d (suc m) p (fine (nodeAt x s p l k)) ≡ lookup (envOf t x s) d m c (fetchAt (envOf t x s) m c)
+      unfolding lookup envOf nodeOf
       down-at c next m = rw (lookup, other, next)
 
       down :
-          (c : PageId) → rules.childOf (nextIn x s d p k) ≡ c →
-          pathOf x s d l p ≡ lookup (envOf eavt x s) d (l - 1) c (fetchAt (envOf eavt x s) (l - 1) c)
+          (c : PageId) → rules.childOf (nextIn t x s d p k) ≡ c →
+          pathOf t x s d l p ≡ lookup (envOf t x s) d (l - 1) c (fetchAt (envOf t x s) (l - 1) c)
       down c next =
           let e : l ≡ suc (l - 1) = omega arith in
-          rw read (ap (λ (m : ℕ). lookup (envOf eavt x s) d m p (fine (nodeAt x s p l k))) e ∙ down-at c next (l - 1))
+          rw read (ap (λ (m : ℕ). lookup (envOf t x s) d m p (fine (nodeAt x s p l k))) e ∙ down-at c next (l - 1))
 
-      pub way-stuck : x .count ≤ none .0 → nextIn x s d p k ≡ Nothing → Lost none ≡ lookOf (pathOf x s d l p)
-      way-stuck h next = rw (down none (ap rules.childOf next)) (sym (lost-at _ d (l - 1) none _ (none-lost x s (l - 1) h)))
+      pub way-stuck : x .count ≤ none .0 → nextIn t x s d p k ≡ Nothing → Lost none ≡ lookOf (pathOf t x s d l p)
+      way-stuck h next = rw (down none (ap rules.childOf next)) (sym (lost-at _ d (l - 1) none _ (none-lost t x s (l - 1) h)))
 
-      module _ (c : PageId) (next : nextIn x s d p k ≡ Child c) where
-        pub way-lost : opened.Damaged ≡ openedOf (fetchAt (envOf eavt x s) (l - 1) c) → Lost c ≡ lookOf (pathOf x s d l p)
+      module _ (c : PageId) (next : nextIn t x s d p k ≡ Child c) where
+        pub way-lost : opened.Damaged ≡ openedOf (fetchAt (envOf t x s) (l - 1) c) → Lost c ≡ lookOf (pathOf t x s d l p)
         way-lost h = rw (down c (ap rules.childOf next)) (sym (lost-at _ d (l - 1) c _ h))
 
-        pub way-down : (n : ℕ) → fetchPage eavt x s c ≡ fine (nodeAt x s c (l - 1) n) → pathOf x s d (l - 1) c ≡ pathOf x s d l p
-        way-down n h = sym (down c (ap rules.childOf next) ∙ ap (lookup (envOf eavt x s) d (l - 1) c) (at-level x s c (l - 1) n h))
+        pub way-down : (n : ℕ) → fetchPage t x s c ≡ fine (nodeAt x s c (l - 1) n) → pathOf t x s d (l - 1) c ≡ pathOf t x s d l p
+        way-down n h = sym (down c (ap rules.childOf next) ∙ ap (lookup (envOf t x s) d (l - 1) c) (at-level t x s c (l - 1) n h))
 
 -- a next midpoint is real
 pub next-real : (cs : List PageId) (c : PageId) → nextMidpoint cs ≡ Child c → isNone c ≡ false

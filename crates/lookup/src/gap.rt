@@ -5,6 +5,7 @@ ghost use mathlib.Core.Path.{_≡_};
 ghost use Prim.Native.Nat.{_+_, _*_, _≤_};
 ghost use lib.ListN.{length, drop};
 ghost use Rattle.datom.specs.Datom.{datomsOf};
+ghost use Rattle.index.specs.Order.{eavt};
 ghost use Rattle.rules.specs.Node.{rankBy};
 ghost use Rattle.lookup.specs.Gap.{inside, narrowed};
 
@@ -18,7 +19,7 @@ pub enum Gap {
 // The gap as far as the datom at index i, of k, of one more page.
 pub fn narrow(gap: Gap, page: &[u8], k: usize, i: usize) -> Gap
     requires { ⌜ 32 * k ≤ length (now page) ⌝ }
-    ensures { λ r. ⌜ r ≡ narrowed gap (drop i (datomsOf k (now (page .entry)))) ⌝ }
+    ensures { λ r. ⌜ r ≡ narrowed eavt gap (drop i (datomsOf k (now (page .entry)))) ⌝ }
 {
     if k <= i {
         return gap;
@@ -36,7 +37,7 @@ pub fn narrow(gap: Gap, page: &[u8], k: usize, i: usize) -> Gap
 
 // Whether d lies below the end of the gap.
 fn is_inside(gap: Gap, d: Datom) -> bool
-    ensures { λ r. ⌜ r ≡ inside gap d ⌝ }
+    ensures { λ r. ⌜ r ≡ inside eavt gap d ⌝ }
 {
     let Gap::Below(high) = gap else {
         return true;
@@ -51,7 +52,7 @@ fn is_inside(gap: Gap, d: Datom) -> bool
 // The index of the first datom of the batch of n, from an index on, that is past the end of the gap.
 pub fn skip(gap: Gap, b: &[u8], n: usize, from: usize) -> usize
     requires { ⌜ (32 * n ≤ length (now b)) × (from ≤ n) ⌝ }
-    ensures { λ r. ⌜ r ≡ from + rankBy (inside gap) (drop from (datomsOf n (now (b .entry)))) ⌝ }
+    ensures { λ r. ⌜ r ≡ from + rankBy (inside eavt gap) (drop from (datomsOf n (now (b .entry)))) ⌝ }
 {
     let mut i = from;
     while i < n {

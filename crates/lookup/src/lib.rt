@@ -20,12 +20,12 @@ ghost use lib.ListN.{length, drop};
 ghost use Rattle.store.specs.Page.{isNone};
 ghost use Rattle.store.specs.Size.{capacity};
 ghost use Rattle.datom.specs.Datom.{datomsOf};
-ghost use Rattle.index.specs.Order.{cmpEavt, eavt};
+ghost use Rattle.index.specs.Order.{eavt};
 ghost use Rattle.rules.specs.Page.{rising};
 ghost use Rattle.rules.specs.Node.{headSame};
 ghost use Rattle.rules.specs.Tree.{fine, fetchAt};
 ghost use Rattle.rules.specs.Lookup.{lookupAll};
-ghost use Rattle.rules.specs.Store.{badStore, pageAt, fetchPage, envOf};
+ghost use Rattle.rules.specs.Store.{badStore, fetchPage, envOf};
 ghost use Rattle.batch.specs.Finding.{findingOf};
 ghost use Rattle.memory_store.specs.Readable.{nodeAt};
 ghost use Rattle.memory_store.specs.Opened.{openedOf};
@@ -66,20 +66,10 @@ struct Looked {
     gap: Gap,
 }
 
-// The page's own part of the store.
-fn part_of(store: &[u8], extent: Extent, page: PageId) -> &[u8]
-    requires { ⌜ (badStore extent (now store) ≡ false) × (page .0 < extent .count) ⌝ }
-    ensures { λ r. ⌜ now r ≡ pageAt extent (now (store .entry)) page ⌝ }
-{
-    let size = extent.size as usize;
-    let at = page.0 as usize * size;
-    &store[at..at + size]
-}
-
 // Whether there is a datom at index i, of k, and it is equal to d.
 fn is_met(page: &[u8], k: usize, i: usize, d: Datom) -> bool
     requires { ⌜ 32 * k ≤ length (now page) ⌝ }
-    ensures { λ r. ⌜ r ≡ headSame cmpEavt d (drop i (datomsOf k (now (page .entry)))) ⌝ }
+    ensures { λ r. ⌜ r ≡ headSame (eavt .cmp) d (drop i (datomsOf k (now (page .entry)))) ⌝ }
 {
     if k <= i {
         return false;
@@ -94,7 +84,7 @@ fn is_met(page: &[u8], k: usize, i: usize, d: Datom) -> bool
 // Page `page`, which is to be of this level. It may have been read on the last path: what it is opened as is then known, since the store
 // is the same.
 fn open_at(store: &[u8], extent: Extent, c: usize, path: Path, level: usize, page: PageId) -> Opened
-    requires { ⌜ (badStore extent (now store) ≡ false) × (c ≡ capacity (extent .size)) × Kept extent (now store) path × (level < 8) × (isNone page ≡ false) ⌝ }
+    requires { ⌜ (badStore extent (now store) ≡ false) × (c ≡ capacity (extent .size)) × Kept eavt extent (now store) path × (level < 8) × (isNone page ≡ false) ⌝ }
     ensures { λ r. ⌜ r ≡ openedOf (fetchAt (envOf eavt extent (now (store .entry))) level page) ⌝ }
 {
     let last = path.pages[level];
@@ -115,8 +105,8 @@ fn lookup_one(
     path: Path,
     d: Datom,
 ) -> Looked
-    requires { ⌜ (badStore extent (now store) ≡ false) × (c ≡ capacity (extent .size)) × Kept extent (now store) path × (fetchPage eavt extent (now store) root ≡ fine (nodeAt extent (now store) root level count)) ⌝ }
-    ensures { λ r. ⌜ (r .look ≡ lookOf (pathOf extent (now (store .entry)) d level root)) × Kept extent (now (store .entry)) (r .path) × Leaves extent (now (store .entry)) d level root (r .look) (r .gap) ⌝ }
+    requires { ⌜ (badStore extent (now store) ≡ false) × (c ≡ capacity (extent .size)) × Kept eavt extent (now store) path × (fetchPage eavt extent (now store) root ≡ fine (nodeAt extent (now store) root level count)) ⌝ }
+    ensures { λ r. ⌜ (r .look ≡ lookOf (pathOf eavt extent (now (store .entry)) d level root)) × Kept eavt extent (now (store .entry)) (r .path) × Leaves eavt extent (now (store .entry)) d level root (r .look) (r .gap) ⌝ }
 {
     let mut path = path;
     let mut gap = Gap::Open;
@@ -124,7 +114,7 @@ fn lookup_one(
     let mut l = level;
     let mut k = count;
     loop {
-        let part = part_of(store, extent, page);
+        let part = memory_store::part_of(store, extent, page);
         let i = access::first_not_below(part, k, d);
         if is_met(part, k, i, d) {
             return Looked {
@@ -175,7 +165,7 @@ pub fn lookup_all(
     b: &[u8],
     n: usize,
 ) -> Finding
-    requires { ⌜ (badStore extent (now store) ≡ false) × (c ≡ capacity (extent .size)) × (fetchPage eavt extent (now store) root ≡ fine (nodeAt extent (now store) root level count)) × (32 * n ≤ length (now b)) × (rising cmpEavt (datomsOf n (now b)) ≡ true) ⌝ }
+    requires { ⌜ (badStore extent (now store) ≡ false) × (c ≡ capacity (extent .size)) × (fetchPage eavt extent (now store) root ≡ fine (nodeAt extent (now store) root level count)) × (32 * n ≤ length (now b)) × (rising (eavt .cmp) (datomsOf n (now b)) ≡ true) ⌝ }
     ensures { λ r. ⌜ findingOf r ≡ lookupAll (envOf eavt extent (now (store .entry))) level root (fetchPage eavt extent (now (store .entry)) root) 0 (datomsOf n (now (b .entry))) ⌝ }
 {
     let mut path = Path::new();

@@ -8,9 +8,11 @@ use mathlib.Core.List.{List, []}
 use mathlib.Core.Path.{_≡_, refl, sym, _∙_}
 use borrow.Author.Tests.{eqb-false, ltb-true, ltb-false, lt-ltb, le-ltb}
 use lib.Dec.{eqb, ltb}
-use lib.ListN.{length}
+use lib.ListN.{length, drop, length-drop}
+use lib.Seq.{length-take-le}
 use Rattle.store.specs.declared.PageId.{PageId}
 use Rattle.store.specs.declared.Extent.{Extent}
+use Rattle.store.specs.Page.{none, isNone}
 use Rattle.store.specs.Size.{capacity}
 use Rattle.store.specs.Laws.{apart, Known, known-size}
 use Rattle.answer.specs.declared.Refusal.{Refusal}
@@ -18,9 +20,10 @@ use Rattle.answer.specs.declared.Refusal.the-variants.{BadStore, NoPage}
 use Rattle.answer.specs.declared.Fetch.the-variants.{Given, Refused}
 use Rattle.answer.specs.declared.Rule.{Rule}
 use Rattle.answer.specs.declared.Fault.the-variants.{Missing, Breaks}
-use Rattle.index.specs.Order.{eavt}
+use Rattle.index.specs.Order.{DatomOrd}
 use Rattle.rules.specs.Page.{readPage}
-use Rattle.rules.specs.Store.{badStore, fetchFault, fetchAnswer, pageAt, fetched, fetchPage}
+use Rattle.rules.specs.Tree.{faulty}
+use Rattle.rules.specs.Store.{badStore, badRoot, fetchFault, fetchAnswer, pageAt, fetched, fetchPage}
 use Rattle.memory_store.specs.declared.reader.Reading.the-variants.{Broken, Good}
 use Rattle.memory_store.specs.declared.found.Found.the-variants.{Faulty, Fine}
 use Rattle.memory_store.specs.Reading.{said, told}
@@ -55,6 +58,26 @@ page-inside x s p o h =
     let more : (p + 1) * x .size ≤ x .count * x .size = mul-le-mul-right (x .size) (omega arith) in
     omega (arith, o .holds, add-mul p 1 (x .size), one-mul (x .size))
 
+-- and is all of its own part
+pub page-long : (x : Extent) (s : List ℕ) (p : PageId) → InOrder x s → p .0 < x .count → length (pageAt x s p) ≡ x .size
+unfolding pageAt
+page-long x s p o h =
+    length-take-le (x .size) (drop (p .0 * x .size) s) (omega (arith, page-inside x s (p .0) o h, length-drop (p .0 * x .size) s))
+
+-- the ways through the test of a root
+module _ (x : Extent) (root : PageId) where
+  pub root-none : isNone root ≡ true → false ≡ badRoot x root
+  unfolding badRoot
+  root-none e = rw e
+
+  pub root-past : isNone root ≡ false → x .count ≤ root .0 → true ≡ badRoot x root
+  unfolding badRoot
+  root-past e h = rw (e, le-ltb (root .0) (x .count) h)
+
+  pub root-given : isNone root ≡ false → root .0 < x .count → false ≡ badRoot x root
+  unfolding badRoot
+  root-given e h = rw (e, lt-ltb (root .0) (x .count) h)
+
 module _ (x : Extent) (s : List ℕ) (p : PageId) where
   -- the tests, in their order
   pub fetch-bad : badStore x s ≡ true → fetchAnswer x s p ≡ Refused BadStore
@@ -82,9 +105,6 @@ module _ (x : Extent) (s : List ℕ) (p : PageId) where
   unfolding fetched fetchFault
   given-fetched e = let w = given e in rw (w .0, lt-ltb (p .0) (x .count) (w .1))
 
-  pub given-inside : fetchAnswer x s p ≡ Given → p .0 * x .size + x .size ≤ length s
-  given-inside e = let w = given e in page-inside x s (p .0) (in-order x s (w .0)) (w .1)
-
   pub refused-fetched : (r : Refusal) → fetchAnswer x s p ≡ Refused r → fetched x s p ≡ []
   unfolding fetchAnswer fetched fetchFault
   refused-fetched r e = side (badStore x s) refl (ltb (p .0) (x .count)) refl
@@ -94,21 +114,26 @@ module _ (x : Extent) (s : List ℕ) (p : PageId) where
       side false u true v = let k : Given ≡ Refused r = rw (u, v) at e in absurd (apart (cc))
       side false u false v = rw (u, v)
 
+-- "none" is no page, whatever the number of pages, which is a word
+pub none-missing : (t : DatomOrd) (x : Extent) (s : List ℕ) → x .count ≤ none .0 → fetchPage t x s none ≡ faulty Missing
+unfolding fetchPage
+none-missing t x s h = rw (le-ltb (none .0) (x .count) h)
+
 -- a page as it is read during a call
-module _ (x : Extent) (s : List ℕ) (p : PageId) where
-  pub found-missing : x .count ≤ p .0 → told x s p (Faulty Missing) ≡ fetchPage eavt x s p
+module _ (t : DatomOrd) (x : Extent) (s : List ℕ) (p : PageId) where
+  pub found-missing : x .count ≤ p .0 → told x s p (Faulty Missing) ≡ fetchPage t x s p
   unfolding told fetchPage
   found-missing h = rw (le-ltb (p .0) (x .count) h)
 
   module _ (h : p .0 < x .count) where
     pub found-broken :
-        (r : Rule) → said (capacity (x .size)) (pageAt x s p) (Broken r) ≡ readPage eavt (capacity (x .size)) p (pageAt x s p) →
-        told x s p (Faulty (Breaks r)) ≡ fetchPage eavt x s p
+        (r : Rule) → said (capacity (x .size)) (pageAt x s p) (Broken r) ≡ readPage t (capacity (x .size)) p (pageAt x s p) →
+        told x s p (Faulty (Breaks r)) ≡ fetchPage t x s p
     unfolding told said fetchPage
     found-broken r e = rw (lt-ltb (p .0) (x .count) h, ← e)
 
     pub found-fine :
-        (l k : ℕ) → said (capacity (x .size)) (pageAt x s p) (Good l k) ≡ readPage eavt (capacity (x .size)) p (pageAt x s p) →
-        told x s p (Fine l k) ≡ fetchPage eavt x s p
+        (l k : ℕ) → said (capacity (x .size)) (pageAt x s p) (Good l k) ≡ readPage t (capacity (x .size)) p (pageAt x s p) →
+        told x s p (Fine l k) ≡ fetchPage t x s p
     unfolding told said fetchPage
     found-fine l k e = rw (lt-ltb (p .0) (x .count) h, ← e)

@@ -10,8 +10,8 @@ use Rattle.store.specs.Laws.{apart, cells-length}
 use Rattle.datom.specs.declared.Datom.{Datom}
 use Rattle.datom.specs.Datom.{datomAt, datomOf, datomsOf}
 use Rattle.datom.specs.Laws.{datoms-at}
-use Rattle.index.specs.Order.{isLess, cmpEavt}
-use Rattle.index.specs.Laws.{Preorder, eavt-preorder}
+use Rattle.index.specs.Order.{DatomOrd, isLess}
+use Rattle.index.specs.Laws.{Preorder}
 use Rattle.rules.specs.Page.{rising}
 use Rattle.rules.specs.Node.{rankBy, below, rank}
 use Rattle.rules.specs.Lists.{in-getD, Rising, less, rising-in, rank-most}
@@ -69,15 +69,16 @@ module _ (cmp : Datom → Datom → Ordering) (L : Preorder cmp) where
       ]
 
 -- the two ways of a halving, at index i of k datoms
-module _ (k : ℕ) (s : List ℕ) (d : Datom) (i : ℕ) (h : i < k) where
+module _ (t : DatomOrd) (k : ℕ) (s : List ℕ) (d : Datom) (i : ℕ) (h : i < k) where
   len : i < length (datomsOf k s)
   len = omega (arith, cells-length datomOf 32 k s)
 
-  pub seek-right : rising cmpEavt (datomsOf k s) ≡ true → isLess (cmpEavt (datomAt s (32 * i)) d) ≡ true → i < rank cmpEavt d (datomsOf k s)
-  seek-right r e = rank-past cmpEavt eavt-preorder d (datomsOf k s) i d r len (rw (datoms-at k i s d h) e)
+  pub seek-right :
+      Preorder (t .cmp) → rising (t .cmp) (datomsOf k s) ≡ true → isLess (t .cmp (datomAt s (32 * i)) d) ≡ true → i < rank (t .cmp) d (datomsOf k s)
+  seek-right L r e = rank-past (t .cmp) L d (datomsOf k s) i d r len (rw (datoms-at k i s d h) e)
 
-  pub seek-left : isLess (cmpEavt (datomAt s (32 * i)) d) ≡ false → rank cmpEavt d (datomsOf k s) ≤ i
-  seek-left e = rank-upto (below cmpEavt d) (datomsOf k s) i d len (rw (datoms-at k i s d h) e)
+  pub seek-left : isLess (t .cmp (datomAt s (32 * i)) d) ≡ false → rank (t .cmp) d (datomsOf k s) ≤ i
+  seek-left e = rank-upto (below (t .cmp) d) (datomsOf k s) i d len (rw (datoms-at k i s d h) e)
 
-pub rank-within : (k : ℕ) (s : List ℕ) (d : Datom) → rank cmpEavt d (datomsOf k s) ≤ k
-rank-within k s d = omega (arith, rank-most (below cmpEavt d) (datomsOf k s), cells-length datomOf 32 k s)
+pub rank-within : (t : DatomOrd) (k : ℕ) (s : List ℕ) (d : Datom) → rank (t .cmp) d (datomsOf k s) ≤ k
+rank-within t k s d = omega (arith, rank-most (below (t .cmp) d) (datomsOf k s), cells-length datomOf 32 k s)

@@ -10,7 +10,7 @@ use lib.ListN.{drop}
 use lib.Dec.{leb, ltb, eqb}
 use Rattle.store.specs.declared.PageId.{PageId}
 use Rattle.store.specs.Words.{wordAt, cells}
-use Rattle.store.specs.Page.{page, isNone, pageOf}
+use Rattle.store.specs.Page.{page, none, isNone, pageOf}
 use Rattle.store.specs.Cells.{cells-end}
 use Rattle.datom.specs.declared.Datom.{Datom}
 use Rattle.datom.specs.Value.{storedValue}
@@ -67,23 +67,23 @@ pub stored-word : (s : List ℕ) (at : ℕ) (b : Bool) → storedValue (record {
 unfolding storedDatom datomAt
 stored-word s at b e = e
 
-pub none-word : (w : ℕ) → w ≡ 0xffff_ffff_ffff_ffff → isNone (page w) ≡ true
+pub none-word : (w : ℕ) → w ≡ none .0 → isNone (page w) ≡ true
 unfolding isNone
-none-word w e = eq-eqb w 0xffff_ffff_ffff_ffff e
+none-word w e = eq-eqb w (none .0) e
 
-pub real-word : (w : ℕ) → (w ≡ 0xffff_ffff_ffff_ffff → ⊥) → isNone (page w) ≡ false
+pub real-word : (w : ℕ) → (w ≡ none .0 → ⊥) → isNone (page w) ≡ false
 unfolding isNone
-real-word w e = ne-eqb w 0xffff_ffff_ffff_ffff e
+real-word w e = ne-eqb w (none .0) e
 
 -- none or below, by the number after it, which is 0 for none
 pub older-word : (id : PageId) (w : ℕ) → w < 2 ^ 64 → leb ((w + 1) % 2 ^ 64) (id .0) ≡ older id (page w)
 unfolding older isNone
-older-word id w h = side (eqb w 0xffff_ffff_ffff_ffff) refl (ltb w (id .0)) refl
+older-word id w h = side (eqb w (none .0)) refl (ltb w (id .0)) refl
   where
-    side : (a : Bool) → eqb w 0xffff_ffff_ffff_ffff ≡ a → (b : Bool) → ltb w (id .0) ≡ b → leb ((w + 1) % 2 ^ 64) (id .0) ≡ (eqb w 0xffff_ffff_ffff_ffff || ltb w (id .0))
-    side true e b f = rw (e, le-leb ((w + 1) % 2 ^ 64) (id .0) (omega (arith, eqb-true w 0xffff_ffff_ffff_ffff e)))
-    side false e true f = rw (e, f, le-leb ((w + 1) % 2 ^ 64) (id .0) (omega (arith, eqb-false w 0xffff_ffff_ffff_ffff e, ltb-true w (id .0) f)))
-    side false e false f = rw (e, f, lt-leb ((w + 1) % 2 ^ 64) (id .0) (omega (arith, eqb-false w 0xffff_ffff_ffff_ffff e, ltb-false w (id .0) f)))
+    side : (a : Bool) → eqb w (none .0) ≡ a → (b : Bool) → ltb w (id .0) ≡ b → leb ((w + 1) % 2 ^ 64) (id .0) ≡ (eqb w (none .0) || ltb w (id .0))
+    side true e b f = rw (e, le-leb ((w + 1) % 2 ^ 64) (id .0) (omega (arith, eqb-true w (none .0) e)))
+    side false e true f = rw (e, f, le-leb ((w + 1) % 2 ^ 64) (id .0) (omega (arith, eqb-false w (none .0) e, ltb-true w (id .0) f)))
+    side false e false f = rw (e, f, lt-leb ((w + 1) % 2 ^ 64) (id .0) (omega (arith, eqb-false w (none .0) e, ltb-false w (id .0) f)))
 
 -- no page is below page 0
 pub older-zero : (l : List PageId) → all (older (page 0)) l ≡ all isNone l

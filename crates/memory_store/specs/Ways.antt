@@ -12,8 +12,8 @@ use Rattle.store.specs.Words.{wordAt, cells}
 use Rattle.store.specs.Page.{none, isNone, pageOf}
 use Rattle.store.specs.Cells.{pages-at}
 use Rattle.store.specs.Laws.{cells-length}
-use Rattle.datom.specs.Datom.{datomOf, datomsOf, storedDatom}
-use Rattle.index.specs.Order.{cmpEavt, eavt}
+use Rattle.datom.specs.Datom.{datomOf, datomsOf}
+use Rattle.index.specs.Order.{DatomOrd}
 use Rattle.answer.specs.declared.Rule.the-variants.{Level, Count, Form, Order, LeafChild, LastChild, ChildId}
 use Rattle.rules.specs.Page.{broken, good, nodeOf, levelOf, countOf, all, rising, older, childRules, nodeRules, readPage, childAt, childrenOf}
 use Rattle.memory_store.specs.Steps.{none-word, real-word}
@@ -33,11 +33,11 @@ module _ (id : PageId) (c l k : ℕ) (s : List ℕ) where
     way-flat n = simp (eq-eqb l 0 z, ← add-one, n)
 
   module _ (z : l ≡ 0 → ⊥) where
-    pub way-last : wordAt s (32 * c + 8 * k) ≡ 0xffff_ffff_ffff_ffff → broken LastChild ≡ childRules id (nodeOf c l k s)
+    pub way-last : wordAt s (32 * c + 8 * k) ≡ none .0 → broken LastChild ≡ childRules id (nodeOf c l k s)
     unfolding childRules nodeOf
     way-last n = rw (ne-eqb l 0 z, last-child c k s, none-word _ n)
 
-    module _ (n : wordAt s (32 * c + 8 * k) ≡ 0xffff_ffff_ffff_ffff → ⊥) where
+    module _ (n : wordAt s (32 * c + 8 * k) ≡ none .0 → ⊥) where
       pub way-child : all (older id) (cells pageOf 8 (k + 1) (drop (32 * c) s)) ≡ false → broken ChildId ≡ childRules id (nodeOf c l k s)
       unfolding childRules nodeOf
       way-child o = simp (ne-eqb l 0 z, last-child c k s, real-word _ n, ← add-one, o)
@@ -46,28 +46,27 @@ module _ (id : PageId) (c l k : ℕ) (s : List ℕ) where
       unfolding childRules nodeOf
       way-tall o = simp (ne-eqb l 0 z, last-child c k s, real-word _ n, ← add-one, o)
 
-module _ (c : ℕ) (id : PageId) (s : List ℕ) where
-  pub way-level : 7 < getD s (40 * c + 8) 0 → broken Level ≡ readPage eavt c id s
-  unfolding readPage levelOf
-  way-level h = simp (lt-leb _ _ h)
+-- by the level l and the count k that the header tells
+module _ (t : DatomOrd) (c : ℕ) (id : PageId) (s : List ℕ) (l : ℕ) (el : l ≡ levelOf c s) where
+  pub way-level : 7 < l → broken Level ≡ readPage t c id s
+  unfolding readPage
+  way-level h = simp (← el, lt-leb _ _ h)
 
-  module _ (hl : getD s (40 * c + 8) 0 ≤ 7) where
-    pub way-count : c < getD s (40 * c + 9) 0 → broken Count ≡ readPage eavt c id s
-    unfolding readPage levelOf countOf
-    way-count h = simp (le-leb _ _ hl, lt-leb _ _ h)
+  module _ (k : ℕ) (ek : k ≡ countOf c s) (hl : l ≤ 7) where
+    pub way-count : c < k → broken Count ≡ readPage t c id s
+    unfolding readPage
+    way-count h = simp (← el, ← ek, le-leb _ _ hl, lt-leb _ _ h)
 
-    module _ (hk : getD s (40 * c + 9) 0 ≤ c) where
-      pub way-form : all storedDatom (datomsOf (getD s (40 * c + 9) 0) s) ≡ false → broken Form ≡ readPage eavt c id s
-      unfolding readPage levelOf countOf nodeRules nodeOf eavt
-      way-form f = simp (le-leb _ _ hl, le-leb _ _ hk, f)
+    module _ (hk : k ≤ c) where
+      pub way-form : all (t .stored) (datomsOf k s) ≡ false → broken Form ≡ readPage t c id s
+      unfolding readPage nodeRules nodeOf
+      way-form f = simp (← el, ← ek, le-leb _ _ hl, le-leb _ _ hk, f)
 
-      module _ (f : all storedDatom (datomsOf (getD s (40 * c + 9) 0) s) ≡ true) where
-        pub way-order : rising cmpEavt (datomsOf (getD s (40 * c + 9) 0) s) ≡ false → broken Order ≡ readPage eavt c id s
-        unfolding readPage levelOf countOf nodeRules nodeOf eavt
-        way-order g = simp (le-leb _ _ hl, le-leb _ _ hk, f, g)
+      module _ (f : all (t .stored) (datomsOf k s) ≡ true) where
+        pub way-order : rising (t .cmp) (datomsOf k s) ≡ false → broken Order ≡ readPage t c id s
+        unfolding readPage nodeRules nodeOf
+        way-order g = simp (← el, ← ek, le-leb _ _ hl, le-leb _ _ hk, f, g)
 
-        pub way-on :
-            rising cmpEavt (datomsOf (getD s (40 * c + 9) 0) s) ≡ true →
-            childRules id (nodeOf c (getD s (40 * c + 8) 0) (getD s (40 * c + 9) 0) s) ≡ readPage eavt c id s
-        unfolding readPage levelOf countOf nodeRules nodeOf eavt
-        way-on g = simp (le-leb _ _ hl, le-leb _ _ hk, f, g)
+        pub way-on : rising (t .cmp) (datomsOf k s) ≡ true → childRules id (nodeOf c l k s) ≡ readPage t c id s
+        unfolding readPage nodeRules nodeOf
+        way-on g = simp (← el, ← ek, le-leb _ _ hl, le-leb _ _ hk, f, g)

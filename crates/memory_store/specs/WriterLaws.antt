@@ -1,15 +1,16 @@
 -- A page laid down by three stores, each with zeros behind it, is the encoding of the node whose bytes they are.
-use Prim.Native.Nat.{ℕ, zero, suc, _+_, _-_, _*_, _<_, _≤_}
-use native.Mathlib.Nat.{mul-zero, mul-suc}
+use Prim.Native.Nat.{ℕ, suc, _+_, _-_, _*_, _<_, _≤_}
+use native.Mathlib.Nat.{mul-suc}
 use native.Mathlib.Numerals.{add-one}
 use native.Mathlib.Omega.{arith}
 use mathlib.Core.List.{List, [], _∷_, _++_, append-assoc}
 use mathlib.Core.Path.{_≡_, ap, _∙_}
-use lib.ListN.{length, take, drop, getD, set, length-append, length-replicate, replicate-append-replicate, length-drop}
-use lib.Seq.{drop-drop, length-take-le, take-add, getD-drop, set-split}
+use lib.ListN.{length, take, drop, set, length-append, length-replicate, replicate-append-replicate, length-drop}
+use lib.Seq.{drop-drop, length-take-le, set-split}
 use Rattle.store.specs.Words.{cells, spread, zeros, pad, patch}
 use Rattle.store.specs.Page.{pageOf, pageBytes}
 use Rattle.store.specs.Laws.{bytes-little, pad-length, cells-length}
+use Rattle.store.specs.Bytes.{Bytes, bytes-drop, cells-back}
 use Rattle.store.specs.Cells.{patch-none, patch-length, patch-patch, cells-drop, cells-take}
 use Rattle.datom.specs.Datom.{datomOf, datomBytes, datomsOf}
 use Rattle.datom.specs.Laws.{bytes-back}
@@ -56,32 +57,7 @@ pad-append n m p q e =
     let k : n + m - length (p ++ q) ≡ m - length q = omega (arith, length-append p q) in
     rw (k, append-assoc)
 
--- bytes decoded and encoded again
-abbrev Bytes : List ℕ → Type 0
-Bytes s = (i : ℕ) → getD s i 0 < 256
-
-bytes-drop : (n : ℕ) (s : List ℕ) → Bytes s → Bytes (drop n s)
-bytes-drop n s b i = rw getD-drop (b (n + i))
-
-bytes-take : (n : ℕ) (s : List ℕ) → Bytes s → Bytes (take n s)
-bytes-take zero s b i = omega arith
-bytes-take (suc n) [] b i = b i
-bytes-take (suc n) (x ∷ s) b zero = b 0
-bytes-take (suc n) (x ∷ s) b (suc i) = bytes-take n s (λ j. b (suc j)) i
-
-module _ {A : Type 0} (f : List ℕ → A) (g : A → List ℕ) (w : ℕ) (back : (t : List ℕ) → Bytes t → length t ≡ w → g (f t) ≡ t) where
-  all-back : (n : ℕ) (s : List ℕ) → Bytes s → w * n ≤ length s → spread g (cells f w n s) ≡ take (w * n) s
-  unfolding spread cells
-  all-back zero s b h = rw mul-zero
-  all-back (suc n) s b h =
-      let e : w * suc n ≡ w + w * n = rw mul-suc (omega arith) in
-      rw (
-        back (take w s) (bytes-take w s b) (length-take-le w s (omega arith)),
-        all-back n (drop w s) (bytes-drop w s b) (simp length-drop (omega arith)),
-        e,
-        take-add,
-      )
-
+-- a page id comes back as its bytes
 page-back : (t : List ℕ) → Bytes t → length t ≡ 8 → pageBytes (pageOf t) ≡ t
 unfolding pageBytes pageOf
 page-back t b e = rw e at (bytes-little t b)
@@ -126,9 +102,9 @@ module _ (free area : List ℕ) (b : Bytes area) (at size c l m n i a : ℕ) whe
       let pw : take (suc a) (drop i (childrenOf m (suc n) area)) ≡ cells pageOf 8 (suc a) (drop (8 * i) (drop (32 * m) area)) =
       cells-part pageOf 8 (suc n) i (suc a) (drop (32 * m) area) (omega arith) in
       let sd : spread datomBytes (datomsOf a (drop (32 * i) area)) ≡ d =
-      all-back datomOf datomBytes 32 bytes-back a (drop (32 * i) area) (bytes-drop (32 * i) area b) (simp length-drop (omega arith)) in
+      cells-back datomOf datomBytes 32 bytes-back a (drop (32 * i) area) (bytes-drop (32 * i) area b) (simp length-drop (omega arith)) in
       let sw : spread pageBytes (cells pageOf 8 (suc a) (drop (8 * i) (drop (32 * m) area))) ≡ w =
-      all-back pageOf pageBytes 8 page-back (suc a) (drop (8 * i) (drop (32 * m) area)) (bytes-drop (8 * i) _ (bytes-drop (32 * m) area b))
+      cells-back pageOf pageBytes 8 page-back (suc a) (drop (8 * i) (drop (32 * m) area)) (bytes-drop (8 * i) _ (bytes-drop (32 * m) area b))
       (simp length-drop (omega arith))
       ∙ rw (mul-suc, drop-drop) in
       rw (pd, pw, cells-length datomOf 32 a (drop (32 * i) area), sd, sw) (made free at size c l a d w hs hf (omega arith) (omega arith))

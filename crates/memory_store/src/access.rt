@@ -1,24 +1,31 @@
 // What stands in a page, or in an area that is laid out as one: n datoms from 0 on, and n + 1 children from 32 * m on, m being how
-// many datoms there is room for.
+// many datoms there is room for. A page also has a header behind the children.
 use answer::NextMidpoint;
 use datom::Datom;
 use index::Order;
-use store::PageId;
 ghost use mathlib.Core.Bool.{true};
 ghost use mathlib.Core.Path.{_≡_};
 ghost use Prim.Native.Nat.{suc, _+_, _*_, _≤_};
 ghost use lib.ListN.{length, drop};
 ghost use Rattle.datom.specs.Datom.{datomsOf};
-ghost use Rattle.index.specs.Order.{cmpEavt};
-ghost use Rattle.rules.specs.Page.{childAt, childrenOf, rising};
+ghost use Rattle.index.specs.Order.{eavt};
+ghost use Rattle.rules.specs.Page.{levelOf, countOf, childrenOf, rising};
 ghost use Rattle.rules.specs.Node.{isMidpoint, nextMidpoint, rank};
 
-// The child at index i.
-pub fn child_at(s: &[u8], m: usize, i: usize) -> PageId
-    requires { ⌜ 32 * m + 8 * i + 8 ≤ length (now s) ⌝ }
-    ensures { λ r. ⌜ r ≡ childAt m (now (s .entry)) i ⌝ }
+// The level that the header of a page with room for c datoms tells.
+pub fn level_of(s: &[u8], c: usize) -> usize
+    requires { ⌜ 40 * c + 10 ≤ length (now s) ⌝ }
+    ensures { λ r. ⌜ r ≡ levelOf c (now (s .entry)) ⌝ }
 {
-    PageId(store::word(s, 32 * m + 8 * i))
+    s[40 * c + 8] as usize
+}
+
+// How many datoms the header tells of.
+pub fn count_of(s: &[u8], c: usize) -> usize
+    requires { ⌜ 40 * c + 10 ≤ length (now s) ⌝ }
+    ensures { λ r. ⌜ r ≡ countOf c (now (s .entry)) ⌝ }
+{
+    s[40 * c + 9] as usize
 }
 
 // Whether the datom at index i is a midpoint: the child at its index is real.
@@ -26,7 +33,7 @@ pub fn is_midpoint_at(s: &[u8], m: usize, n: usize, i: usize) -> bool
     requires { ⌜ (n ≤ m) × ((40 * m + 8 ≤ length (now s)) × (i ≤ n)) ⌝ }
     ensures { λ r. ⌜ r ≡ isMidpoint (childrenOf m (suc n) (now (s .entry))) i ⌝ }
 {
-    !child_at(s, m, i).is_none()
+    !store::child_at(s, m, i).is_none()
 }
 
 // The first real child at or after an index.
@@ -36,7 +43,7 @@ pub fn next_midpoint(s: &[u8], m: usize, n: usize, from: usize) -> NextMidpoint
 {
     let mut i = from;
     while i <= n {
-        let child = child_at(s, m, i);
+        let child = store::child_at(s, m, i);
         if !child.is_none() {
             return NextMidpoint::Child(child);
         }
@@ -47,8 +54,8 @@ pub fn next_midpoint(s: &[u8], m: usize, n: usize, from: usize) -> NextMidpoint
 
 // The index of the first of k rising datoms that is not below d, by halving.
 pub fn first_not_below(s: &[u8], k: usize, d: Datom) -> usize
-    requires { ⌜ (32 * k ≤ length (now s)) × (rising cmpEavt (datomsOf k (now s)) ≡ true) ⌝ }
-    ensures { λ r. ⌜ r ≡ rank cmpEavt d (datomsOf k (now (s .entry))) ⌝ }
+    requires { ⌜ (32 * k ≤ length (now s)) × (rising (eavt .cmp) (datomsOf k (now s)) ≡ true) ⌝ }
+    ensures { λ r. ⌜ r ≡ rank (eavt .cmp) d (datomsOf k (now (s .entry))) ⌝ }
 {
     let mut lo = 0;
     let mut hi = k;

@@ -32,9 +32,8 @@ pub fn node_at(store: &[u8], extent: Extent, c: usize, page: PageId) -> Found
     if extent.count <= page.0 {
         return Found::Faulty(Fault::Missing);
     }
-    let size = extent.size as usize;
-    let at = page.0 as usize * size;
-    match crate::reader::read_page(&store[at..at + size], c, page) {
+    let part = crate::part_of(store, extent, page);
+    match crate::reader::read_page(part, c, page) {
         Reading::Broken(rule) => Found::Faulty(Fault::Breaks(rule)),
         Reading::Good { level, count } => Found::Fine { level, count },
     }

@@ -1,4 +1,5 @@
 // The page reader: the first rule that a page breaks, or its level and count.
+use crate::access;
 use answer::Rule;
 use datom::Value;
 use index::Order;
@@ -9,8 +10,8 @@ ghost use Prim.Native.Nat.{_+_, _*_, _≤_};
 ghost use lib.ListN.{length, drop};
 ghost use Rattle.store.specs.Words.{wordAt, cells};
 ghost use Rattle.store.specs.Page.{page, pageOf};
-ghost use Rattle.datom.specs.Datom.{datomsOf, storedDatom};
-ghost use Rattle.index.specs.Order.{cmpEavt, eavt};
+ghost use Rattle.datom.specs.Datom.{datomsOf};
+ghost use Rattle.index.specs.Order.{eavt};
 ghost use Rattle.rules.specs.Page.{nodeOf, all, rising, older, childRules, readPage};
 ghost use Rattle.memory_store.specs.Reading.{said};
 ghost use Rattle.memory_store.specs.Fours.{Rises, FourRise, FourIntegers, FourOlder, SameFrom};
@@ -24,7 +25,7 @@ pub enum Reading {
 // Whether the datom at byte `at` is below the one behind it by entity and attribute alone.
 fn pair_rises(s: &[u8], at: usize) -> bool
     requires { ⌜ at + 48 ≤ length (now s) ⌝ }
-    ensures { λ r. ⌜ (r ≡ true → Rises (now (s .entry)) at) ⌝ }
+    ensures { λ r. ⌜ (r ≡ true → Rises eavt (now (s .entry)) at) ⌝ }
 {
     let first = store::word(s, at);
     let second = store::word(s, at + 32);
@@ -40,7 +41,7 @@ fn pair_rises(s: &[u8], at: usize) -> bool
 // Whether four datoms from byte `at` on and the one behind them do.
 fn four_rise(s: &[u8], at: usize) -> bool
     requires { ⌜ at + 144 ≤ length (now s) ⌝ }
-    ensures { λ r. ⌜ (r ≡ true → FourRise (now (s .entry)) at) ⌝ }
+    ensures { λ r. ⌜ (r ≡ true → FourRise eavt (now (s .entry)) at) ⌝ }
 {
     if !pair_rises(s, at) {
         return false;
@@ -68,7 +69,7 @@ fn four_integers(s: &[u8], at: usize) -> bool
 // attribute. Of most pages that leaves four datoms at most.
 fn plain_front(s: &[u8], k: usize) -> usize
     requires { ⌜ 32 * k ≤ length (now s) ⌝ }
-    ensures { λ r. ⌜ (r ≤ k) × SameFrom k (now (s .entry)) 0 r ⌝ }
+    ensures { λ r. ⌜ (r ≤ k) × SameFrom eavt k (now (s .entry)) 0 r ⌝ }
 {
     let mut i = 0;
     while i + 4 < k {
@@ -86,7 +87,7 @@ fn plain_front(s: &[u8], k: usize) -> usize
 // Every one of the k datoms from index `from` on may be stored: only their values are looked at.
 fn all_stored(s: &[u8], from: usize, k: usize) -> bool
     requires { ⌜ 32 * k ≤ length (now s) ⌝ }
-    ensures { λ r. ⌜ r ≡ all storedDatom (drop from (datomsOf k (now (s .entry)))) ⌝ }
+    ensures { λ r. ⌜ r ≡ all (eavt .stored) (drop from (datomsOf k (now (s .entry)))) ⌝ }
 {
     let mut i = from;
     while i < k {
@@ -102,7 +103,7 @@ fn all_stored(s: &[u8], from: usize, k: usize) -> bool
 // The k datoms from index `from` on rise. Each is compared with the next where they lie, so that nothing is carried from turn to turn.
 fn all_rising(s: &[u8], from: usize, k: usize) -> bool
     requires { ⌜ (from ≤ k) × (32 * k ≤ length (now s)) ⌝ }
-    ensures { λ r. ⌜ r ≡ rising cmpEavt (drop from (datomsOf k (now (s .entry)))) ⌝ }
+    ensures { λ r. ⌜ r ≡ rising (eavt .cmp) (drop from (datomsOf k (now (s .entry)))) ⌝ }
 {
     let mut i = from;
     while i + 1 < k {
@@ -202,8 +203,8 @@ pub fn read_page(s: &[u8], c: usize, id: PageId) -> Reading
     requires { ⌜ 40 * c + 10 ≤ length (now s) ⌝ }
     ensures { λ r. ⌜ said c (now (s .entry)) r ≡ readPage eavt c id (now (s .entry)) ⌝ }
 {
-    let level = s[40 * c + 8] as usize;
-    let k = s[40 * c + 9] as usize;
+    let level = access::level_of(s, c);
+    let k = access::count_of(s, c);
     if 7 < level {
         return Reading::Broken(Rule::Level);
     }

@@ -5,7 +5,7 @@ use native.Mathlib.Numerals.{add-one}
 use native.Mathlib.Omega.{arith}
 use mathlib.Core.Bool.{Bool, true, false}
 use mathlib.Core.List.{List}
-use mathlib.Core.Path.{_≡_, refl, sym, ap, _∙_}
+use mathlib.Core.Path.{_≡_, refl, sym, ap, ap₂, _∙_}
 use borrow.Author.Tests.{lt-ltb, le-ltb}
 use lib.ListN.{drop}
 use Rattle.store.specs.declared.PageId.{PageId}
@@ -22,6 +22,10 @@ pub record Spans (r : Span) (n : ℕ) (cs : List PageId) : Type 0 where
   pub upto : r .upto ≡ longestSpan cs .upto
   pub rises : r .from ≤ r .upto
   pub within : r .upto ≤ n
+
+-- two results that meet it are equal
+pub spans-same : (r r₁ : Span) {n : ℕ} {cs : List PageId} → Spans r n cs → Spans r₁ n cs → r ≡ r₁
+spans-same r r₁ A B = let e = A .from ∙ sym (B .from) in let f = A .upto ∙ sym (B .upto) in ap₂ (λ (i j : ℕ). record { from = i; upto = j }) e f
 
 -- the loop that looks for it: from index i on, with a run that began at `start` and the best span so far, the rule gives the span
 pub record Spanning (m n : ℕ) (s : List ℕ) (i start from upto : ℕ) : Type 0 where

@@ -3,7 +3,7 @@ use Prim.Native.Nat.{ℕ, suc, _+_, _-_, _*_, _≤_}
 use native.Mathlib.Numerals.{add-one}
 use native.Mathlib.Omega.{arith}
 use mathlib.Core.List.{List, _++_}
-use mathlib.Core.Path.{_≡_, ap, _∙_}
+use mathlib.Core.Path.{_≡_, sym, ap, _∙_}
 use lib.ListN.{length, take, drop, length-drop}
 use lib.Seq.{drop-drop}
 use Rattle.store.specs.Words.{cells, patch}
@@ -21,6 +21,12 @@ pub record Spliced (m n from upto k : ℕ) (s t : List ℕ) : Type 0 where
       (l l₁ : ℕ) →
       nodeOf m l (n - (upto - from) + k) t ≡ splice (nodeOf m l n s) (record { from = from; upto = upto }) (nodeOf m l₁ k (drop (40 * m + 8) s))
   pub same : length t ≡ length s
+
+-- two results that meet it have one node in the area
+pub spliced-same :
+    {m n from upto k : ℕ} {s t t₁ : List ℕ} → Spliced m n from upto k s t → Spliced m n from upto k s t₁ →
+    (l : ℕ) → nodeOf m l (n - (upto - from) + k) t ≡ nodeOf m l (n - (upto - from) + k) t₁
+spliced-same A B l = A .node l 0 ∙ sym (B .node l 0)
 
 module _
     (m n from upto k : ℕ)

@@ -1,9 +1,9 @@
 -- What the rules answer to the inputs of docs/DIFFERENCES.md, and where document 01 has a sentence that no starred example shows.
 use Prim.Native.Nat.{ℕ}
 use mathlib.Core.Bool.{true}
-use mathlib.Core.List.{List, [], _∷_, map}
+use mathlib.Core.List.{List, [], _∷_, _++_, map}
 use mathlib.Core.Path.{_≡_, refl}
-use lib.ListN.{set}
+use lib.ListN.{take, set}
 use Rattle.store.specs.declared.PageId.{PageId}
 use Rattle.store.specs.Words.{zeros}
 use Rattle.store.specs.Size.{capacity, scratchNeed}
@@ -141,7 +141,7 @@ stays : inserted c (page 2) (d 8 ∷ d 8 ∷ []) ≡ Refused (OutOfOrder 1)
 unfolding rules
 stays = refl
 
--- 10: more than 128 datoms, by either call; 128 are taken
+-- 10: more than 128 datoms, by either call
 many-initialised : initialised (run 0 129) ≡ Refused TooMany
 unfolding rules
 many-initialised = refl
@@ -191,6 +191,26 @@ max-bound : listed c (page 2) (valued 0xffff_ffff_ffff_ffff) (d 9) ≡ whole (ru
 unfolding rules
 max-bound = refl
 
+-- "Starting a listing checks 1, 10, 5, then the bounds' order, then pages.": each where the next one would be given too
+abbrev askew : Place
+askew = record { extent = record { size = 257; count = 3 }; store = c .store; root = c .root; answer = c .answer }
+
+store-before-bound : listed askew (page 9) (valued 0x4000_0000_0000_0000) (d 9) ≡ cut BadStore []
+unfolding rules
+store-before-bound = refl
+
+bound-before-root : listed c (page 9) (d 9) (valued 0x4000_0000_0000_0000) ≡ cut BadBound []
+unfolding rules
+bound-before-root = refl
+
+root-before-order : listed c (page 9) (d 9) (d 0) ≡ cut NoPage []
+unfolding rules
+root-before-order = refl
+
+order-before-pages : listed (poked c 760 8) (page 2) (d 9) (d 0) ≡ whole []
+unfolding rules
+order-before-pages = refl
+
 -- 14: a root past the count
 no-page : inserted c (page 3) (d 7 ∷ []) ≡ Refused NoPage
 unfolding rules
@@ -226,6 +246,21 @@ twice-merged = refl
 unreadable-first : checked (poked (poked (calls (run 0 7) (run 7 2 ∷ [])) 832 1) 64 9) (page 3) ≡ Unsound (page 3)
 unfolding rules
 unreadable-first = refl
+
+-- "7, 8 and 9 once writing has begun" come as they are met. d7 to d13 go into page 1, which splits into two; then d0, which page 0 holds,
+-- goes into page 0. Room for no page: 9 is met first. Room for four: both pages are written, and then 7 is met.
+abbrev spread : ℕ → Outcome
+spread n =
+    insert eavt (twice .extent) (take n (twice .store)) scratch (page 3)
+    ((beside 0 ∷ beside 1 ∷ beside 2 ∷ beside 3 ∷ beside 4 ∷ []) ++ run 7 7)
+
+full-before-damaged : spread 1024 ≡ record { answer = Refused NoRoom; pages = [] }
+unfolding rules
+full-before-damaged = refl
+
+damaged-after-writing : spread 2048 ≡ record { answer = Refused (Damaged (page 0)); pages = leafOf (run 4 5) ∷ leafOf (run 10 4) ∷ [] }
+unfolding rules
+damaged-after-writing = refl
 
 -- 17: what was written until the room ended
 left-behind : fresh 512 (run 0 7) ≡ record { answer = Refused NoRoom; pages = leafOf (run 0 3) ∷ leafOf (run 4 3) ∷ [] }

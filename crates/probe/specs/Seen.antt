@@ -11,7 +11,7 @@ use Rattle.datom.specs.declared.Datom.{Datom}
 use Rattle.datom.specs.Datom.{datomOf}
 use Rattle.index.specs.declared.Order.{Order}
 use Rattle.index.specs.declared.Order.the-variants.{Less, Equal, Greater}
-use Rattle.index.specs.Order.{eavt, cmpEavt, named}
+use Rattle.index.specs.Order.{DatomOrd, named}
 use Rattle.answer.specs.declared.Rule.{Rule}
 use Rattle.answer.specs.declared.Rule.the-variants as rule
 use Rattle.rules.specs.Page.{Node, Read, broken, good, nodeOf, encodePage, readPage}
@@ -43,8 +43,8 @@ ofRead (broken r) = unread (ruleNumber r)
 ofRead (good n) = holds n
 
 -- bytes as page `id`; no page at all where no page has so many
-unfoldable pub seen : List ℕ → ℕ → Seen
-seen s id = cond (eqb (capacity (length s)) 0) (unread nothing) (ofRead (readPage eavt (capacity (length s)) (page id) s))
+unfoldable pub seen : DatomOrd → List ℕ → ℕ → Seen
+seen t s id = cond (eqb (capacity (length s)) 0) (unread nothing) (ofRead (readPage t (capacity (length s)) (page id) s))
 
 -- the code's answer
 unfoldable pub shown : List ℕ → Look → Seen
@@ -84,8 +84,8 @@ nextOf from v = ofNode (λ n. lookup.childOf (nextMidpoint (drop from (n .childr
 unfoldable pub ofDatom : (Datom → ℕ) → List ℕ → ℕ
 ofDatom f b = cond (eqb (length b) 32) (f (datomOf b)) nothing
 
-abbrev pub firstOf : List ℕ → Seen → ℕ
-firstOf b v = ofNode (λ n. ofDatom (λ d. rank cmpEavt d (n .datoms)) b) v
+abbrev pub firstOf : DatomOrd → List ℕ → Seen → ℕ
+firstOf t b v = ofNode (λ n. ofDatom (λ d. rank (t .cmp) d (n .datoms)) b) v
 
 -- 0 below, 1 equal, 2 above
 abbrev pub orderNumber : Order → ℕ
@@ -93,8 +93,8 @@ orderNumber Less = 0
 orderNumber Equal = 1
 orderNumber Greater = 2
 
-abbrev pub orderOf : List ℕ → List ℕ → ℕ
-orderOf a b = ofDatom (λ d. ofDatom (λ e. orderNumber (named (cmpEavt d e))) b) a
+abbrev pub orderOf : DatomOrd → List ℕ → List ℕ → ℕ
+orderOf t a b = ofDatom (λ d. ofDatom (λ e. orderNumber (named (t .cmp d e))) b) a
 
 -- a readable page, written anew into a free one of the same length: whether it is, and the free one afterwards
 unfoldable pub wroteOf : List ℕ → List ℕ → Seen → ℕ

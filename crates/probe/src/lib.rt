@@ -8,6 +8,7 @@ use memory_store::reader::Reading;
 use store::Extent;
 use store::PageId;
 ghost use mathlib.Core.Path.{_≡_};
+ghost use Rattle.index.specs.Order.{eavt};
 ghost use Rattle.answer.specs.Table.{fetchWords};
 ghost use Rattle.rules.specs.Store.{fetchAnswer};
 ghost use Rattle.probe.specs.Seen.{seen, shown, ruleNumber, ruleOf, levelOf, countOf, wordOf, childOf, nextOf, firstOf, orderOf, wroteOf, rewritten};
@@ -36,7 +37,7 @@ fn number(rule: Rule) -> u64
 }
 
 fn look_at(bytes: &[u8], id: u64) -> Look
-    ensures { λ r. ⌜ shown (now (bytes .entry)) r ≡ seen (now (bytes .entry)) id ⌝ }
+    ensures { λ r. ⌜ shown (now (bytes .entry)) r ≡ seen eavt (now (bytes .entry)) id ⌝ }
 {
     let c = store::capacity_of(bytes.len() as u64);
     if c == 0 {
@@ -52,7 +53,7 @@ fn look_at(bytes: &[u8], id: u64) -> Look
 // has that many bytes.
 #[no_mangle]
 pub extern "C" fn probe_rule(bytes: &[u8], id: u64) -> u64
-    ensures { λ r. ⌜ r ≡ ruleOf (seen (now (bytes .entry)) id) ⌝ }
+    ensures { λ r. ⌜ r ≡ ruleOf (seen eavt (now (bytes .entry)) id) ⌝ }
 {
     match look_at(bytes, id) {
         Look::Unread(rule) => rule,
@@ -63,7 +64,7 @@ pub extern "C" fn probe_rule(bytes: &[u8], id: u64) -> u64
 // The level of a readable page.
 #[no_mangle]
 pub extern "C" fn probe_level(bytes: &[u8], id: u64) -> u64
-    ensures { λ r. ⌜ r ≡ levelOf (seen (now (bytes .entry)) id) ⌝ }
+    ensures { λ r. ⌜ r ≡ levelOf (seen eavt (now (bytes .entry)) id) ⌝ }
 {
     let Look::Good(level, _) = look_at(bytes, id) else {
         return NOTHING;
@@ -74,7 +75,7 @@ pub extern "C" fn probe_level(bytes: &[u8], id: u64) -> u64
 // The number of its datoms.
 #[no_mangle]
 pub extern "C" fn probe_count(bytes: &[u8], id: u64) -> u64
-    ensures { λ r. ⌜ r ≡ countOf (seen (now (bytes .entry)) id) ⌝ }
+    ensures { λ r. ⌜ r ≡ countOf (seen eavt (now (bytes .entry)) id) ⌝ }
 {
     let Look::Good(_, count) = look_at(bytes, id) else {
         return NOTHING;
@@ -85,7 +86,7 @@ pub extern "C" fn probe_count(bytes: &[u8], id: u64) -> u64
 // Word j of the datom at index i: 0 entity, 1 attribute, 2 value, 3 last word.
 #[no_mangle]
 pub extern "C" fn probe_word(bytes: &[u8], id: u64, i: usize, j: usize) -> u64
-    ensures { λ r. ⌜ r ≡ wordOf i j (seen (now (bytes .entry)) id) ⌝ }
+    ensures { λ r. ⌜ r ≡ wordOf i j (seen eavt (now (bytes .entry)) id) ⌝ }
 {
     let Look::Good(_, count) = look_at(bytes, id) else {
         return NOTHING;
@@ -102,7 +103,7 @@ pub extern "C" fn probe_word(bytes: &[u8], id: u64, i: usize, j: usize) -> u64
 // The child at index i.
 #[no_mangle]
 pub extern "C" fn probe_child(bytes: &[u8], id: u64, i: usize) -> u64
-    ensures { λ r. ⌜ r ≡ childOf i (seen (now (bytes .entry)) id) ⌝ }
+    ensures { λ r. ⌜ r ≡ childOf i (seen eavt (now (bytes .entry)) id) ⌝ }
 {
     let Look::Good(_, count) = look_at(bytes, id) else {
         return NOTHING;
@@ -111,14 +112,14 @@ pub extern "C" fn probe_child(bytes: &[u8], id: u64, i: usize) -> u64
         return NOTHING;
     }
     let c = store::capacity_of(bytes.len() as u64);
-    let child = memory_store::access::child_at(bytes, c, i);
+    let child = store::child_at(bytes, c, i);
     child.0
 }
 
 // The first real child at or after an index.
 #[no_mangle]
 pub extern "C" fn probe_next(bytes: &[u8], id: u64, from: usize) -> u64
-    ensures { λ r. ⌜ r ≡ nextOf from (seen (now (bytes .entry)) id) ⌝ }
+    ensures { λ r. ⌜ r ≡ nextOf from (seen eavt (now (bytes .entry)) id) ⌝ }
 {
     let Look::Good(_, count) = look_at(bytes, id) else {
         return NOTHING;
@@ -133,7 +134,7 @@ pub extern "C" fn probe_next(bytes: &[u8], id: u64, from: usize) -> u64
 // The index of the first datom that is not below the one whose 32 bytes are given.
 #[no_mangle]
 pub extern "C" fn probe_first(bytes: &[u8], id: u64, sought: &[u8]) -> u64
-    ensures { λ r. ⌜ r ≡ firstOf (now (sought .entry)) (seen (now (bytes .entry)) id) ⌝ }
+    ensures { λ r. ⌜ r ≡ firstOf eavt (now (sought .entry)) (seen eavt (now (bytes .entry)) id) ⌝ }
 {
     let Look::Good(_, count) = look_at(bytes, id) else {
         return NOTHING;
@@ -147,7 +148,7 @@ pub extern "C" fn probe_first(bytes: &[u8], id: u64, sought: &[u8]) -> u64
 // How two datoms compare, each given by its 32 bytes: 0 below, 1 equal, 2 above.
 #[no_mangle]
 pub extern "C" fn probe_order(a: &[u8], b: &[u8]) -> u64
-    ensures { λ r. ⌜ r ≡ orderOf (now (a .entry)) (now (b .entry)) ⌝ }
+    ensures { λ r. ⌜ r ≡ orderOf eavt (now (a .entry)) (now (b .entry)) ⌝ }
 {
     if a.len() != 32 {
         return NOTHING;
@@ -176,7 +177,7 @@ pub extern "C" fn probe_fetch(store: &[u8], size: u64, count: u64, page: u64) ->
 // A readable page is written anew into a free one of the same length: 1 if so, and 0 with nothing changed if not.
 #[no_mangle]
 pub extern "C" fn probe_write(bytes: &[u8], id: u64, free: &mut [u8]) -> u64
-    ensures { λ r. ⌜ (r ≡ wroteOf (now (bytes .entry)) (now (free .entry)) (seen (now (bytes .entry)) id)) × (now (free .exit) ≡ rewritten (now (bytes .entry)) (now (free .entry)) (seen (now (bytes .entry)) id)) ⌝ }
+    ensures { λ r. ⌜ (r ≡ wroteOf (now (bytes .entry)) (now (free .entry)) (seen eavt (now (bytes .entry)) id)) × (now (free .exit) ≡ rewritten (now (bytes .entry)) (now (free .entry)) (seen eavt (now (bytes .entry)) id)) ⌝ }
 {
     let Look::Good(level, count) = look_at(bytes, id) else {
         return 0;

@@ -10,7 +10,7 @@ use denote.Laws.{Is}
 use denote.Shadow.{shadow}
 use denote.Struct.Laws as LL
 use Rattle.datom.specs.declared.Datom.{Datom}
-use Rattle.datom.specs.Datom.{Words}
+use Rattle.datom.specs.Datom.{WordSized}
 use Rattle.records.specs.Laid.{WordsTo}
 use Rattle.datom.proofs.Datom as T
 use Rattle.datom.proofs.Datom.Laws as T′
@@ -23,7 +23,7 @@ use Rattle.datom.proofs.Value.Laws as U′
 use Rattle.datom.proofs.TidOp as L
 use Rattle.datom.proofs.TidOp.Laws as L′
 
-pub is-words : (d : Datom) (vs : List Val) → Is T.the-row d vs → Words d
+pub is-words : (d : Datom) (vs : List Val) → Is T.the-row d vs → WordSized d
 is-words d vs g =
     let f = LL.owed T.the-type T′.the-laws d vs g in
     record {

@@ -2,7 +2,7 @@
 use Prim.Native.Nat.{ℕ, _*_, _/_, _%_, _≤_, _<_}
 use native.Mathlib.Omega.{arith}
 use mathlib.Core.Bool.{Bool, true, false, cond}
-use mathlib.Core.List.{List, []}
+use mathlib.Core.List.{List}
 use mathlib.Core.Path.{_≡_, refl, sym, _∙_, ap}
 use borrow.Author.Tests.{ltb-true, ltb-false, lt-ltb, le-ltb, eq-eqb}
 use lib.Dec.{ltb}
@@ -19,8 +19,8 @@ use Rattle.datom.specs.Datom.{datomOf}
 use Rattle.index.specs.Order.{DatomOrd}
 use Rattle.answer.specs.declared.Refusal.the-variants.{BadStore, TooMany}
 use Rattle.rules.specs.Lookup.{Finding, clear, found}
-use Rattle.rules.specs.Store.{orElse, badStore, badScratch, envOf}
-use Rattle.rules.specs.Insert.{Outcome, refuse, storeFault, countFault, formFault, orderFault, twinFault, rootFault, sort, writeFresh, insertUnder, bytesFault, batchOf, insert, insertBytes, initialise, initialiseBytes}
+use Rattle.rules.specs.Store.{orElse, badStore, badScratch}
+use Rattle.rules.specs.Insert.{Outcome, refuse, storeFault, countFault, insertCounted, initialiseCounted, bytesFault, batchOf, insert, insertBytes, initialise, initialiseBytes}
 use Rattle.records.specs.Laid.{laidCount, Laid, laid-all, laid-fits, firstOf, first-length}
 
 -- the bytes of n records, or of 129 for any number of them over 128
@@ -122,9 +122,8 @@ module _ (x : Extent) (st : List ℕ) (ds : List Datom) (s : List ℕ) (L : Laid
       (rest : List Datom → Outcome) →
       orElse refuse (storeFault x st (length s))
       (orElse refuse (bytesFault (handedBytes (length ds) s))
-      (orElse refuse (storeFault x st (length s))
       (orElse refuse (countFault (batchOf (handedBytes (length ds) s)))
-      (rest (batchOf (handedBytes (length ds) s))))))
+      (rest (batchOf (handedBytes (length ds) s)))))
       ≡ orElse refuse (storeFault x st (length s)) (orElse refuse (countFault ds) (rest ds))
   begun rest = side (storeFault x st (length s)) refl (ltb 128 (length ds)) refl
     where
@@ -132,9 +131,8 @@ module _ (x : Extent) (st : List ℕ) (ds : List Datom) (s : List ℕ) (L : Laid
           (f : Finding) → storeFault x st (length s) ≡ f → (a : Bool) → ltb 128 (length ds) ≡ a →
           orElse refuse (storeFault x st (length s))
           (orElse refuse (bytesFault (handedBytes (length ds) s))
-          (orElse refuse (storeFault x st (length s))
           (orElse refuse (countFault (batchOf (handedBytes (length ds) s)))
-          (rest (batchOf (handedBytes (length ds) s))))))
+          (rest (batchOf (handedBytes (length ds) s)))))
           ≡ orElse refuse (storeFault x st (length s)) (orElse refuse (countFault ds) (rest ds))
       side (found r) e a h = rw e
       side clear e true h =
@@ -148,18 +146,11 @@ module _ (x : Extent) (st : List ℕ) (ds : List Datom) (s : List ℕ) (L : Laid
   module _ (t : DatomOrd) where
     pub insert-handed : (root : PageId) → insertBytes t x st (length s) root (handedBytes (length ds) s) ≡ insert t x st (length s) root ds
     unfolding insertBytes insert
-    insert-handed root =
-        begun λ ds. orElse refuse (formFault (t .stored) 0 ds)
-        (orElse refuse (orderFault (t .cmp) ds)
-        (orElse refuse (rootFault x root)
-        (insertUnder t x st root ds)))
+    insert-handed root = begun λ ds. insertCounted t x st root ds
 
     pub initialise-handed : initialiseBytes t x st (length s) (handedBytes (length ds) s) ≡ initialise t x st (length s) ds
     unfolding initialiseBytes initialise
-    initialise-handed =
-        begun λ ds. orElse refuse (formFault (t .stored) 0 ds)
-        (orElse refuse (twinFault (t .cmp) 0 [] ds)
-        (writeFresh (envOf t x st) (sort (t .cmp) ds)))
+    initialise-handed = begun λ ds. initialiseCounted t x st ds
 
 -- of the first n records of an array
 pub insert-first :

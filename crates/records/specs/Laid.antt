@@ -15,8 +15,9 @@ use Rattle.store.specs.Words.{bytesOf, patch, cells}
 use Rattle.store.specs.Cells.{patch-length, patch-patch, cells-push}
 use Rattle.store.specs.Laws.{bytes-length}
 use Rattle.datom.specs.declared.Datom.{Datom}
-use Rattle.datom.specs.Datom.{datomOf, datomBytes, datomsOf, Words}
-use Rattle.datom.specs.Laws.{datom-length, datom-back}
+use Rattle.datom.specs.Datom.{datomOf, datomBytes, datomsOf, WordSized}
+use Rattle.datom.specs.Laws.{datom-length, datom-back, bytes-back}
+use Rattle.store.specs.Bytes.{Bytes, cells-tell}
 
 -- all of n records, or none of a batch that is refused whatever its records are: one over 128, and one in a scratch that is too short
 unfoldable pub laidCount : ℕ → ℕ → ℕ
@@ -41,7 +42,17 @@ module _ (n room : ℕ) where
       side false d true e = (omega arith, omega arith, omega arith)
       side false d false e = (omega arith, ltb-false room (32 * n) e, ltb-false 128 n d)
 
--- a datom's words behind one another are its bytes
+-- two results that meet the promise of `lay` are equal where it says anything: in the bytes of the records that are laid. The rest is scratch.
+pub laid-same :
+    (ds : List Datom) (s r : List ℕ) → Bytes s → Bytes r → length s ≡ length r → Laid ds s → Laid ds r →
+    take (32 * laidCount (length ds) (length s)) s ≡ take (32 * laidCount (length ds) (length s)) r
+unfolding Laid
+laid-same ds s r p q e A B =
+    let k = laidCount (length ds) (length s) in
+    let fits : 32 * k ≤ length s = laid-fits (length ds) (length s) .1 in
+    cells-tell datomOf datomBytes 32 bytes-back k s r p q fits (omega arith) (A ∙ sym (rw (← e) at B))
+
+-- four words stored one behind the other; a datom's are its bytes
 module _ (s : List ℕ) (at : ℕ) where
   next-word :
       (p : List ℕ) (n w : ℕ) → length p ≡ n → at + n + 8 ≤ length s →
@@ -49,25 +60,30 @@ module _ (s : List ℕ) (at : ℕ) where
   next-word p n w e h =
       ap (λ (k : ℕ). patch (patch s at p) (at + k) (bytesOf 8 w)) (sym e) ∙ patch-patch s at p (bytesOf 8 w) (omega (arith, bytes-length 8 w))
 
-  two-words : (p q : List ℕ) (m n : ℕ) → length p ≡ m → length q ≡ n → length (p ++ q) ≡ m + n
-  two-words p q m n e f = rw (length-append, e, f)
+  longer : (p : List ℕ) (n w : ℕ) → length p ≡ n → length (p ++ bytesOf 8 w) ≡ n + 8
+  longer p n w e = rw (length-append, e, bytes-length 8 w)
+
+  pub four-words :
+      (u v w z : ℕ) → at + 32 ≤ length s →
+      patch (patch (patch (patch s at (bytesOf 8 u)) (at + 8) (bytesOf 8 v)) (at + 16) (bytesOf 8 w)) (at + 24) (bytesOf 8 z)
+      ≡ patch s at (bytesOf 8 u ++ (bytesOf 8 v ++ (bytesOf 8 w ++ bytesOf 8 z)))
+  four-words u v w z h =
+      let one = bytesOf 8 u in
+      let two = one ++ bytesOf 8 v in
+      let three = two ++ bytesOf 8 w in
+      let two-long : length two ≡ 16 = longer one 8 v (bytes-length 8 u) in
+      let three-long : length three ≡ 24 = longer two 16 w two-long in
+      ap (λ (b : List ℕ). patch (patch b (at + 16) (bytesOf 8 w)) (at + 24) (bytesOf 8 z)) (next-word one 8 v (bytes-length 8 u) (omega arith))
+      ∙ ap (λ (b : List ℕ). patch b (at + 24) (bytesOf 8 z)) (next-word two 16 w two-long (omega arith))
+      ∙ next-word three 24 z three-long (omega arith)
+      ∙ ap (patch s at) (append-assoc two (bytesOf 8 w) (bytesOf 8 z) ∙ append-assoc one (bytesOf 8 v) (bytesOf 8 w ++ bytesOf 8 z))
 
   pub datom-words :
       (d : Datom) → at + 32 ≤ length s →
       patch (patch (patch (patch s at (bytesOf 8 (d .entity .0))) (at + 8) (bytesOf 8 (d .attribute .0))) (at + 16) (bytesOf 8 (d .value .0))) (at + 24) (bytesOf 8 (d .«transaction_operation» .0))
       ≡ patch s at (datomBytes d)
   unfolding datomBytes
-  datom-words d h =
-      let e = bytesOf 8 (d .entity .0) in
-      let a = bytesOf 8 (d .attribute .0) in
-      let v = bytesOf 8 (d .value .0) in
-      let t = bytesOf 8 (d .«transaction_operation» .0) in
-      let ea : length (e ++ a) ≡ 16 = two-words e a 8 8 (bytes-length 8 (d .entity .0)) (bytes-length 8 (d .attribute .0)) in
-      let eav : length ((e ++ a) ++ v) ≡ 24 = two-words (e ++ a) v 16 8 ea (bytes-length 8 (d .value .0)) in
-      ap (λ (z : List ℕ). patch (patch z (at + 16) v) (at + 24) t) (next-word e 8 (d .attribute .0) (bytes-length 8 (d .entity .0)) (omega arith))
-      ∙ ap (λ (z : List ℕ). patch z (at + 24) t) (next-word (e ++ a) 16 (d .value .0) ea (omega arith))
-      ∙ next-word ((e ++ a) ++ v) 24 (d .«transaction_operation» .0) eav (omega arith)
-      ∙ ap (patch s at) (append-assoc (e ++ a) v t ∙ append-assoc e a (v ++ t))
+  datom-words d h = four-words (d .entity .0) (d .attribute .0) (d .value .0) (d .«transaction_operation» .0) h
 
 -- the area once the first i records are laid
 abbrev pub blank : Datom
@@ -79,11 +95,11 @@ laidTo ds s (suc i) = patch (laidTo ds s i) (32 * i) (datomBytes (getD ds i blan
 
 -- the first i records have words of 64 bits
 abbrev pub WordsTo : List Datom → ℕ → Type 0
-WordsTo ds i = (j : ℕ) → j < i → Words (getD ds j blank)
+WordsTo ds i = (j : ℕ) → j < i → WordSized (getD ds j blank)
 
-pub words-next : (ds : List Datom) (i : ℕ) → WordsTo ds i → Words (getD ds i blank) → WordsTo ds (suc i)
+pub words-next : (ds : List Datom) (i : ℕ) → WordsTo ds i → WordSized (getD ds i blank) → WordsTo ds (suc i)
 words-next ds i w v j l = elim (decLe i j) [
-  | yes a ↦ (let e : i ≡ j = omega (arith, a) in subst (λ (k : ℕ). Words (getD ds k blank)) e v)
+  | yes a ↦ (let e : i ≡ j = omega (arith, a) in subst (λ (k : ℕ). WordSized (getD ds k blank)) e v)
   | no a ↦ w j (omega (arith, a))
 ]
 

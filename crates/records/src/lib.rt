@@ -15,11 +15,14 @@ ghost use Rattle.entry.specs.Reply.{Replies};
 ghost use Rattle.records.specs.Laid.{laidCount, Laid, firstOf};
 ghost use Rattle.records.specs.Handed.{handedLength, handedIn, handedBytes};
 
+// How many bytes a batch of one record too many has: no batch is handed on with more.
+const HANDED: usize = 32 * (batch::MOST + 1);
+
 // How many of n records are laid into so many bytes: all of them, or none of a batch that is refused without a look at it.
 fn laid_count(n: usize, room: usize) -> usize
     ensures { λ r. ⌜ r ≡ laidCount n room ⌝ }
 {
-    if 128 < n {
+    if batch::MOST < n {
         return 0;
     }
     if room < 32 * n {
@@ -56,8 +59,8 @@ pub fn lay(batch: &[Datom], area: &mut [u8])
 fn handed_length(n: usize) -> usize
     ensures { λ r. ⌜ r ≡ handedLength n ⌝ }
 {
-    if 128 < n {
-        return 4128;
+    if batch::MOST < n {
+        return HANDED;
     }
     32 * n
 }
@@ -75,7 +78,7 @@ fn hand(b: &mut [u8], n: usize, s: &[u8])
 pub fn insert_laid(store: &mut [u8], extent: Extent, root: PageId, n: usize, s: &mut [u8]) -> Answer
     ensures { λ r. ⌜ Replies extent (now (store .entry)) (now (store .exit)) r (insertBytes eavt extent (now (store .entry)) (length (now (s .entry))) root (handedBytes n (now (s .entry)))) ⌝ }
 {
-    let mut b = [0u8; 4128];
+    let mut b = [0u8; HANDED];
     hand(&mut b, n, s);
     let m = handed_length(n);
     entry::insert(store, extent, root, &b[..m], s)
@@ -99,7 +102,7 @@ pub fn insert(
 fn initialise_laid(store: &mut [u8], extent: Extent, n: usize, s: &mut [u8]) -> Answer
     ensures { λ r. ⌜ Replies extent (now (store .entry)) (now (store .exit)) r (initialiseBytes eavt extent (now (store .entry)) (length (now (s .entry))) (handedBytes n (now (s .entry)))) ⌝ }
 {
-    let mut b = [0u8; 4128];
+    let mut b = [0u8; HANDED];
     hand(&mut b, n, s);
     let m = handed_length(n);
     entry::initialise(store, extent, &b[..m], s)
@@ -114,7 +117,7 @@ pub fn initialise(store: &mut [u8], extent: Extent, batch: &[Datom], s: &mut [u8
 }
 
 // The first n records of an array, as `lay` lays those of a slice.
-fn lay_array(batch: [Datom; 128], n: usize, area: &mut [u8])
+fn lay_array(batch: [Datom; batch::MOST], n: usize, area: &mut [u8])
     ensures { λ _. ⌜ Laid (firstOf n batch) (now (area .exit)) ⌝ }
 {
     let k = laid_count(n, area.len());
@@ -130,7 +133,7 @@ pub fn insert_array(
     store: &mut [u8],
     extent: Extent,
     root: PageId,
-    batch: [Datom; 128],
+    batch: [Datom; batch::MOST],
     n: usize,
     s: &mut [u8],
 ) -> Answer

@@ -1,6 +1,6 @@
--- More cases that the rules compute: listings between bounds at new and old roots, the reader's rules one by one, the checks, and the
--- four words. Each stands for a sentence of document 01 that no starred example shows.
-use Prim.Native.Nat.{ℕ}
+-- More cases that the rules compute: listings between bounds at new and old roots, the reader's rules one by one, the checks, which page is
+-- not written and why, and the four words. Each stands for a sentence of document 01 that no starred example shows.
+use Prim.Native.Nat.{ℕ, Ordering·eq}
 use mathlib.Core.List.{List, [], _∷_, _++_}
 use mathlib.Core.Path.{_≡_, refl}
 use lib.ListN.{replicate, set}
@@ -9,11 +9,13 @@ use Rattle.store.specs.Words.{zeros}
 use Rattle.store.specs.Page.{page, none}
 use Rattle.datom.specs.declared.Datom.{Datom}
 use Rattle.index.specs.Order.{eavt}
+use Rattle.answer.specs.declared.Fault.the-variants.{Missing}
 use Rattle.answer.specs.declared.Rule.the-variants.{Level, Count, Form, Order, LeafChild, LastChild, ChildId}
-use Rattle.answer.specs.declared.Refusal.the-variants.{BadStore, NoPage, Damaged}
+use Rattle.answer.specs.declared.Refusal.the-variants.{BadStore, NoPage, Damaged, TooTall, NoRoom}
 use Rattle.answer.specs.declared.Answer.the-variants.{Refused}
 use Rattle.answer.specs.declared.Check.the-variants.{Sound, Unsound}
-use Rattle.rules.specs.Page.{Read, broken, good, readPage, encodePage}
+use Rattle.rules.specs.Page.{Node, Read, broken, good, readPage, encodePage}
+use Rattle.rules.specs.Tree.{faulty, Env, stop, go, put}
 use Rattle.rules.specs.Insert.{insert, insertBytes}
 use Rattle.rules.specs.Entry.{insertReply}
 use Rattle.rules.specs.Listing.{Listed, whole, cut, startList, listing}
@@ -51,7 +53,7 @@ refused-root : listed 4 (d 0) (d 12) ≡ cut NoPage []
 unfolding rules
 refused-root = refl
 
--- the check at both roots, and where a leaf stands outside its bounds: d4 to d6 above the midpoint d3 made d1 to d6
+-- the check at a root, at none, and where a leaf stands outside its bounds: d4, the first above the midpoint d3, gets entity 1
 checks-sound : checkTree eavt (e .extent) (e .store) (page 3) ≡ Sound
 unfolding rules
 checks-sound = refl
@@ -109,22 +111,56 @@ reads-past : read 2 (set (set leafPage 180 9) 250 9) ≡ good (record { level = 
 unfolding rules
 reads-past = refl
 
--- an insert names the page
-damaged : insert eavt (record { size = 256; count = 1 }) (set leafPage 249 7 ++ zeros 256) scratch (page 0) (run 9 1) .answer ≡ Refused (Damaged (page 0))
+-- an insert names the page; refused before it writes, it has written none
+damaged :
+    insert eavt (record { size = 256; count = 1 }) (set leafPage 249 7 ++ zeros 256) scratch (page 0) (run 9 1)
+    ≡ record { answer = Refused (Damaged (page 0)); pages = [] }
 unfolding rules
 damaged = refl
 
--- refusals in the table's order: a bad store goes before bytes that are no datoms, an unknown root after them
-store-first : insertBytes eavt (record { size = 257; count = 0 }) [] scratch (page 5) (0 ∷ []) .answer ≡ Refused BadStore
+-- a node of one child
+abbrev over : ℕ → Node
+over l = record { level = l; datoms = []; children = page 9 ∷ [] }
+
+-- no page used, and room for so many
+abbrev roomFor : ℕ → Env
+roomFor a = record { cap = 6; cmp = λ d x. Ordering·eq; fetch = λ p. faulty Missing; count = 0; allow = a }
+
+-- "8 TooTall: the next page to write has level 8": level 7 is the highest that is written
+seven-written : put (roomFor 1) (over 7) [] ≡ go (page 0) (over 7 ∷ [])
+unfolding put
+seven-written = refl
+
+eight-refused : put (roomFor 1) (over 8) [] ≡ stop TooTall []
+unfolding put
+eight-refused = refl
+
+-- "9 NoRoom: the next page to write does not fit"; no page is written with a refusal
+full-refused : put (roomFor 1) (over 7) (over 6 ∷ []) ≡ stop NoRoom (over 6 ∷ [])
+unfolding put
+full-refused = refl
+
+-- "8 goes before 9 at the same page"
+tall-first : put (roomFor 0) (over 8) [] ≡ stop TooTall []
+unfolding put
+tall-first = refl
+
+-- refusals in the table's order: a bad store goes before bytes that are no datoms and a root that is no page
+store-first : insertBytes eavt (record { size = 257; count = 0 }) [] scratch (page 5) (0 ∷ []) ≡ record { answer = Refused BadStore; pages = [] }
 unfolding rules
 store-first = refl
 
--- four words: 6, the given root, 0 pages, index 0, of example g's resent batch; an area of another length stays as it was
+-- four words: 6, the given root, 0 pages, index 0, of d7 sent again after example e
 words-repeated :
     insertReply eavt (e .extent) (e .store) scratch (page 3) (small 7 ++ (small 1 ++ (small 7 ++ small 3))) (zeros 32) .area ≡ small 6 ++ (small 3 ++ zeros 16)
 unfolding rules
 words-repeated = refl
 
-area-first : insertReply eavt (e .extent) (e .store) scratch (page 3) [] (zeros 31) .area ≡ zeros 31
+-- "An area not 32 bytes long is 1 before all else and stays unchanged.": the batch of one byte would be 2, and the store stays
+area-first : insertReply eavt (e .extent) (e .store) scratch (page 3) (0 ∷ []) (zeros 31) .returns ≡ 1
 unfolding rules
 area-first = refl
+
+area-stays : insertReply eavt (e .extent) (e .store) scratch (page 3) [] (zeros 33) .area ≡ zeros 33
+unfolding rules
+area-stays = refl

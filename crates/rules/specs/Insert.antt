@@ -83,38 +83,50 @@ sort cmp (d ∷ ds) = place cmp d (sort cmp ds)
 unfoldable pub leafOf : List Datom → Node
 leafOf ds = record { level = 0; datoms = ds; children = replicate (suc (length ds)) none }
 
--- what initialise writes, of a sorted batch; "an empty batch there writes nothing and answers root none"
+-- what initialise writes, of a sorted batch, after the pages o; "an empty batch there writes nothing and answers root none"
+abbrev pub freshTree : Env → List Datom → List Node → Stage PageId
+freshTree e ds o = writeRoot e (length ds) (leafOf ds) o
+
 unfoldable pub writeFresh : Env → List Datom → Outcome
-writeFresh e ds = outcome (writeRoot e (length ds) (leafOf ds) [])
+writeFresh e ds = outcome (freshTree e ds [])
 
 -- "Before writing, insert looks every batch datom up": 6 and 7, then 7 to 9 once writing has begun
 unfoldable pub insertAt : Env → PageId → List Datom → Fetched → Outcome
 insertAt e root ds (faulty f) = refuse (Damaged root)
-insertAt e root ds (fine n) = orElse refuse (lookupAll e (n .level) root (fine n) 0 ds) (outcome (insertTree e (n .level) root ds))
+insertAt e root ds (fine n) = orElse refuse (lookupAll e (n .level) root (fine n) 0 ds) (outcome (insertTree e (n .level) root ds []))
 
 -- "Insert at root "none" writes what initialise would, after insert's own checks"
 unfoldable pub insertUnder : DatomOrd → Extent → List ℕ → PageId → List Datom → Outcome
 insertUnder t x s root ds =
     cond (isNone root) (writeFresh (envOf t x s) ds) (insertAt (envOf t x s) root ds (fetchPage t x s root))
 
--- an insert of datoms, with the length of the scratch: the refusals in the table's order
+-- 3, 4 and 5 of an insert, and what comes after them
+unfoldable pub insertCounted : DatomOrd → Extent → List ℕ → PageId → List Datom → Outcome
+insertCounted t x s root ds =
+    orElse refuse (formFault (t .stored) 0 ds)
+    (orElse refuse (orderFault (t .cmp) ds)
+    (orElse refuse (rootFault x root)
+    (insertUnder t x s root ds)))
+
+-- 3 and 4 of an initialise: "Initialise sorts its batch first and reads no page."
+unfoldable pub initialiseCounted : DatomOrd → Extent → List ℕ → List Datom → Outcome
+initialiseCounted t x s ds =
+    orElse refuse (formFault (t .stored) 0 ds)
+    (orElse refuse (twinFault (t .cmp) 0 [] ds)
+    (writeFresh (envOf t x s) (sort (t .cmp) ds)))
+
+-- the two calls of datoms, with the length of the scratch: 1 and 2, then the rest in the table's order
 unfoldable pub insert : DatomOrd → Extent → List ℕ → ℕ → PageId → List Datom → Outcome
 insert t x s scratch root ds =
     orElse refuse (storeFault x s scratch)
     (orElse refuse (countFault ds)
-    (orElse refuse (formFault (t .stored) 0 ds)
-    (orElse refuse (orderFault (t .cmp) ds)
-    (orElse refuse (rootFault x root)
-    (insertUnder t x s root ds)))))
+    (insertCounted t x s root ds))
 
--- "Initialise sorts its batch first and reads no page."
 unfoldable pub initialise : DatomOrd → Extent → List ℕ → ℕ → List Datom → Outcome
 initialise t x s scratch ds =
     orElse refuse (storeFault x s scratch)
     (orElse refuse (countFault ds)
-    (orElse refuse (formFault (t .stored) 0 ds)
-    (orElse refuse (twinFault (t .cmp) 0 [] ds)
-    (writeFresh (envOf t x s) (sort (t .cmp) ds)))))
+    (initialiseCounted t x s ds))
 
 -- 2, of bytes: "or its bytes no multiple of 32"
 unfoldable pub bytesFault : List ℕ → Finding
@@ -123,15 +135,17 @@ bytesFault b = refuseIf (not (eqb (length b % 32) 0)) TooMany
 abbrev pub batchOf : List ℕ → List Datom
 batchOf b = datomsOf (length b / 32) b
 
--- the same two for a batch of bytes
+-- the same two of bytes
 unfoldable pub insertBytes : DatomOrd → Extent → List ℕ → ℕ → PageId → List ℕ → Outcome
 insertBytes t x s scratch root b =
     orElse refuse (storeFault x s scratch)
     (orElse refuse (bytesFault b)
-    (insert t x s scratch root (batchOf b)))
+    (orElse refuse (countFault (batchOf b))
+    (insertCounted t x s root (batchOf b))))
 
 unfoldable pub initialiseBytes : DatomOrd → Extent → List ℕ → ℕ → List ℕ → Outcome
 initialiseBytes t x s scratch b =
     orElse refuse (storeFault x s scratch)
     (orElse refuse (bytesFault b)
-    (initialise t x s scratch (batchOf b)))
+    (orElse refuse (countFault (batchOf b))
+    (initialiseCounted t x s (batchOf b))))

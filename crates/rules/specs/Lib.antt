@@ -11,10 +11,14 @@ pub mod Check
 pub mod Table
 pub mod Open
 pub mod Starred
+pub mod Further
 pub mod Lists
+pub mod Checks
 pub mod Round
 pub mod SplitLaws
 pub mod MergeLaws
 pub mod Sizes
+pub mod Spans
+pub mod Turns
 pub mod Reads
-pub mod Further
+pub mod Within

@@ -71,13 +71,17 @@ pub record Span : Type 0 where
   pub from : ℕ
   pub upto : ℕ
 
+-- whether the run from `start` up to i is longer than the best span so far: "first on ties"
+abbrev pub isLonger : Span → ℕ → ℕ → Bool
+isLonger best start i = ltb (best .upto - best .from) (i - start)
+
 -- the children left, the index of the first of them, where the run at hand began, and the best span so far
 unfoldable pub spanFrom : List PageId → ℕ → ℕ → Span → Span
 spanFrom [] i start best = best
 spanFrom (c ∷ cs) i start best =
     elim (isNone c) [
       | true ↦ spanFrom cs (suc i) start best
-      | false ↦ spanFrom cs (suc i) (suc i) (cond (ltb (best .upto - best .from) (i - start)) (record { from = start; upto = i }) best)
+      | false ↦ spanFrom cs (suc i) (suc i) (cond (isLonger best start i) (record { from = start; upto = i }) best)
     ]
 
 -- "Longest pending span: the longest run of none-children ended by a real child; first on ties; a trailing run is ignored."

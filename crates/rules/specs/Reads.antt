@@ -1,10 +1,11 @@
 -- What a page that is read is known to be.
-use Prim.Native.Nat.{ℕ, suc, _*_, _≤_, _<_}
+use Prim.Native.Nat.{ℕ, suc, _+_, _*_, _^_, _≤_, _<_}
+use native.Mathlib.Nat.{div-le-self}
 use native.Mathlib.Omega.{arith}
 use mathlib.Core.Bool.{Bool, true, false, not}
 use mathlib.Core.List.{List}
 use mathlib.Core.Path.{_≡_, refl, sym, _∙_, ap}
-use borrow.Author.Tests.{leb-true, ltb-true}
+use borrow.Author.Tests.{leb-true, ltb-true, not-true, ne-eqb}
 use lib.Dec.{leb, ltb, eqb}
 use lib.ListN.{length, drop, getD}
 use Rattle.store.specs.declared.PageId.{PageId}
@@ -20,6 +21,7 @@ use Rattle.rules.specs.Page.{Node, Read, broken, good, unless, nodeOf, l
 use Rattle.rules.specs.Tree.{faulty, fine, Env}
 use Rattle.rules.specs.Store.{pageAt, readAs, fetchPage, envOf}
 use Rattle.rules.specs.Sizes.{Capped}
+use Rattle.rules.specs.Turns.{Flushable}
 
 -- a rule that was kept, and what comes after it
 kept : (b : Bool) (r : Rule) (rest : Read) (n : Node) → unless b r rest ≡ good n → (b ≡ true) × (rest ≡ good n)
@@ -73,6 +75,14 @@ module _ (t : DatomOrd) (c : ℕ) (id : PageId) (s : List ℕ) (n : Node) (R : R
   unfolding nodeOf
   read-lens = rw (← R .node) (cells-length pageOf 8 (suc (countOf c s)) (drop (32 * c) s) ∙ ap suc (sym (cells-length datomOf 32 (countOf c s) s)))
 
+  -- "above, the last child real"
+  pub read-last : (l : ℕ) → n .level ≡ suc l → isNone (getD (n .children) (length (n .datoms)) none) ≡ false
+  unfolding childRules
+  read-last l e =
+      let above : eqb (n .level) 0 ≡ false = ne-eqb (n .level) 0 (λ z. omega arith) in
+      let h = kept (not (isNone (getD (n .children) (length (n .datoms)) none))) _ _ n (rw above at (R .kids)) in
+      not-true _ (h .0)
+
 -- a page that is fetched lies below the count, and is readable
 pub fetch-tells :
     (t : DatomOrd) (x : Extent) (s : List ℕ) (p : PageId) (n : Node) → fetchPage t x s p ≡ fine n →
@@ -99,4 +109,14 @@ env-capped t x s pos =
       few = λ p n e. let R = fetch-tells t x s p n e .1 in
           omega (arith, R .few, read-count t (capacity (x .size)) p (pageAt x s p) n R);
       lens = λ p n e. read-lens t (capacity (x .size)) p (pageAt x s p) n (fetch-tells t x s p n e .1);
+    }
+
+-- and, in a slice, every page above level 0 ends with a real child, and every id that is written is real
+pub env-flushable : (t : DatomOrd) (x : Extent) (s : List ℕ) → 0 < capacity (x .size) → length s < 2 ^ 64 → Flushable (envOf t x s)
+unfolding envOf isNone
+env-flushable t x s pos small =
+    record {
+      capped = env-capped t x s pos;
+      last = λ p n l e f. read-last t (capacity (x .size)) p (pageAt x s p) n (fetch-tells t x s p n e .1) l f;
+      fresh = λ i h. ne-eqb (x .count + i) 0xffff_ffff_ffff_ffff (λ z. omega (arith, div-le-self (length s) (x .size)));
     }

@@ -12,7 +12,7 @@ use Rattle.store.specs.Words.{cells, spread, zeros, pad}
 use Rattle.store.specs.Page.{pageOf, pageBytes}
 use Rattle.store.specs.Laws.{pad-length, spread-length, cells-spread, page-length, page-back}
 use Rattle.datom.specs.declared.Datom.{Datom}
-use Rattle.datom.specs.Datom.{datomOf, datomBytes, datomsOf, datomsBytes, Words}
+use Rattle.datom.specs.Datom.{datomOf, datomBytes, datomsOf, datomsBytes, WordSized}
 use Rattle.datom.specs.Laws.{datom-length, datom-back}
 use Rattle.index.specs.Order.{DatomOrd}
 use Rattle.rules.specs.Page.{Node, nodeOf, levelOf, countOf, encodePage, good, all, rising, childRules, nodeRules, readPage}
@@ -26,7 +26,7 @@ pub record Writable (t : DatomOrd) (c : ℕ) (id : PageId) (n : Node) : Type 0 w
   pub rise : rising (t .cmp) (n .datoms) ≡ true
   pub kids : childRules id n ≡ good n
   pub lens : length (n .children) ≡ suc (length (n .datoms))
-  pub words : (d : Datom) → In d (n .datoms) → Words d
+  pub words : (d : Datom) → In d (n .datoms) → WordSized d
   pub ids : (p : PageId) → In p (n .children) → p .0 < 2 ^ 64
 
 pub datoms-length : (ds : List Datom) → length (datomsBytes ds) ≡ 32 * length ds
@@ -47,7 +47,7 @@ encoded-length size c n h few lens =
     (omega arith))
 
 -- a batch comes back from its bytes
-pub datoms-back : (ds : List Datom) (rest : List ℕ) → ((d : Datom) → In d ds → Words d) → datomsOf (length ds) (datomsBytes ds ++ rest) ≡ ds
+pub datoms-back : (ds : List Datom) (rest : List ℕ) → ((d : Datom) → In d ds → WordSized d) → datomsOf (length ds) (datomsBytes ds ++ rest) ≡ ds
 datoms-back ds rest w =
     cells-spread datomBytes 32 datom-length datomOf ds rest λ i d h. datom-back (getD ds i d) (w (getD ds i d) (in-getD ds i d h))
 

@@ -14,7 +14,7 @@ use Rattle.store.specs.Laws.{apart}
 use Rattle.datom.specs.declared.Datom.{Datom}
 use Rattle.answer.specs.declared.Refusal.the-variants.{BadStore}
 use Rattle.rules.specs.Page.{Node}
-use Rattle.rules.specs.Node.{meets, mergeNode, Span, spanFrom, longestSpan, anyPending, splitParts, splitUp, splice}
+use Rattle.rules.specs.Node.{meets, mergeNode, Span, isLonger, spanFrom, longestSpan, anyPending, splitParts, splitUp, splice}
 use Rattle.rules.specs.Tree.{Fetched, faulty, fine, Env, Stage, stop, go, then, atLevel, fetchAt, put, putAll, split, isOver, settle, Below, flush, flushAll, insertMerged, insertInto}
 use Rattle.rules.specs.MergeLaws.{merge-length, merge-children-length}
 use Rattle.rules.specs.SplitLaws.{split-midpoints-fewer, split-midpoints-few}
@@ -122,7 +122,7 @@ span-from k (x ∷ cs) i start best a b c =
         ((start₁ : ℕ) (best₁ : Span) → start₁ ≤ suc i → Inside k best₁ → Inside k (spanFrom cs (suc i) start₁ best₁)) →
         Inside k (spanFrom (x ∷ cs) i start best)
     side true p ih = rw (p, spanFrom) (ih start best (omega arith) c)
-    side false p ih = rw (p, spanFrom) (ih (suc i) _ (omega arith) (longer (ltb (best .upto - best .from) (i - start))))
+    side false p ih = rw (p, spanFrom) (ih (suc i) _ (omega arith) (longer (isLonger best start i)))
 
 pub span-within : (k : ℕ) (cs : List PageId) → length cs ≤ suc k → Inside k (longestSpan cs)
 unfolding longestSpan
@@ -171,7 +171,7 @@ module _ (e : Env) (C : Capped e) where
   unfolding mergeNode
   merged-few p ds n q = omega (arith, merge-length (e .cmp) (n .datoms) ds, C .few p n q)
 
-  merged-lens :
+  pub merged-lens :
       (p : PageId) (ds : List Datom) (n : Node) → e .fetch p ≡ fine n →
       length (mergeNode (e .cmp) n ds .children) ≡ suc (length (mergeNode (e .cmp) n ds .datoms))
   unfolding mergeNode

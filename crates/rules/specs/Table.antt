@@ -9,7 +9,7 @@ use Rattle.store.specs.declared.Extent.{Extent}
 use Rattle.store.specs.Words.{zeros}
 use Rattle.store.specs.Page.{page, none}
 use Rattle.datom.specs.declared.Datom.{Datom}
-use Rattle.datom.specs.Value.{storedValue, Content, str, content}
+use Rattle.datom.specs.Value.{boundValue, Content, int, str, content}
 use Rattle.index.specs.Order.{cmpValue, eavt}
 use Rattle.answer.specs.declared.Refusal.the-variants.{Repeated}
 use Rattle.answer.specs.declared.Answer.{Answer}
@@ -65,7 +65,7 @@ pub data Case : Type 0 where
   tree : List Datom → List (List Datom) → Case
   bytesOfPage : ℕ → List Datom → List (List Datom) → Case
   spanOf : List PageId → Case
-  storable : ℕ → Case
+  wellFormed : ℕ → Case
   meaning : ℕ → Case
   order : ℕ → ℕ → Case
 
@@ -84,7 +84,7 @@ unfoldable pub see : Case → Seen
 see (tree b bs) = seeTree (calls b bs)
 see (bytesOfPage p b bs) = let w = calls b bs in bytes (pageAt (w .extent) (w .store) (page p))
 see (spanOf cs) = span (longestSpan cs)
-see (storable v) = test (storedValue (record { 0 = v }))
+see (wellFormed v) = test (boundValue (record { 0 = v }))
 see (meaning v) = means (content (record { 0 = v }))
 see (order v w) = goes (cmpValue (record { 0 = v }) (record { 0 = w }))
 
@@ -154,8 +154,9 @@ starred =
     ∷ row (spanOf (none ∷ page 4 ∷ none ∷ page 9 ∷ [])) (span (record { from = 0; upto = 1 }))
     ∷ row (spanOf (page 4 ∷ none ∷ none ∷ [])) (span (record { from = 0; upto = 0 }))
     -- j
-    ∷ row (storable (2 ^ 62 - 1)) (test true)
-    ∷ row (storable (2 ^ 62)) (test false)
+    ∷ row (wellFormed (2 ^ 62 - 1)) (test true)
+    ∷ row (meaning (2 ^ 62 - 1)) (means (int (2 ^ 62 - 1)))
+    ∷ row (wellFormed (2 ^ 62)) (test false)
     ∷ row (meaning 0x8100_0000_0000_0061) (means (str (97 ∷ [])))
     ∷ row (order 0x8200_0000_0000_6261 0x8100_0000_0000_0062) (goes Ordering·lt)
     ∷ []

@@ -44,10 +44,14 @@ atLevel l (fine n) = cond (eqb (n .level) l) (fine n) (faulty WrongLevel)
 unfoldable pub fetchAt : Env → ℕ → PageId → Fetched
 fetchAt e l p = atLevel l (e .fetch p)
 
--- "8 TooTall: the next page to write has level 8", "9 NoRoom: the next page to write does not fit"; "8 goes before 9 at the same page"
+-- "8 TooTall: the next page to write has level 8"
+abbrev pub isTall : Node → Bool
+isTall n = leb 8 (n .level)
+
+-- "9 NoRoom: the next page to write does not fit"; "8 goes before 9 at the same page"
 unfoldable pub put : Env → Node → List Node → Stage PageId
 put e n o =
-    cond (leb 8 (n .level)) (stop TooTall o)
+    cond (isTall n) (stop TooTall o)
     (cond (ltb (length o) (e .allow)) (go (page (e .count + length o)) (o ++ (n ∷ []))) (stop NoRoom o))
 
 -- "Pages are written left to right."
@@ -113,5 +117,6 @@ writeRoot e zero n o = rootOf e (n .children) n o
 writeRoot e (suc k) n o =
     elim (isOver e n) [ false ↦ rootOf e (n .children) n o | true ↦ then (split e n o) λ m o₁. writeRoot e k m o₁ ]
 
-unfoldable pub insertTree : Env → ℕ → PageId → List Datom → Stage PageId
-insertTree e l root ds = then (insertInto e l root ds []) λ n o. writeRoot e (length (n .datoms)) n o
+-- an insert at a root of level l, and the top of what comes back
+unfoldable pub insertTree : Env → ℕ → PageId → List Datom → List Node → Stage PageId
+insertTree e l root ds o = then (insertInto e l root ds o) λ n o₁. writeRoot e (length (n .datoms)) n o₁

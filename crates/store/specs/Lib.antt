@@ -4,3 +4,4 @@ pub mod Page
 pub mod Size
 pub mod Laws
 pub mod Cells
+pub mod Bytes

@@ -16,7 +16,7 @@ none = page 0xffff_ffff_ffff_ffff
 
 -- whether a page id is none; the number itself stays shut in proofs
 unfoldable pub isNone : PageId → Bool
-isNone p = eqb (p .0) 0xffff_ffff_ffff_ffff
+isNone p = eqb (p .0) (none .0)
 
 -- "children (8 bytes each ..)": a page id as bytes
 unfoldable pub pageOf : List ℕ → PageId

@@ -1,10 +1,10 @@
 // Page ids, page sizes and the store's record, after store.rs of the Rust.
 ghost use mathlib.Core.Path.{_≡_};
-ghost use Prim.Native.Nat.{_+_, _≤_};
+ghost use Prim.Native.Nat.{_+_, _*_, _≤_};
 ghost use lib.ListN.{length};
 ghost use Rattle.store.specs.Words.{bytesOf, wordAt, wordOf, patch};
 ghost use Rattle.store.specs.Size.{capacity};
-ghost use Rattle.store.specs.Page.{none, isNone};
+ghost use Rattle.store.specs.Page.{page, none, isNone};
 
 // The number of a page, counted from the front of the store.
 pub struct PageId(pub u64);
@@ -76,6 +76,14 @@ pub fn word(s: &[u8], at: usize) -> u64
         s[at + 6],
         s[at + 7],
     )
+}
+
+// The child at index i of a page, or of an area laid out as one, with room for m datoms: the children stand behind these.
+pub fn child_at(s: &[u8], m: usize, i: usize) -> PageId
+    requires { ⌜ 32 * m + 8 * i + 8 ≤ length (now s) ⌝ }
+    ensures { λ r. ⌜ r ≡ page (wordAt (now (s .entry)) (32 * m + 8 * i)) ⌝ }
+{
+    PageId(word(s, 32 * m + 8 * i))
 }
 
 // All of `p` goes into `s` from byte `at` on.

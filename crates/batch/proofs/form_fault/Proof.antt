@@ -5,8 +5,10 @@ use mathlib.Core.Bool.{true, false}
 use mathlib.Core.Path.{_≡_, refl, sym, _∙_}
 use borrow.Author.Tests.{not-true, not-false}
 use lib.ListN.{drop}
-use Rattle.datom.specs.Datom.{datomAt, datomsOf, storedDatom}
+use Rattle.datom.specs.Datom.{datomAt, datomsOf}
 use Rattle.datom.specs.Laws.{datoms-from}
+use Rattle.index.specs.Order.{eavt}
+use Rattle.index.specs.Form.{eavt-stored}
 use Rattle.rules.specs.Insert.{formFault}
 use Rattle.batch.specs.Steps.{form-on, form-stop, form-end}
 use borrow.Author.Needs.{needs}
@@ -14,7 +16,7 @@ use Rattle.batch.proofs.form_fault.Statement.{statement}
 use Rattle.batch.proofs.form_fault.Tie as tie
 
 abbrev Inv-loop : tie.InvT-loop
-Inv-loop b n i₀ i = (i ≤ n) × (formFault storedDatom i (drop i (datomsOf n b)) ≡ formFault storedDatom 0 (datomsOf n b))
+Inv-loop b n i₀ i = (i ≤ n) × (formFault (eavt .stored) i (drop i (datomsOf n b)) ≡ formFault (eavt .stored) 0 (datomsOf n b))
 
 abbrev μ-loop : tie.MeasureT-loop
 μ-loop b n i₀ i = n - i
@@ -35,8 +37,9 @@ returns : tie.Need-returns Inv-loop μ-loop
 returns c =
     let a = c .before .before .before .before .before .before .args in
     let l = c .before .before .before .before .loop in
-    let e : storedDatom (datomAt (a .b .now) (32 * l .i)) ≡ false = cc (not-true (c .before .is-stored .result) (c .if1 .taken)) in
-    sym (form-stop storedDatom (l .i) (datoms-from (a .n) (l .i) (a .b .now) (omega arith)) e) ∙ l .inv .1
+    let e : eavt .stored (datomAt (a .b .now) (32 * l .i)) ≡ false =
+    eavt-stored _ ∙ cc (not-true (c .before .is-stored .result) (c .if1 .taken)) in
+    sym (form-stop (eavt .stored) (l .i) (datoms-from (a .n) (l .i) (a .b .now) (omega arith)) e) ∙ l .inv .1
 
 add-i : tie.Need-add-i Inv-loop μ-loop
 add-i c = search needs
@@ -48,11 +51,12 @@ loop-again : tie.Need-loop-again Inv-loop μ-loop
 loop-again c =
     let a = c .before .before .before .before .before .before .args in
     let l = c .before .before .before .before .loop in
-    let e : storedDatom (datomAt (a .b .now) (32 * l .i)) ≡ true = cc (not-false (c .before .is-stored .result) (c .if1 .left)) in
-    (omega arith, sym (form-on storedDatom (l .i) (datoms-from (a .n) (l .i) (a .b .now) (omega arith)) e) ∙ l .inv .1)
+    let e : eavt .stored (datomAt (a .b .now) (32 * l .i)) ≡ true =
+    eavt-stored _ ∙ cc (not-false (c .before .is-stored .result) (c .if1 .left)) in
+    (omega arith, sym (form-on (eavt .stored) (l .i) (datoms-from (a .n) (l .i) (a .b .now) (omega arith)) e) ∙ l .inv .1)
 
 returns-2 : tie.Need-returns-2 Inv-loop μ-loop
-returns-2 c = let l = c .before .loop in sym (form-end storedDatom (l .i) _ _ (omega arith)) ∙ l .inv .1
+returns-2 c = let l = c .before .loop in sym (form-end (eavt .stored) (l .i) _ _ (omega arith)) ∙ l .inv .1
 
 pub form-fault-spec : {M : Type 1} → statement M
 form-fault-spec =

@@ -30,7 +30,7 @@ same-length c = search needs
 returns : tie.Need-returns
 returns c =
     let a = c .before .before .before .before .before .before .before .before .args in
-    replies-refused _ _ _ _ (initialise-refused (a .extent) (a .store .now) (length (a .s .now)) (a .b .now) _ (sym (c .before .before .before .count-of .ensures) ∙ c .before .refusal .given .1))
+    replies-refused _ _ _ _ (initialise-refused (a .extent) (a .store .now) (length (a .s .now)) (a .b .now) _ _ (sym (c .before .before .before .count-of .ensures) ∙ c .before .refusal .given .1))
 
 same-length-2 : tie.Need-same-length-2
 same-length-2 c = search needs
@@ -41,7 +41,7 @@ same-length-3 c = search needs
 returns-2 : tie.Need-returns-2
 returns-2 c =
     let a = c .before .before .before .before .before .before .before .before .before .before .before .before .before .before .before .before .args in
-    rw (initialise-counted (a .extent) (a .store .now) (length (a .s .now)) (a .b .now) _ (sym (c .before .before .before .before .before .before .before .before .before .before .before .count-of .ensures) ∙ c .before .before .before .before .before .before .before .before .before .n .given .1)) (c .before .before .before .before .initialise-counted .ensures)
+    rw (initialise-counted (a .extent) (a .store .now) (length (a .s .now)) (a .b .now) _ (sym (c .before .before .before .before .before .before .before .before .before .before .before .count-of .ensures) ∙ c .before .before .before .before .before .before .before .before .before .n .given .1) _) (c .before .before .before .before .initialise-counted .ensures)
 
 pub initialise-spec : {M : Type 1} → statement M
 initialise-spec =

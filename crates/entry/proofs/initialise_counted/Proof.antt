@@ -3,7 +3,6 @@ use mathlib.Core.Path.{refl, sym, _∙_, ap}
 use mathlib.Core.List.{[]}
 use Rattle.batch.specs.Finding.{findingOf}
 use Rattle.entry.specs.Reply.{Replies, replies-refused, replies}
-use Rattle.entry.specs.Leaf.{fresh-is}
 use Rattle.entry.specs.Checks.{sorted-found, sorted-fresh}
 use borrow.Author.Needs.{needs}
 use Rattle.entry.proofs.initialise_counted.Statement.{statement}
@@ -27,7 +26,7 @@ answer-of-requires c κs = search needs
 returns : tie.Need-returns
 returns c =
     let a = c .before .before .before .before .before .before .before .args in
-    replies-refused _ _ _ _ (sorted-found (a .extent) (a .store .now) (a .n) (a .b .now) _ (sym (ap findingOf (c .before .refusal .given .1)) ∙ c .before .before .before .initialise-fault .ensures))
+    replies-refused _ _ _ _ (sorted-found _ _ (a .extent) (a .store .now) _ (sym (ap findingOf (c .before .refusal .given .1)) ∙ c .before .before .before .initialise-fault .ensures))
 
 same-length : tie.Need-same-length
 same-length c = search needs
@@ -39,7 +38,7 @@ returns-2 : tie.Need-returns-2
 returns-2 c =
     let a = c .before .before .before .before .before .before .before .before .before .before .before .before .before .before .args in
     let free = sym (ap findingOf (c .before .before .before .before .before .before .before .before .enum-told .given .1)) ∙ c .before .before .before .before .before .before .before .before .before .before .initialise-fault .ensures in
-    rw (c .answer-of .ensures, sorted-fresh (a .extent) (a .store .now) (a .n) (a .b .now) free ∙ fresh-is _ _) (replies _ _ _ _ _ (c .before .before .before .before .before .sorted .ensures [] refl))
+    rw (c .answer-of .ensures, sorted-fresh _ _ (a .extent) (a .store .now) free) (replies _ _ _ _ _ (c .before .before .before .before .before .sorted .ensures [] refl))
 
 pub initialise-counted-spec : {M : Type 1} → statement M
 initialise-counted-spec =

@@ -30,7 +30,7 @@ same-length c = search needs
 returns : tie.Need-returns
 returns c =
     let a = c .before .before .before .before .before .before .before .before .args in
-    replies-refused _ _ _ _ (insert-refused (a .extent) (a .store .now) (length (a .s .now)) (a .b .now) (a .root) _ (sym (c .before .before .before .count-of .ensures) ∙ c .before .refusal .given .1))
+    replies-refused _ _ _ _ (insert-refused (a .extent) (a .store .now) (length (a .s .now)) (a .b .now) _ _ (sym (c .before .before .before .count-of .ensures) ∙ c .before .refusal .given .1) (a .root))
 
 same-length-2 : tie.Need-same-length-2
 same-length-2 c = search needs
@@ -41,7 +41,7 @@ same-length-3 c = search needs
 returns-2 : tie.Need-returns-2
 returns-2 c =
     let a = c .before .before .before .before .before .before .before .before .before .before .before .before .before .before .before .before .args in
-    rw (insert-counted (a .extent) (a .store .now) (length (a .s .now)) (a .b .now) _ (sym (c .before .before .before .before .before .before .before .before .before .before .before .count-of .ensures) ∙ c .before .before .before .before .before .before .before .before .before .n .given .1) (a .root)) (c .before .before .before .before .insert-counted .ensures)
+    rw (insert-counted (a .extent) (a .store .now) (length (a .s .now)) (a .b .now) _ (sym (c .before .before .before .before .before .before .before .before .before .before .before .count-of .ensures) ∙ c .before .before .before .before .before .before .before .before .before .n .given .1) _ (a .root)) (c .before .before .before .before .insert-counted .ensures)
 
 pub insert-spec : {M : Type 1} → statement M
 insert-spec =

@@ -1,11 +1,9 @@
 -- `insert_counted` meets its contract: what the checks find is refused, and a root that is no page; else the batch is written. Assumes nothing.
-use native.Mathlib.Omega.{arith}
 use mathlib.Core.Path.{refl, sym, _∙_, ap}
 use mathlib.Core.List.{[]}
 use Rattle.batch.specs.Finding.{findingOf}
 use Rattle.entry.specs.Reply.{replies-refused, replies}
-use Rattle.entry.specs.Leaf.{fresh-is}
-use Rattle.entry.specs.Checks.{fault-rises, rest-found, rest-fresh, rest-missing, rest-at}
+use Rattle.entry.specs.Checks.{fault-rises, counted-found, counted-fresh, counted-missing, counted-at}
 use borrow.Author.Needs.{needs}
 use Rattle.entry.proofs.insert_counted.Statement.{statement}
 use Rattle.entry.proofs.insert_counted.Tie as tie
@@ -18,6 +16,15 @@ enum-known-refusal c = search needs
 
 enum-told : tie.Need-enum-told
 enum-told c = search needs
+
+is-bad-root-requires : tie.Need-is-bad-root-requires
+is-bad-root-requires c κs = search needs
+
+returns : tie.Need-returns
+returns c =
+    let a = c .before .before .before .before .before .before .before .before .args in
+    let free = sym (ap findingOf (c .before .before .enum-told .given .1)) ∙ c .before .before .before .before .insert-fault .ensures in
+    replies-refused _ _ _ _ (counted-missing _ _ (a .extent) (a .store .now) (a .root) free (sym (c .before .is-bad-root .ensures) ∙ c .if1 .taken))
 
 is-none-requires : tie.Need-is-none-requires
 is-none-requires c κs = search needs
@@ -34,29 +41,23 @@ same-length c = search needs
 same-length-2 : tie.Need-same-length-2
 same-length-2 c = search needs
 
-returns : tie.Need-returns
-returns c =
-    let a = c .before .before .before .before .before .before .before .before .before .before .before .before .before .before .before .before .args in
-    let free = sym (ap findingOf (c .before .before .before .before .before .before .before .before .before .before .enum-told .given .1)) ∙ c .before .before .before .before .before .before .before .before .before .before .before .before .insert-fault .ensures in
-    let none = sym (c .before .before .before .before .before .before .before .before .before .is-none .ensures) ∙ c .before .before .before .before .before .before .before .before .if1 .taken in
-    rw (c .answer-of .ensures, rest-fresh (a .extent) (a .store .now) (a .root) (a .n) (a .b .now) free none ∙ fresh-is _ _) (replies _ _ _ _ _ (c .before .before .before .before .before .fresh .ensures [] refl))
-
 returns-2 : tie.Need-returns-2
 returns-2 c =
-    let a = c .before .before .before .before .before .before .before .before .before .before .before .args in
-    let free = sym (ap findingOf (c .before .before .before .before .before .enum-told .given .1)) ∙ c .before .before .before .before .before .before .before .insert-fault .ensures in
-    let some = sym (c .before .before .before .before .is-none .ensures) ∙ c .before .before .before .if1 .left in
-    replies-refused _ _ _ _ (rest-missing (a .extent) (a .store .now) (a .root) (a .n) (a .b .now) free some (omega arith))
+    let a = c .before .before .before .before .before .before .before .before .before .before .before .before .before .before .before .before .before .before .args in
+    let free = sym (ap findingOf (c .before .before .before .before .before .before .before .before .before .before .before .before .enum-told .given .1)) ∙ c .before .before .before .before .before .before .before .before .before .before .before .before .before .before .insert-fault .ensures in
+    let known = sym (c .before .before .before .before .before .before .before .before .before .before .before .is-bad-root .ensures) ∙ c .before .before .before .before .before .before .before .before .before .before .if1 .left in
+    let none = sym (c .before .before .before .before .before .before .before .before .before .is-none .ensures) ∙ c .before .before .before .before .before .before .before .before .if2 .taken in
+    rw (c .answer-of .ensures, counted-fresh _ _ (a .extent) (a .store .now) (a .root) free known none) (replies _ _ _ _ _ (c .before .before .before .before .before .fresh .ensures _ [] refl))
 
 insert-at-requires : tie.Need-insert-at-requires
 insert-at-requires c κs =
-    let free = sym (ap findingOf (c .before .before .before .before .before .before .before .enum-told .given .1)) ∙ c .before .before .before .before .before .before .before .before .before .insert-fault .ensures in
-    (c .before .before .before .before .before .before .before .before .before .before .before .before .before .pre, fault-rises _ free)
+    let free = sym (ap findingOf (c .before .before .before .before .before .before .enum-told .given .1)) ∙ c .before .before .before .before .before .before .before .before .insert-fault .ensures in
+    (c .before .before .before .before .before .before .before .before .before .before .before .before .pre, fault-rises _ _ free)
 
 returns-3 : tie.Need-returns-3
 returns-3 c =
     let a = c .before .before .before .before .before .before .before .args in
-    replies-refused _ _ _ _ (rest-found (a .extent) (a .store .now) (a .root) (a .n) (a .b .now) _ (sym (ap findingOf (c .before .refusal .given .1)) ∙ c .before .before .before .insert-fault .ensures))
+    replies-refused _ _ _ _ (counted-found _ _ (a .extent) (a .store .now) (a .root) _ (sym (ap findingOf (c .before .refusal .given .1)) ∙ c .before .before .before .insert-fault .ensures))
 
 same-length-3 : tie.Need-same-length-3
 same-length-3 c = search needs
@@ -66,10 +67,11 @@ same-length-4 c = search needs
 
 returns-4 : tie.Need-returns-4
 returns-4 c =
-    let a = c .before .before .before .before .before .before .before .before .before .before .before .before .before .before .before .before .before .before .args in
-    let free = sym (ap findingOf (c .before .before .before .before .before .before .before .before .before .before .before .before .enum-told .given .1)) ∙ c .before .before .before .before .before .before .before .before .before .before .before .before .before .before .insert-fault .ensures in
-    let some = sym (c .before .before .before .before .before .before .before .before .before .before .before .is-none .ensures) ∙ c .before .before .before .before .before .before .before .before .before .before .if1 .left in
-    rw (rest-at (a .extent) (a .store .now) (a .root) (a .n) (a .b .now) free some (omega arith)) (c .before .before .before .before .insert-at .ensures)
+    let a = c .before .before .before .before .before .before .before .before .before .before .before .before .before .before .before .before .before .args in
+    let free = sym (ap findingOf (c .before .before .before .before .before .before .before .before .before .before .before .enum-told .given .1)) ∙ c .before .before .before .before .before .before .before .before .before .before .before .before .before .insert-fault .ensures in
+    let known = sym (c .before .before .before .before .before .before .before .before .before .before .is-bad-root .ensures) ∙ c .before .before .before .before .before .before .before .before .before .if1 .left in
+    let some = sym (c .before .before .before .before .before .before .before .before .is-none .ensures) ∙ c .before .before .before .before .before .before .before .if2 .left in
+    rw (counted-at _ _ (a .extent) (a .store .now) (a .root) free known some) (c .before .before .before .before .insert-at .ensures)
 
 pub insert-counted-spec : {M : Type 1} → statement M
 insert-counted-spec =
@@ -78,12 +80,13 @@ insert-counted-spec =
     insert-fault-requires
     enum-known-refusal
     enum-told
+    is-bad-root-requires
+    returns
     is-none-requires
     fresh-requires
     answer-of-requires
     same-length
     same-length-2
-    returns
     returns-2
     insert-at-requires
     returns-3

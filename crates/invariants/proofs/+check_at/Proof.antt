@@ -7,6 +7,7 @@ use borrow.Author.Needs.{needs}
 use borrow.Author.Tests.{not-true, not-false}
 use borrow.Fn.Kinds.{In}
 use borrow.Fn.PlainCycle.{Measures, is, falls, and}
+use Rattle.index.specs.Order.{eavt}
 use Rattle.memory_store.specs.Reading.{told}
 use Rattle.memory_store.specs.Readable.{told-fine, told-faulty}
 use Rattle.invariants.specs.Bounds.{boundOf}
@@ -17,7 +18,7 @@ use Rattle.invariants.proofs.check_at.Kinds as check-at-kinds
 use Rattle.invariants.proofs.+check_at.Lts-check_at as lts
 use Rattle.invariants.proofs.bound.bound_at.Reads as bound-at-reads
 use Rattle.invariants.proofs.bound.is_below.Reads as is-below-reads
-use Rattle.memory_store.proofs.access.child_at.Reads as child-at-reads
+use Rattle.store.proofs.child_at.Reads as child-at-reads
 use Rattle.memory_store.proofs.fetch.Reads as fetch-reads
 use Rattle.memory_store.proofs.found.node_at.Reads as node-at-reads
 use Rattle.store.proofs.PageId.is_none.Reads as is-none-reads
@@ -31,8 +32,8 @@ level-of κs a = a .1 .1 .1 .0
 abbrev at : ℕ → In 1 check-at-kinds.ps
 at t = and 1 check-at-kinds.ps (is 1 check-at-kinds.ps level-of t) check-at.Pre
 
-abbrev below : ℕ → In 1 check-at-kinds.ps
-below t = and 1 check-at-kinds.ps (falls 1 check-at-kinds.ps _<_ level-of t) check-at.Pre
+abbrev falling : ℕ → In 1 check-at-kinds.ps
+falling t = and 1 check-at-kinds.ps (falls 1 check-at-kinds.ps _<_ level-of t) check-at.Pre
 
 -- what the calls ask and give
 abbrev calls : ℕ → lts.Claims
@@ -49,13 +50,13 @@ calls t = (
   is-none-reads.Learnt,
   node-at-reads.Asked,
   node-at-reads.Learnt,
-  below t,
+  falling t,
   check-at.Post,
 )
 
 abbrev Inv-loop : lts.InvT-loop
 Inv-loop store extent c level page upper l k part i₀ last₀ midpoint₀ i last midpoint =
-    Along extent store c level page k part (boundOf last₀) (boundOf upper) i (boundOf last) (boundOf midpoint)
+    Along eavt extent store c level page k part (boundOf last₀) (boundOf upper) i (boundOf last) (boundOf midpoint)
 
 abbrev μ-loop : lts.MeasureT-loop
 μ-loop store extent c level page upper l k part i₀ last₀ midpoint₀ i last midpoint = k + 1 - i
@@ -69,13 +70,13 @@ enum-told t c = search needs
 returns : (t : ℕ) → lts.Need-returns (calls t) (at t) check-at.Post Inv-loop μ-loop
 returns t c = let a = c .before .before .before .args in
     let P = c .before .before .before .pre .1 in
-    page-faulty (a .extent) (a .store .now) (a .level) (a .page) (boundOf (a .lower)) (boundOf (a .upper)) _ (told-faulty (a .extent) (a .store .now) (a .page) _ (sym (ap (told (a .extent) (a .store .now) (a .page)) (c .enum-told .given .1)) ∙ P .2))
+    page-faulty eavt (a .extent) (a .store .now) (a .level) (a .page) (boundOf (a .lower)) (boundOf (a .upper)) _ (told-faulty eavt (a .extent) (a .store .now) (a .page) _ (sym (ap (told (a .extent) (a .store .now) (a .page)) (c .enum-told .given .1)) ∙ P .2))
 
 returns-2 : (t : ℕ) → lts.Need-returns-2 (calls t) (at t) check-at.Post Inv-loop μ-loop
 returns-2 t c = let a = c .before .before .before .before .before .args in
     let P = c .before .before .before .before .before .pre .1 in
     let g = c .before .before .found .given in
-    page-other (a .extent) (a .store .now) (a .level) (a .page) (boundOf (a .lower)) (boundOf (a .upper)) _ _ (told-fine (a .extent) (a .store .now) (a .page) (g .0 .0) (g .0 .1 .0) (sym (ap (told (a .extent) (a .store .now) (a .page)) (g .1)) ∙ P .2)) (omega (arith, c .if1 .taken))
+    page-other eavt (a .extent) (a .store .now) (a .level) (a .page) (boundOf (a .lower)) (boundOf (a .upper)) _ _ (told-fine eavt (a .extent) (a .store .now) (a .page) (g .0 .0) (g .0 .1 .0) (sym (ap (told (a .extent) (a .store .now) (a .page)) (g .1)) ∙ P .2)) (omega (arith, c .if1 .taken))
 
 fetch-requires : (t : ℕ) → lts.Need-fetch-requires (calls t) (at t) check-at.Post Inv-loop μ-loop
 fetch-requires t c κs = search needs
@@ -84,7 +85,7 @@ loop-holds : (t : ℕ) → lts.Need-loop-holds (calls t) (at t) check-at.Post In
 loop-holds t c = let a = c .before .before .before .before .before .before .args in
     let P = c .before .before .before .before .before .before .pre .1 in
     let g = c .before .before .before .found .given in
-    along-start (a .extent) (a .store .now) (a .c) (a .level) (a .page) _ _ _ (boundOf (a .lower)) (boundOf (a .upper)) (P .0) (P .1) (told-fine (a .extent) (a .store .now) (a .page) (g .0 .0) (g .0 .1 .0) (sym (ap (told (a .extent) (a .store .now) (a .page)) (g .1)) ∙ P .2)) (c .before .if1 .left) (c .fetch .ensures)
+    along-start eavt (a .extent) (a .store .now) (a .c) (a .level) (a .page) _ _ _ (boundOf (a .lower)) (boundOf (a .upper)) (P .0) (P .1) (told-fine eavt (a .extent) (a .store .now) (a .page) (g .0 .0) (g .0 .1 .0) (sym (ap (told (a .extent) (a .store .now) (a .page)) (g .1)) ∙ P .2)) (c .before .if1 .left) (c .fetch .ensures)
 
 bound-at-requires : (t : ℕ) → lts.Need-bound-at-requires (calls t) (at t) check-at.Post Inv-loop μ-loop
 bound-at-requires t c κs = along-datoms (c .before .loop .inv)

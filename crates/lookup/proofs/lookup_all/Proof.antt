@@ -6,6 +6,7 @@ use lib.ListN.{drop}
 use Rattle.datom.specs.Datom.{datomsOf}
 use Rattle.datom.specs.Laws.{datoms-from}
 use Rattle.index.specs.Order.{eavt}
+use Rattle.index.specs.Laws.{eavt-preorder}
 use Rattle.rules.specs.Lookup.{lookupAll}
 use Rattle.rules.specs.Store.{fetchPage, envOf}
 use Rattle.lookup.specs.Steps.{all-met, all-lost, all-end}
@@ -16,7 +17,7 @@ use Rattle.lookup.proofs.lookup_all.Statement.{statement}
 use Rattle.lookup.proofs.lookup_all.Tie as tie
 
 abbrev Inv-loop : tie.InvT-loop
-Inv-loop store extent c root level count b n path₀ i₀ path i = (i ≤ n) × (lookupAll (envOf eavt extent store) level root (fetchPage eavt extent store root) i (drop i (datomsOf n b)) ≡ lookupAll (envOf eavt extent store) level root (fetchPage eavt extent store root) 0 (datomsOf n b)) × Kept extent store path
+Inv-loop store extent c root level count b n path₀ i₀ path i = (i ≤ n) × (lookupAll (envOf eavt extent store) level root (fetchPage eavt extent store root) i (drop i (datomsOf n b)) ≡ lookupAll (envOf eavt extent store) level root (fetchPage eavt extent store root) 0 (datomsOf n b)) × Kept eavt extent store path
 
 abbrev μ-loop : tie.MeasureT-loop
 μ-loop store extent c root level count b n path₀ i₀ path i = n - i
@@ -27,7 +28,7 @@ new-requires c κs = search needs
 loop-holds : tie.Need-loop-holds Inv-loop μ-loop
 loop-holds c =
     let a = c .before .before .before .args in
-    (search needs, refl, rw (c .new .ensures) (kept-unread (a .extent) (a .store .now)))
+    (search needs, refl, rw (c .new .ensures) (kept-unread eavt (a .extent) (a .store .now)))
 
 mul-datom-at : tie.Need-mul-datom-at Inv-loop μ-loop
 mul-datom-at c = search needs
@@ -68,7 +69,7 @@ loop-again c =
     let h : w .i < a .n = omega arith in
     let q = sym (c .before .before .enum-told2 .given .1) ∙ (rw (c .before .before .before .before .before .datom-at .ensures) at (c .before .before .before .before .lookup-one .ensures .0)) in
     let F = (rw (c .before .before .before .before .before .datom-at .ensures) at (c .before .before .before .before .lookup-one .ensures .2)) (c .before .before .enum-told2 .given .1) in
-    rw (c .skip .ensures) (next-most (a .n) (w .i) (a .b .now) (c .before .before .before .before .before .before .before .before .before .before .before .pre .4) h _, next-finds (a .n) (w .i) (a .b .now) (c .before .before .before .before .before .before .before .before .before .before .before .pre .4) h (a .extent) (a .store .now) (a .level) (a .root) _ F q ∙ w .inv .1, c .before .before .before .before .lookup-one .ensures .1)
+    rw (c .skip .ensures) (next-most eavt eavt-preorder (a .n) (w .i) (a .b .now) (c .before .before .before .before .before .before .before .before .before .before .before .pre .4) h _, next-finds eavt eavt-preorder (a .n) (w .i) (a .b .now) (c .before .before .before .before .before .before .before .before .before .before .before .pre .4) h (a .extent) (a .store .now) (a .level) (a .root) _ F q ∙ w .inv .1, c .before .before .before .before .lookup-one .ensures .1)
 
 enum-known-look : tie.Need-enum-known-look Inv-loop μ-loop
 enum-known-look c = search needs

@@ -1,6 +1,8 @@
 -- `lookup_one` meets its contract: the path from the page at hand ends where the whole path ends, and so do those of the gap. Assumes nothing.
 use native.Mathlib.Omega.{arith}
 use mathlib.Core.Path.{refl, sym, _∙_}
+use Rattle.index.specs.Order.{eavt}
+use Rattle.index.specs.Laws.{eavt-preorder}
 use Rattle.memory_store.specs.Readable.{opens}
 use Rattle.lookup.specs.Gap.{met-leaves, lost-leaves}
 use Rattle.lookup.specs.Steps.{next-real}
@@ -10,7 +12,7 @@ use Rattle.lookup.proofs.lookup_one.Statement.{statement}
 use Rattle.lookup.proofs.lookup_one.Tie as tie
 
 abbrev Inv-loop : tie.InvT-loop
-Inv-loop store extent c level count d path₀ gap₀ page₀ l₀ k₀ path gap page l k = Going extent store d l₀ page₀ path gap page l k
+Inv-loop store extent c level count d path₀ gap₀ page₀ l₀ k₀ path gap page l k = Going eavt extent store d l₀ page₀ path gap page l k
 
 abbrev μ-loop : tie.MeasureT-loop
 μ-loop store extent c level count d path₀ gap₀ page₀ l₀ k₀ path gap page l k = l
@@ -22,21 +24,21 @@ part-of-requires : tie.Need-part-of-requires Inv-loop μ-loop
 part-of-requires c κs =
     let a = c .before .before .args in
     let w = c .loop in
-    let o = opens (a .extent) (a .store .now) (w .page) (w .l) (w .k) (c .before .before .pre .0) (w .inv .read) in
-    (c .before .before .pre .0, o .below)
+    let o = opens eavt (a .extent) (a .store .now) (w .page) (w .l) (w .k) (c .before .before .pre .0) (w .inv .read) in
+    (c .before .before .pre .0, o .used)
 
 first-not-below-requires : tie.Need-first-not-below-requires Inv-loop μ-loop
 first-not-below-requires c κs =
     let a = c .before .before .before .args in
     let w = c .before .loop in
-    let o = opens (a .extent) (a .store .now) (w .page) (w .l) (w .k) (c .before .before .before .pre .0) (w .inv .read) in
+    let o = opens eavt (a .extent) (a .store .now) (w .page) (w .l) (w .k) (c .before .before .before .pre .0) (w .inv .read) in
     rw (c .part-of .ensures) (omega (arith, o .few, o .wide), o .rise)
 
 is-met-requires : tie.Need-is-met-requires Inv-loop μ-loop
 is-met-requires c κs =
     let a = c .before .before .before .before .args in
     let w = c .before .before .loop in
-    let o = opens (a .extent) (a .store .now) (w .page) (w .l) (w .k) (c .before .before .before .before .pre .0) (w .inv .read) in
+    let o = opens eavt (a .extent) (a .store .now) (w .page) (w .l) (w .k) (c .before .before .before .before .pre .0) (w .inv .read) in
     rw (c .before .part-of .ensures) (omega (arith, o .few, o .wide))
 
 returns : tie.Need-returns Inv-loop μ-loop
@@ -44,13 +46,13 @@ returns c =
     let a = c .before .before .before .before .before .before .args in
     let w = c .before .before .before .before .loop in
     let m = met-is (w .inv) (c .before .before .before .part-of .ensures) (c .before .before .first-not-below .ensures) (c .before .is-met .ensures) (c .if1 .taken) in
-    (going-met (w .inv) m, w .inv .kept, met-leaves _ _ _ _ _ _)
+    (going-met (w .inv) m, w .inv .kept, met-leaves _ _ _ _ _ _ _)
 
 narrow-requires : tie.Need-narrow-requires Inv-loop μ-loop
 narrow-requires c κs =
     let a = c .before .before .before .before .before .before .args in
     let w = c .before .before .before .before .loop in
-    let o = opens (a .extent) (a .store .now) (w .page) (w .l) (w .k) (c .before .before .before .before .before .before .pre .0) (w .inv .read) in
+    let o = opens eavt (a .extent) (a .store .now) (w .page) (w .l) (w .k) (c .before .before .before .before .before .before .pre .0) (w .inv .read) in
     rw (c .before .before .before .part-of .ensures) (omega (arith, o .few, o .wide))
 
 returns-2 : tie.Need-returns-2 Inv-loop μ-loop
@@ -59,13 +61,13 @@ returns-2 c =
     let w = c .before .before .before .before .before .before .loop in
     let m = met-is (w .inv) (c .before .before .before .before .before .part-of .ensures) (c .before .before .before .before .first-not-below .ensures) (c .before .before .before .is-met .ensures) (c .before .before .if1 .left) in
     let g = gap-is (w .inv) (c .before .before .before .before .before .part-of .ensures) (c .before .before .before .before .first-not-below .ensures) (c .before .narrow .ensures) in
-    (going-absent (w .inv) m (c .if2 .taken), w .inv .kept, λ e. rw g (going-free (w .inv) m (c .if2 .taken)))
+    (going-absent (w .inv) m (c .if2 .taken), w .inv .kept, λ e. rw g (going-free (w .inv) m eavt-preorder (c .if2 .taken)))
 
 next-midpoint-requires : tie.Need-next-midpoint-requires Inv-loop μ-loop
 next-midpoint-requires c κs =
     let a = c .before .before .before .before .before .before .before .before .args in
     let w = c .before .before .before .before .before .before .loop in
-    let o = opens (a .extent) (a .store .now) (w .page) (w .l) (w .k) (c .before .before .before .before .before .before .before .before .pre .0) (w .inv .read) in
+    let o = opens eavt (a .extent) (a .store .now) (w .page) (w .l) (w .k) (c .before .before .before .before .before .before .before .before .pre .0) (w .inv .read) in
     rw (c .before .before .before .before .before .part-of .ensures, c .before .before .before .before .before .before .before .before .pre .1) (o .few, omega (arith, o .wide))
 
 enum-known-child : tie.Need-enum-known-child Inv-loop μ-loop
@@ -83,7 +85,7 @@ returns-3 c =
     let w = c .before .before .before .before .before .before .before .before .before .before .loop in
     let m = met-is (w .inv) (c .before .before .before .before .before .before .before .before .before .part-of .ensures) (c .before .before .before .before .before .before .before .before .first-not-below .ensures) (c .before .before .before .before .before .before .before .is-met .ensures) (c .before .before .before .before .before .before .if1 .left) in
     let n = next-is (w .inv) (c .before .before .before .before .before .before .before .before .before .part-of .ensures) (c .before .before .before .before .before .before .before .before .first-not-below .ensures) (c .before .before .before .before .before .before .before .before .before .before .before .before .pre .1) (c .before .before .before .next-midpoint .ensures) (c .before .enum-told .given .1) in
-    (rw (c .max .ensures) (going-stuck (w .inv) m (c .before .before .before .before .if2 .left) (omega (arith, c .before .before .before .before .before .before .before .before .before .before .before .before .good .1 .0)) n), w .inv .kept, lost-leaves _ _ _ _ _ _ _)
+    (rw (c .max .ensures) (going-stuck (w .inv) m (c .before .before .before .before .if2 .left) (omega (arith, c .before .before .before .before .before .before .before .before .before .before .before .before .good .1 .0)) n), w .inv .kept, lost-leaves _ _ _ _ _ _ _ _)
 
 sub-l : tie.Need-sub-l Inv-loop μ-loop
 sub-l c = search needs
@@ -92,7 +94,7 @@ open-at-requires : tie.Need-open-at-requires Inv-loop μ-loop
 open-at-requires c κs =
     let a = c .before .before .before .before .before .before .before .before .before .before .before .before .args in
     let w = c .before .before .before .before .before .before .before .before .before .before .loop in
-    let o = opens (a .extent) (a .store .now) (w .page) (w .l) (w .k) (c .before .before .before .before .before .before .before .before .before .before .before .before .pre .0) (w .inv .read) in
+    let o = opens eavt (a .extent) (a .store .now) (w .page) (w .l) (w .k) (c .before .before .before .before .before .before .before .before .before .before .before .before .pre .0) (w .inv .read) in
     let n = next-is (w .inv) (c .before .before .before .before .before .before .before .before .before .part-of .ensures) (c .before .before .before .before .before .before .before .before .first-not-below .ensures) (c .before .before .before .before .before .before .before .before .before .before .before .before .pre .1) (c .before .before .before .next-midpoint .ensures) (c .before .child .given .1) in
     (c .before .before .before .before .before .before .before .before .before .before .before .before .pre .0, c .before .before .before .before .before .before .before .before .before .before .before .before .pre .1, w .inv .kept, omega (arith, o .low), next-real _ _ n)
 
@@ -108,34 +110,34 @@ returns-4 c =
     let w = c .before .before .before .before .before .before .before .before .before .before .before .before .before .loop in
     let m = met-is (w .inv) (c .before .before .before .before .before .before .before .before .before .before .before .before .part-of .ensures) (c .before .before .before .before .before .before .before .before .before .before .before .first-not-below .ensures) (c .before .before .before .before .before .before .before .before .before .before .is-met .ensures) (c .before .before .before .before .before .before .before .before .before .if1 .left) in
     let n = next-is (w .inv) (c .before .before .before .before .before .before .before .before .before .before .before .before .part-of .ensures) (c .before .before .before .before .before .before .before .before .before .before .before .first-not-below .ensures) (c .before .before .before .before .before .before .before .before .before .before .before .before .before .before .before .pre .1) (c .before .before .before .before .before .before .next-midpoint .ensures) (c .before .before .before .before .child .given .1) in
-    (going-lost (w .inv) m (c .before .before .before .before .before .before .before .if2 .left) n (sym (c .enum-told2 .given .1) ∙ c .before .before .open-at .ensures), w .inv .kept, lost-leaves _ _ _ _ _ _ _)
+    (going-lost (w .inv) m (c .before .before .before .before .before .before .before .if2 .left) n (sym (c .enum-told2 .given .1) ∙ c .before .before .open-at .ensures), w .inv .kept, lost-leaves _ _ _ _ _ _ _ _)
 
 mul-child : tie.Need-mul-child Inv-loop μ-loop
 mul-child c =
     let a = c .before .before .before .before .before .before .before .before .before .before .before .before .before .before .before .before .args in
     let w = c .before .before .before .before .before .before .before .before .before .before .before .before .before .before .loop in
-    let o = opens (a .extent) (a .store .now) (w .page) (w .l) (w .k) (c .before .before .before .before .before .before .before .before .before .before .before .before .before .before .before .before .pre .0) (w .inv .read) in
+    let o = opens eavt (a .extent) (a .store .now) (w .page) (w .l) (w .k) (c .before .before .before .before .before .before .before .before .before .before .before .before .before .before .before .before .pre .0) (w .inv .read) in
     omega (arith, o .low)
 
 element-set-from-child : tie.Need-element-set-from-child Inv-loop μ-loop
 element-set-from-child c =
     let a = c .before .before .before .before .before .before .before .before .before .before .before .before .before .before .before .before .args in
     let w = c .before .before .before .before .before .before .before .before .before .before .before .before .before .before .loop in
-    let o = opens (a .extent) (a .store .now) (w .page) (w .l) (w .k) (c .before .before .before .before .before .before .before .before .before .before .before .before .before .before .before .before .pre .0) (w .inv .read) in
+    let o = opens eavt (a .extent) (a .store .now) (w .page) (w .l) (w .k) (c .before .before .before .before .before .before .before .before .before .before .before .before .before .before .before .before .pre .0) (w .inv .read) in
     omega (arith, o .low)
 
 mul-path : tie.Need-mul-path Inv-loop μ-loop
 mul-path c =
     let a = c .before .before .before .before .before .before .before .before .before .before .before .before .before .before .before .before .args in
     let w = c .before .before .before .before .before .before .before .before .before .before .before .before .before .before .loop in
-    let o = opens (a .extent) (a .store .now) (w .page) (w .l) (w .k) (c .before .before .before .before .before .before .before .before .before .before .before .before .before .before .before .before .pre .0) (w .inv .read) in
+    let o = opens eavt (a .extent) (a .store .now) (w .page) (w .l) (w .k) (c .before .before .before .before .before .before .before .before .before .before .before .before .before .before .before .before .pre .0) (w .inv .read) in
     omega (arith, o .low)
 
 element-write-path : tie.Need-element-write-path Inv-loop μ-loop
 element-write-path c =
     let a = c .before .before .before .before .before .before .before .before .before .before .before .before .before .before .before .before .args in
     let w = c .before .before .before .before .before .before .before .before .before .before .before .before .before .before .loop in
-    let o = opens (a .extent) (a .store .now) (w .page) (w .l) (w .k) (c .before .before .before .before .before .before .before .before .before .before .before .before .before .before .before .before .pre .0) (w .inv .read) in
+    let o = opens eavt (a .extent) (a .store .now) (w .page) (w .l) (w .k) (c .before .before .before .before .before .before .before .before .before .before .before .before .before .before .before .before .pre .0) (w .inv .read) in
     omega (arith, o .low)
 
 loop-less : tie.Need-loop-less Inv-loop μ-loop
@@ -145,11 +147,11 @@ loop-again : tie.Need-loop-again Inv-loop μ-loop
 loop-again c =
     let a = c .before .before .before .before .before .before .before .before .before .before .before .before .before .before .before .before .args in
     let w = c .before .before .before .before .before .before .before .before .before .before .before .before .before .before .loop in
-    let o = opens (a .extent) (a .store .now) (w .page) (w .l) (w .k) (c .before .before .before .before .before .before .before .before .before .before .before .before .before .before .before .before .pre .0) (w .inv .read) in
+    let o = opens eavt (a .extent) (a .store .now) (w .page) (w .l) (w .k) (c .before .before .before .before .before .before .before .before .before .before .before .before .before .before .before .before .pre .0) (w .inv .read) in
     let m = met-is (w .inv) (c .before .before .before .before .before .before .before .before .before .before .before .before .before .part-of .ensures) (c .before .before .before .before .before .before .before .before .before .before .before .before .first-not-below .ensures) (c .before .before .before .before .before .before .before .before .before .before .before .is-met .ensures) (c .before .before .before .before .before .before .before .before .before .before .if1 .left) in
     let g = gap-is (w .inv) (c .before .before .before .before .before .before .before .before .before .before .before .before .before .part-of .ensures) (c .before .before .before .before .before .before .before .before .before .before .before .before .first-not-below .ensures) (c .before .before .before .before .before .before .before .before .before .narrow .ensures) in
     let n = next-is (w .inv) (c .before .before .before .before .before .before .before .before .before .before .before .before .before .part-of .ensures) (c .before .before .before .before .before .before .before .before .before .before .before .before .first-not-below .ensures) (c .before .before .before .before .before .before .before .before .before .before .before .before .before .before .before .before .pre .1) (c .before .before .before .before .before .before .before .next-midpoint .ensures) (c .before .before .before .before .before .child .given .1) in
-    rw g (going-down (w .inv) m (c .before .before .before .before .before .before .before .before .if2 .left) n (sym (c .before .n .given .1) ∙ c .before .before .before .open-at .ensures) (omega (arith, o .low)))
+    rw g (going-down (w .inv) m (c .before .before .before .before .before .before .before .before .if2 .left) n eavt-preorder (sym (c .before .n .given .1) ∙ c .before .before .before .open-at .ensures) (omega (arith, o .low)))
 
 pub lookup-one-spec : {M : Type 1} → statement M
 lookup-one-spec =

@@ -1,9 +1,6 @@
 -- `fetch` meets its contract: a page that is given lies in the store. Assumes nothing.
-use native.Mathlib.Nat.{add-sub-cancel-left}
-use native.Mathlib.Omega.{arith}
 use mathlib.Core.Path.{sym, _∙_}
-use Rattle.rules.specs.Store.{pageAt}
-use Rattle.memory_store.specs.FetchLaws.{given-inside, given-fetched, refused-fetched}
+use Rattle.memory_store.specs.FetchLaws.{given, given-fetched, refused-fetched}
 use borrow.Author.Needs.{needs}
 use Rattle.memory_store.proofs.fetch.Statement.{statement}
 use Rattle.memory_store.proofs.fetch.Tie as tie
@@ -29,24 +26,11 @@ part-result-end c = search needs
 returns : tie.Need-returns
 returns c = sym (refused-fetched _ _ _ _ (sym (c .before .before .before .fetch-refusal .ensures) ∙ c .before .enum-told2 .given .1))
 
-mul-at : tie.Need-mul-at
-mul-at c = omega (arith, given-inside _ _ _ (sym (c .before .before .fetch-refusal .ensures) ∙ c .enum-told .given .1))
-
-add-result : tie.Need-add-result
-add-result c = omega (arith, given-inside _ _ _ (sym (c .before .before .fetch-refusal .ensures) ∙ c .enum-told .given .1))
-
-sub-result-2 : tie.Need-sub-result-2
-sub-result-2 c = search needs
-
-part-result-start-2 : tie.Need-part-result-start-2
-part-result-start-2 c = search needs
-
-part-result-end-2 : tie.Need-part-result-end-2
-part-result-end-2 c = omega (arith, given-inside _ _ _ (sym (c .before .before .fetch-refusal .ensures) ∙ c .enum-told .given .1))
+part-of-requires : tie.Need-part-of-requires
+part-of-requires c κs = given _ _ _ (sym (c .before .before .fetch-refusal .ensures) ∙ c .enum-told .given .1)
 
 returns-2 : tie.Need-returns-2
-unfolding pageAt
-returns-2 c = rw (given-fetched _ _ _ (sym (c .before .before .before .fetch-refusal .ensures) ∙ c .before .enum-told .given .1), add-sub-cancel-left)
+returns-2 c = rw (given-fetched _ _ _ (sym (c .before .before .before .fetch-refusal .ensures) ∙ c .before .enum-told .given .1)) (c .part-of .ensures)
 
 pub fetch-spec : {M : Type 1} → statement M
 fetch-spec =
@@ -59,9 +43,5 @@ fetch-spec =
     part-result-start
     part-result-end
     returns
-    mul-at
-    add-result
-    sub-result-2
-    part-result-start-2
-    part-result-end-2
+    part-of-requires
     returns-2)

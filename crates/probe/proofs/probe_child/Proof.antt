@@ -21,21 +21,21 @@ enum-told : tie.Need-enum-told
 enum-told c = search needs
 
 returns : tie.Need-returns
-returns c = of-unread _ _ _ (c .enum-told .given .1) (c .before .before .look-at .ensures)
+returns c = of-unread _ _ _ _ (c .enum-told .given .1) (c .before .before .look-at .ensures)
 
 returns-2 : tie.Need-returns-2
 unfolding nodeOf
 returns-2 c =
     let a = c .before .before .before .before .before .before .args in
     ap (λ (p : PageId). p .0) (child-past (a .bytes .now) (capacity (length (a .bytes .now))) _ (a .i) (c .if1 .taken))
-    ∙ of-good _ _ (c .before .before .count .given .1) (c .before .before .before .before .look-at .ensures) (λ n. getD (n .children) (a .i) none .0)
+    ∙ of-good _ _ _ (c .before .before .count .given .1) (c .before .before .before .before .look-at .ensures) (λ n. getD (n .children) (a .i) none .0)
 
 capacity-of-requires : tie.Need-capacity-of-requires
 capacity-of-requires c κs = search needs
 
 child-at-requires : tie.Need-child-at-requires
 child-at-requires c κs =
-    let h = good-held _ _ (c .before .before .before .count .given .1) (c .before .before .before .before .before .look-at .ensures) in
+    let h = good-held _ _ _ (c .before .before .before .count .given .1) (c .before .before .before .before .before .look-at .ensures) in
     omega (arith, h .few, h .fits, c .capacity-of .ensures)
 
 returns-3 : tie.Need-returns-3
@@ -45,7 +45,7 @@ returns-3 c =
     let k = c .before .before .before .before .count .given .0 .1 .0 in
     let e = child-here (a .bytes .now) (capacity (length (a .bytes .now))) k (a .i) (omega arith) in
     ap (λ (p : PageId). p .0) (c .child-at .ensures ∙ rw (c .before .capacity-of .ensures) e)
-    ∙ of-good _ _ (c .before .before .before .before .count .given .1) (c .before .before .before .before .before .before .look-at .ensures) (λ n. getD (n .children) (a .i) none .0)
+    ∙ of-good _ _ _ (c .before .before .before .before .count .given .1) (c .before .before .before .before .before .before .look-at .ensures) (λ n. getD (n .children) (a .i) none .0)
 
 pub probe-child-spec : {M : Type 1} → statement M
 probe-child-spec =

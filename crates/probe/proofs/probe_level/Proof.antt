@@ -15,11 +15,11 @@ enum-told : tie.Need-enum-told
 enum-told c = search needs
 
 returns : tie.Need-returns
-returns c = of-unread _ _ _ (c .enum-told .given .1) (c .before .before .look-at .ensures)
+returns c = of-unread _ _ _ _ (c .enum-told .given .1) (c .before .before .look-at .ensures)
 
 returns-2 : tie.Need-returns-2
 unfolding nodeOf
-returns-2 c = of-good _ _ (c .before .level .given .1) (c .before .before .before .look-at .ensures) (λ n. n .level)
+returns-2 c = of-good _ _ _ (c .before .level .given .1) (c .before .before .before .look-at .ensures) (λ n. n .level)
 
 pub probe-level-spec : {M : Type 1} → statement M
 probe-level-spec =

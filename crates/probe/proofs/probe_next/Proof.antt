@@ -21,14 +21,14 @@ enum-told : tie.Need-enum-told
 enum-told c = search needs
 
 returns : tie.Need-returns
-returns c = of-unread _ _ _ (c .enum-told .given .1) (c .before .before .look-at .ensures)
+returns c = of-unread _ _ _ _ (c .enum-told .given .1) (c .before .before .look-at .ensures)
 
 capacity-of-requires : tie.Need-capacity-of-requires
 capacity-of-requires c κs = search needs
 
 next-midpoint-requires : tie.Need-next-midpoint-requires
 next-midpoint-requires c κs =
-    let h = good-held _ _ (c .before .before .count .given .1) (c .before .before .before .before .look-at .ensures) in
+    let h = good-held _ _ _ (c .before .before .count .given .1) (c .before .before .before .before .look-at .ensures) in
     let e = c .capacity-of .ensures in
     (omega arith, omega arith)
 
@@ -44,7 +44,7 @@ returns-2 c =
     let a = c .before .before .before .before .before .before .before .before .before .before .args in
     let e = rw (c .before .before .before .before .capacity-of .ensures) at (c .before .before .before .next-midpoint .ensures) in
     ap (λ (m : NextMidpoint). childOf m .0) (sym (c .before .child .given .1) ∙ e)
-    ∙ of-good _ _ (c .before .before .before .before .before .before .count .given .1) (c .before .before .before .before .before .before .before .before .look-at .ensures) (λ n. childOf (nextMidpoint (drop (a .from) (n .children))) .0)
+    ∙ of-good _ _ _ (c .before .before .before .before .before .before .count .given .1) (c .before .before .before .before .before .before .before .before .look-at .ensures) (λ n. childOf (nextMidpoint (drop (a .from) (n .children))) .0)
 
 returns-3 : tie.Need-returns-3
 unfolding nodeOf
@@ -52,7 +52,7 @@ returns-3 c =
     let a = c .before .before .before .before .before .before .before .before .before .args in
     let e = rw (c .before .before .before .capacity-of .ensures) at (c .before .before .next-midpoint .ensures) in
     ap (λ (m : NextMidpoint). childOf m .0) (sym (c .enum-told2 .given .1) ∙ e)
-    ∙ of-good _ _ (c .before .before .before .before .before .count .given .1) (c .before .before .before .before .before .before .before .look-at .ensures) (λ n. childOf (nextMidpoint (drop (a .from) (n .children))) .0)
+    ∙ of-good _ _ _ (c .before .before .before .before .before .count .given .1) (c .before .before .before .before .before .before .before .look-at .ensures) (λ n. childOf (nextMidpoint (drop (a .from) (n .children))) .0)
 
 pub probe-next-spec : {M : Type 1} → statement M
 probe-next-spec =

@@ -19,23 +19,23 @@ enum-told : tie.Need-enum-told
 enum-told c = search needs
 
 returns : tie.Need-returns
-returns c = of-unread _ _ _ (c .enum-told .given .1) (c .before .before .look-at .ensures)
+returns c = of-unread _ _ _ _ (c .enum-told .given .1) (c .before .before .look-at .ensures)
 
 returns-2 : tie.Need-returns-2
 unfolding nodeOf
 returns-2 c =
     let a = c .before .before .before .before .before .before .args in
-    word-past (a .bytes .now) _ _ _ (c .if1 .taken) ∙ of-good _ _ (c .before .before .count .given .1) (c .before .before .before .before .look-at .ensures) (λ n. headWord (a .j) (drop (a .i) (n .datoms)))
+    word-past (a .bytes .now) _ _ _ (c .if1 .taken) ∙ of-good _ _ _ (c .before .before .count .given .1) (c .before .before .before .before .look-at .ensures) (λ n. headWord (a .j) (drop (a .i) (n .datoms)))
 
 returns-3 : tie.Need-returns-3
 unfolding nodeOf
 returns-3 c =
     let a = c .before .before .before .before .before .before .before .args in
-    word-none _ _ (c .if2 .taken) ∙ of-good _ _ (c .before .before .before .count .given .1) (c .before .before .before .before .before .look-at .ensures) (λ n. headWord (a .j) (drop (a .i) (n .datoms)))
+    word-none _ _ (c .if2 .taken) ∙ of-good _ _ _ (c .before .before .before .count .given .1) (c .before .before .before .before .before .look-at .ensures) (λ n. headWord (a .j) (drop (a .i) (n .datoms)))
 
 mul-word : tie.Need-mul-word
 mul-word c =
-    let h = good-held _ _ (c .before .before .before .count .given .1) (c .before .before .before .before .before .look-at .ensures) in
+    let h = good-held _ _ _ (c .before .before .before .count .given .1) (c .before .before .before .before .before .look-at .ensures) in
     omega (arith, h .few, h .most)
 
 mul-word-2 : tie.Need-mul-word-2
@@ -43,12 +43,12 @@ mul-word-2 c = search needs
 
 add-word : tie.Need-add-word
 add-word c =
-    let h = good-held _ _ (c .before .before .before .count .given .1) (c .before .before .before .before .before .look-at .ensures) in
+    let h = good-held _ _ _ (c .before .before .before .count .given .1) (c .before .before .before .before .before .look-at .ensures) in
     omega (arith, h .few, h .most)
 
 word-requires : tie.Need-word-requires
 word-requires c κs =
-    let h = good-held _ _ (c .before .before .before .count .given .1) (c .before .before .before .before .before .look-at .ensures) in
+    let h = good-held _ _ _ (c .before .before .before .count .given .1) (c .before .before .before .before .before .look-at .ensures) in
     omega (arith, h .few, h .fits)
 
 returns-4 : tie.Need-returns-4
@@ -57,7 +57,7 @@ returns-4 c =
     let a = c .before .before .before .before .before .before .before .before .args in
     c .word .ensures
     ∙ (word-here (a .bytes .now) _ _ _ (omega arith) (omega arith)
-    ∙ of-good _ _ (c .before .before .before .before .count .given .1) (c .before .before .before .before .before .before .look-at .ensures) (λ n. headWord (a .j) (drop (a .i) (n .datoms))))
+    ∙ of-good _ _ _ (c .before .before .before .before .count .given .1) (c .before .before .before .before .before .before .look-at .ensures) (λ n. headWord (a .j) (drop (a .i) (n .datoms))))
 
 pub probe-word-spec : {M : Type 1} → statement M
 probe-word-spec =

@@ -1,6 +1,7 @@
 -- `probe_write` meets its contract. Assumes nothing.
 use native.Mathlib.Omega.{arith}
 use mathlib.Core.Path.{_∙_}
+use Rattle.index.specs.Order.{eavt}
 use Rattle.probe.specs.Laws.{good-held, not-written, no-place, written}
 use borrow.Author.Needs.{needs}
 use Rattle.probe.proofs.probe_write.Statement.{statement}
@@ -16,17 +17,17 @@ enum-told : tie.Need-enum-told
 enum-told c = search needs
 
 returns : tie.Need-returns
-returns c = not-written _ _ _ (c .enum-told .given .1) (c .before .before .look-at .ensures)
+returns c = not-written _ _ _ _ (c .enum-told .given .1) (c .before .before .look-at .ensures)
 
 returns-2 : tie.Need-returns-2
-returns-2 c = no-place _ _ _ (c .before .before .level .given .1) (c .before .before .before .before .look-at .ensures) (c .if1 .taken)
+returns-2 c = no-place _ _ _ _ (c .before .before .level .given .1) (c .before .before .before .before .look-at .ensures) (c .if1 .taken)
 
 capacity-of-requires : tie.Need-capacity-of-requires
 capacity-of-requires c κs = search needs
 
 write-page-requires : tie.Need-write-page-requires
 write-page-requires c κs =
-    let h = good-held _ _ (c .before .before .before .before .level .given .1) (c .before .before .before .before .before .before .look-at .ensures) in
+    let h = good-held _ _ _ (c .before .before .before .before .level .given .1) (c .before .before .before .before .before .before .look-at .ensures) in
     let e = c .before .capacity-of .ensures in
     (omega arith, omega arith, omega arith, omega arith, omega arith, omega arith, omega arith, omega arith)
 
@@ -36,7 +37,7 @@ same-length c = search needs
 returns-3 : tie.Need-returns-3
 returns-3 c =
     let a = c .before .before .before .before .before .before .before .before .before .before .before .before .args in
-    let w = written (a .bytes .now) (a .free .now) (a .id) (c .before .before .before .before .before .before .before .level .given .1) (c .before .before .before .before .before .before .before .before .before .look-at .ensures) (omega arith) in
+    let w = written eavt (a .bytes .now) (a .free .now) (a .id) (c .before .before .before .before .before .before .before .level .given .1) (c .before .before .before .before .before .before .before .before .before .look-at .ensures) (omega arith) in
     (w .0, c .before .before .write-page .ensures ∙ (rw (c .before .before .before .before .capacity-of .ensures) (w .1)))
 
 pub probe-write-spec : {M : Type 1} → statement M

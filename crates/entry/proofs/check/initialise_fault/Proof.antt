@@ -19,10 +19,10 @@ twin-fault-requires : tie.Need-twin-fault-requires
 twin-fault-requires c κs = search needs
 
 returns : tie.Need-returns
-returns c = twin-form _ _ (sym (ap findingOf (c .before .refusal .given .1)) ∙ c .before .before .before .form-fault .ensures)
+returns c = twin-form _ _ _ (sym (ap findingOf (c .before .refusal .given .1)) ∙ c .before .before .before .form-fault .ensures)
 
 returns-2 : tie.Need-returns-2
-returns-2 c = twin-rest _ (sym (ap findingOf (c .before .enum-told .given .1)) ∙ c .before .before .before .form-fault .ensures) _ (c .twin-fault .ensures)
+returns-2 c = twin-rest _ _ (sym (ap findingOf (c .before .enum-told .given .1)) ∙ c .before .before .before .form-fault .ensures) _ (c .twin-fault .ensures)
 
 pub initialise-fault-spec : {M : Type 1} → statement M
 initialise-fault-spec =

@@ -19,10 +19,10 @@ order-fault-requires : tie.Need-order-fault-requires
 order-fault-requires c κs = search needs
 
 returns : tie.Need-returns
-returns c = fault-form _ _ (sym (ap findingOf (c .before .refusal .given .1)) ∙ c .before .before .before .form-fault .ensures)
+returns c = fault-form _ _ _ (sym (ap findingOf (c .before .refusal .given .1)) ∙ c .before .before .before .form-fault .ensures)
 
 returns-2 : tie.Need-returns-2
-returns-2 c = fault-order _ (sym (ap findingOf (c .before .enum-told .given .1)) ∙ c .before .before .before .form-fault .ensures) _ (c .order-fault .ensures)
+returns-2 c = fault-order _ _ (sym (ap findingOf (c .before .enum-told .given .1)) ∙ c .before .before .before .form-fault .ensures) _ (c .order-fault .ensures)
 
 pub insert-fault-spec : {M : Type 1} → statement M
 insert-fault-spec =

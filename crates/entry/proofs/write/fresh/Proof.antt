@@ -27,7 +27,7 @@ returns : tie.Need-returns
 returns c =
     let a = c .before .before .before .before .before .before .before .before .before .before .before .before .before .before .args in
     let e = ap (datomsOf (a .n)) (c .before .before .before .before .before .before .before .before .before .put .ensures) ∙ batch-put (a .n) 0 (a .s .now) (a .b .now) (omega arith) (c .before .before .before .before .before .before .before .before .before .before .before .before .before .before .pre .batch) in
-    λ o h. rw (← e) (c .before .before .before .before .leaf .ensures o h)
+    λ t o h. rw (← e) (c .before .before .before .before .leaf .ensures t o h)
 
 pub fresh-spec : {M : Type 1} → statement M
 fresh-spec = tie.close (tie.spec put-requires leaf-requires same-length same-length-2 returns)

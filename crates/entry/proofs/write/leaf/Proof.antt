@@ -28,7 +28,7 @@ returns c =
     let R = c .before .before .before .before .before .before .before .before .before .before .before .before .before .before .pre in
     let a = c .before .before .before .before .before .before .before .before .before .before .before .before .before .before .args in
     let m = c .before .before .before .before .before .before .before .before .before .before .before .room-for .ensures in
-    λ o e. rw (fresh-front _ (a .n) (a .s .now) o, ← cleared-leaf _ (a .n) (a .s .now) _ (c .before .before .before .before .before .before .before .before .before .clear-children .ensures) (roomy-small R _ m .0)) (c .before .before .before .before .write-root .ensures o e)
+    λ t o e. rw (fresh-front _ (a .n) (a .s .now) o, ← cleared-leaf _ (a .n) (a .s .now) _ (c .before .before .before .before .before .before .before .before .before .clear-children .ensures) (roomy-small R _ m .0)) (c .before .before .before .before .write-root .ensures t o e)
 
 pub leaf-spec : {M : Type 1} → statement M
 leaf-spec =

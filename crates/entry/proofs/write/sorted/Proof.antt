@@ -2,7 +2,7 @@
 use mathlib.Core.Path.{refl, _∙_, ap}
 use native.Mathlib.Omega.{arith}
 use Rattle.datom.specs.Datom.{datomsOf}
-use Rattle.index.specs.Order.{cmpEavt}
+use Rattle.index.specs.Order.{eavt}
 use Rattle.rules.specs.Insert.{sort}
 use Rattle.batch.specs.Sorting.{Sorted}
 use Rattle.entry.specs.Checks.{Passed}
@@ -35,8 +35,8 @@ returns : tie.Need-returns
 returns c =
     let a = c .before .before .before .before .before .before .before .before .before .before .before .before .before .before .before .before .before .before .args in
     let e = ap (datomsOf (a .n)) (c .before .before .before .before .before .before .before .before .before .before .before .before .before .put .ensures) ∙ batch-put (a .n) 0 (a .s .now) (a .b .now) (omega arith) (c .before .before .before .before .before .before .before .before .before .before .before .before .before .before .before .before .before .before .pre .batch) in
-    let f = c .before .before .before .before .before .before .before .before .before .sort .ensures .datoms ∙ ap (sort cmpEavt) e in
-    λ o h. rw (← f) (c .before .before .before .before .leaf .ensures o h)
+    let f = c .before .before .before .before .before .before .before .before .before .sort .ensures .datoms ∙ ap (sort (eavt .cmp)) e in
+    λ o h. rw (← f) (c .before .before .before .before .leaf .ensures eavt o h)
 
 pub sorted-spec : {M : Type 1} → statement M
 sorted-spec =

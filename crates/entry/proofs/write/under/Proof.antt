@@ -2,6 +2,7 @@
 use native.Mathlib.Omega.{arith}
 use Prim.Native.Nat.{_+_, _*_}
 use Rattle.datom.specs.Datom.{datomsOf}
+use Rattle.index.specs.Order.{eavt}
 use Rattle.memory_store.specs.Readable.{opens}
 use Rattle.memory_store.specs.Opened.{node-opened}
 use Rattle.htree.specs.Raise.{raise-stops, raise-ready, raise-few, raise-goes}
@@ -43,12 +44,12 @@ insert-into-requires c κs =
     let a = c .before .before .before .before .before .before .before .before .before .before .args in
     let P = c .before .before .before .before .before .before .before .before .before .before .pre .0 in
     let R = P .roomy in
-    let low = opens (a .extent) (a .store .now) (a .root) (a .level) (a .count) (R .good) (c .before .before .before .before .before .before .before .before .before .before .pre .1) .low in
+    let low = opens eavt (a .extent) (a .store .now) (a .root) (a .level) (a .count) (R .good) (c .before .before .before .before .before .before .before .before .before .before .pre .1) .low in
     let m = c .before .before .before .before .before .before .room-for .ensures in (
       roomy-ready R,
       roomy-node R _ m (a .level) low,
       omega (arith, roomy-areas R _ m (a .level) low),
-      node-opened (a .extent) (a .store .now) (a .root) (a .level) (a .count) (c .before .before .before .before .before .before .before .before .before .before .pre .1),
+      node-opened eavt (a .extent) (a .store .now) (a .root) (a .level) (a .count) (c .before .before .before .before .before .before .before .before .before .before .pre .1),
     )
 
 enum-known-datoms : tie.Need-enum-known-datoms
@@ -59,7 +60,7 @@ add-write-root c =
     let a = c .before .before .before .before .before .before .before .before .before .before .before .before .before .before .before .before .before .before .before .args in
     let P = c .before .before .before .before .before .before .before .before .before .before .before .before .before .before .before .before .before .before .before .pre .0 in
     let R = P .roomy in
-    let low = opens (a .extent) (a .store .now) (a .root) (a .level) (a .count) (R .good) (c .before .before .before .before .before .before .before .before .before .before .before .before .before .before .before .before .before .before .before .pre .1) .low in
+    let low = opens eavt (a .extent) (a .store .now) (a .root) (a .level) (a .count) (R .good) (c .before .before .before .before .before .before .before .before .before .before .before .before .before .before .before .before .before .before .before .pre .1) .low in
     omega (arith, low)
 
 write-root-requires : tie.Need-write-root-requires
@@ -67,9 +68,9 @@ write-root-requires c κs =
     let a = c .before .before .before .before .before .before .before .before .before .before .before .before .before .before .before .before .before .before .before .before .args in
     let P = c .before .before .before .before .before .before .before .before .before .before .before .before .before .before .before .before .before .before .before .before .pre .0 in
     let R = P .roomy in
-    let low = opens (a .extent) (a .store .now) (a .root) (a .level) (a .count) (R .good) (c .before .before .before .before .before .before .before .before .before .before .before .before .before .before .before .before .before .before .before .before .pre .1) .low in
+    let low = opens eavt (a .extent) (a .store .now) (a .root) (a .level) (a .count) (R .good) (c .before .before .before .before .before .before .before .before .before .before .before .before .before .before .before .before .before .before .before .before .pre .1) .low in
     let m = c .before .before .before .before .before .before .before .before .before .before .before .before .before .before .before .before .room-for .ensures in
-    (raise-ready _ _ (a .level) _ _ _ 0 _ _ _ _ (rw (c .before .before .before .datoms .given .1) at (c .before .before .before .before .before .before .before .before .before .insert-into .ensures)) (roomy-ready R), omega (arith, roomy-area R _ m), raise-few _ _ (a .level) _ _ _ 0 _ _ _ _ (rw (c .before .before .before .datoms .given .1) at (c .before .before .before .before .before .before .before .before .before .insert-into .ensures)), omega (arith, low))
+    (raise-ready eavt _ _ (a .level) _ _ _ 0 _ _ _ _ (rw (c .before .before .before .datoms .given .1) at (c .before .before .before .before .before .before .before .before .before .insert-into .ensures)) (roomy-ready R), omega (arith, roomy-area R _ m), raise-few eavt _ _ (a .level) _ _ _ 0 _ _ _ _ (rw (c .before .before .before .datoms .given .1) at (c .before .before .before .before .before .before .before .before .before .insert-into .ensures)), omega (arith, low))
 
 enum-known-refusal : tie.Need-enum-known-refusal
 enum-known-refusal c = search needs
@@ -87,7 +88,7 @@ returns c =
     let R = P .roomy in
     let m = c .before .before .before .before .before .before .before .before .before .before .before .before .before .before .before .before .before .before .before .before .before .room-for .ensures in
     let T = rw (batch-put (a .n) (40 * c .before .before .before .before .before .before .before .before .before .before .before .before .before .before .before .before .before .before .before .before .before .room-for .result + 8) (a .s .now) (a .b .now) (omega (arith, roomy-area R _ m)) (P .batch)) at (rw (c .before .before .before .before .before .before .before .before .before .before .before .before .before .before .before .before .before .before .before .put .ensures) at (rw (c .before .before .before .before .before .before .before .before .datoms .given .1) at (c .before .before .before .before .before .before .before .before .before .before .before .before .before .before .insert-into .ensures))) in
-    raise-goes (a .extent) (a .store .now) (a .level) _ (a .root) (datomsOf (a .n) (a .b .now)) 0 _ _ _ _ T _ _ (c .before .before .before .before .write-root .ensures)
+    raise-goes eavt (a .extent) (a .store .now) (a .level) _ (a .root) (datomsOf (a .n) (a .b .now)) 0 _ _ _ _ T _ _ (c .before .before .before .before .write-root .ensures eavt)
 
 same-length-3 : tie.Need-same-length-3
 same-length-3 c = search needs
@@ -102,7 +103,7 @@ returns-2 c =
     let R = P .roomy in
     let m = c .before .before .before .before .before .before .before .before .before .before .before .before .before .before .room-for .ensures in
     let T = rw (batch-put (a .n) (40 * c .before .before .before .before .before .before .before .before .before .before .before .before .before .before .room-for .result + 8) (a .s .now) (a .b .now) (omega (arith, roomy-area R _ m)) (P .batch)) at (rw (c .before .before .before .before .before .before .before .before .before .before .before .before .put .ensures) at (rw (c .before .refusal .given .1) at (c .before .before .before .before .before .before .before .insert-into .ensures))) in
-    raise-stops (a .extent) (a .store .now) (a .level) _ (a .root) (datomsOf (a .n) (a .b .now)) 0 _ _ _ _ T
+    raise-stops eavt (a .extent) (a .store .now) (a .level) _ (a .root) (datomsOf (a .n) (a .b .now)) 0 _ _ _ _ T
 
 pub under-spec : {M : Type 1} → statement M
 under-spec =

@@ -1,5 +1,5 @@
 -- `indices_in` meets its contract. Assumes nothing.
-use Rattle.florinwick.specs.Cursor.{eight-indices}
+use Rattle.florinwick.specs.Cursor.{eight-words}
 use borrow.Author.Needs.{needs}
 use Rattle.florinwick.proofs.cursor.indices_in.Statement.{statement}
 use Rattle.florinwick.proofs.cursor.indices_in.Tie as tie
@@ -37,7 +37,7 @@ returns c =
     let word5 = c .before .before .before .word5 in
     let word6 = c .before .before .word6 in
     rw (word .ensures, word2 .ensures, word3 .ensures, word4 .ensures, word5 .ensures, word6 .ensures, c .before .word7 .ensures, c .word8 .ensures)
-    (eight-indices _)
+    (eight-words (λ n. n) _)
 
 pub indices-in-spec : {M : Type 1} → statement M
 indices-in-spec =

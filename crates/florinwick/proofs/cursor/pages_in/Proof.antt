@@ -1,5 +1,6 @@
 -- `pages_in` meets its contract. Assumes nothing.
-use Rattle.florinwick.specs.Cursor.{eight-pages}
+use Rattle.florinwick.specs.Cursor.{eight-words}
+use Rattle.store.specs.Page.{page, pageOf}
 use borrow.Author.Needs.{needs}
 use Rattle.florinwick.proofs.cursor.pages_in.Statement.{statement}
 use Rattle.florinwick.proofs.cursor.pages_in.Tie as tie
@@ -29,6 +30,7 @@ word-requires-8 : tie.Need-word-requires-8
 word-requires-8 c κs = search needs
 
 returns : tie.Need-returns
+unfolding pageOf
 returns c =
     let word = c .before .before .before .before .before .before .before .word in
     let word2 = c .before .before .before .before .before .before .word2 in
@@ -37,7 +39,7 @@ returns c =
     let word5 = c .before .before .before .word5 in
     let word6 = c .before .before .word6 in
     rw (word .ensures, word2 .ensures, word3 .ensures, word4 .ensures, word5 .ensures, word6 .ensures, c .before .word7 .ensures, c .word8 .ensures)
-    (eight-pages _)
+    (eight-words page _)
 
 pub pages-in-spec : {M : Type 1} → statement M
 pages-in-spec =

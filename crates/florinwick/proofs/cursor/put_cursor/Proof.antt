@@ -38,8 +38,8 @@ returns c =
     let bi : length (a .cursor .«begin_indices») ≡ 8 = search needs in
     let ei : length (a .cursor .«end_indices») ≡ 8 = search needs in
     rw (put-pages2 .ensures, put-indices2 .ensures, put-pages .ensures, put-indices .ensures, word-put .put-word .ensures)
-    (cursor-put (a .s .now) (a .cursor) (entry .pre) bi (mapped-length _ (a .cursor .«begin_pages») 8 (g .1 .0 .1 .0 .1)) ei
-    (mapped-length _ (a .cursor .«end_pages») 8 (g .1 .1 .1 .0 .1 .0 .1)))
+    (cursor-put (a .cursor) bi (mapped-length _ (a .cursor .«begin_pages») 8 (g .1 .0 .1 .0 .1)) ei
+    (mapped-length _ (a .cursor .«end_pages») 8 (g .1 .1 .1 .0 .1 .0 .1)) (a .s .now) (entry .pre))
 
 pub put-cursor-spec : {M : Type 1} → statement M
 put-cursor-spec =

@@ -1,5 +1,5 @@
 -- `put_words` meets its contract. Assumes nothing.
-use Rattle.florinwick.specs.Words.{four-words}
+use Rattle.florinwick.specs.Words.{words-put}
 use borrow.Author.Needs.{needs}
 use Rattle.florinwick.proofs.words.put_words.Statement.{statement}
 use Rattle.florinwick.proofs.words.put_words.Tie as tie
@@ -26,7 +26,7 @@ returns c =
     let put-word2 = c .before .before .before .before .before .before .before .before .before .before .put-word2 in
     let put-word3 = c .before .before .before .before .before .before .put-word3 in
     let put-word4 = c .before .before .put-word4 in
-    rw (put-word4 .ensures, put-word3 .ensures, put-word2 .ensures, put-word .ensures) (four-words _ pre _ _ _ _)
+    rw (put-word4 .ensures, put-word3 .ensures, put-word2 .ensures, put-word .ensures) (words-put _ pre _ _ _ _)
 
 pub put-words-spec : {M : Type 1} → statement M
 put-words-spec =

@@ -6,6 +6,7 @@ use mathlib.Core.Path.{sym, _∙_}
 use borrow.Author.Tests.{not-true, not-false}
 use borrow.Author.Needs.{needs}
 use lib.ListN.{length, length-take, length-drop}
+use Rattle.index.specs.Order.{eavt}
 use Rattle.htree.specs.Cycle.{Drains, rooms, area-fits, lower, drains-start, drains-ready, drains-length, drains-small, drains-sent, drains-none, drains-on, drains-stop, flush-fails, flush-back, flush-done, insert-bad, loads-few, insert-flat, insert-stops, went-ready, went-few, insert-goes}
 use borrow.Fn.Kinds.{In}
 use borrow.Fn.PlainCycle.{Measures, is, falls, and}
@@ -21,7 +22,7 @@ use Rattle.htree.proofs.insert.+drain+flush+insert_into.Lts-insert_into
 use Rattle.htree.proofs.insert.load.Reads as load-reads
 use Rattle.htree.proofs.place.settle.Reads as settle-reads
 use Rattle.memory_store.proofs.found.open_at.Reads as open-at-reads
-use Rattle.node.proofs.child_at.Reads as child-at-reads
+use Rattle.store.proofs.child_at.Reads as child-at-reads
 use Rattle.node.proofs.has_pending.Reads as has-pending-reads
 use Rattle.node.proofs.longest_pending_span.Reads as longest-pending-span-reads
 use Rattle.node.proofs.move_span.Reads as move-span-reads
@@ -95,13 +96,13 @@ insert-into-calls t = (
 
 abbrev drain-Inv-loop : drain-lts.InvT-loop
 drain-Inv-loop store₀ extent c written level s₀ m n turns₀ count₀ next₀ store s turns count next =
-    Drains extent store₀ c written level m n s₀ store s turns count next
+    Drains eavt extent store₀ c written level m n s₀ store s turns count next
 
 abbrev drain-μ-loop : drain-lts.MeasureT-loop
 drain-μ-loop store₀ extent c written level s₀ m n turns₀ count₀ next₀ store s turns count next = turns
 
 drain-loop-holds : (t : ℕ) → drain-lts.Need-loop-holds (drain-calls t) (drain-at t) drain.Post drain-Inv-loop drain-μ-loop
-drain-loop-holds t c = drains-start _ _ _ _ _ _ _ _ (c .before .before .pre .1 .0)
+drain-loop-holds t c = drains-start eavt _ _ _ _ _ _ _ _ (c .before .before .pre .1 .0)
 
 drain-same-length : (t : ℕ) → drain-lts.Need-same-length (drain-calls t) (drain-at t) drain.Post drain-Inv-loop drain-μ-loop
 drain-same-length t c = omega (arith, drains-length (c .before .before .loop .inv))
@@ -203,7 +204,7 @@ flush-child-at-requires t c κs =
     let P = c .before .before .before .before .before .pre .1 in
     let g = rooms (a .level) (40 * a .m + 8) (32 * a .m) (length (a .s .now)) (P .1) (P .3) in
     let Q = c .before .longest-pending-span .ensures in
-    (omega arith, omega (arith, P .2, Q .within))
+    omega (arith, P .2, Q .within)
 
 flush-sub-lower : (t : ℕ) → flush-lts.Need-sub-lower (flush-calls t) (flush-at t) flush.Post
 flush-sub-lower t c = omega (arith, c .before .before .before .before .before .before .pre .1 .1)
@@ -314,7 +315,7 @@ flush-splice-requires t c κs =
     let g = rooms (a .level) (40 * a .m + 8) (32 * a .m) (length (a .s .now)) (P .1) (P .3) in
     let Q = c .before .before .before .before .before .before .before .before .before .before .before .before .before .before .before .before .before .before .before .longest-pending-span .ensures in
     let T = rw (c .before .before .before .before .before .before .before .before .before .before .before .before .before .move-span .ensures, c .before .before .before .before .before .before .before .before .before .before .before .before .before .before .before .before .before .child-at .ensures, c .before .before .datoms .given .1) at (c .before .before .before .before .before .before .before .before .insert-into .ensures) in
-    let J = flush-back (a .extent) (a .store .now) (a .c) (a .written) (a .level) (a .m) (a .n) (a .s .now) (P .0) (c .before .before .before .before .before .before .before .before .before .before .before .before .before .before .before .before .before .before .before .longest-pending-span .result) Q (omega (arith, P .2)) (omega arith) _ _ _ _ T in
+    let J = flush-back (a .extent) (a .store .now) (a .c) (a .written) (a .level) (a .m) (a .n) (a .s .now) (P .0) (c .before .before .before .before .before .before .before .before .before .before .before .before .before .before .before .before .before .before .before .longest-pending-span .result) Q (omega (arith, P .2)) (omega arith) eavt _ _ _ _ T in
     (omega (arith, J, Q .rises), (Q .within, (omega (arith, P .2), omega arith)))
 
 flush-sub-t42 : (t : ℕ) → flush-lts.Need-sub-t42 (flush-calls t) (flush-at t) flush.Post
@@ -340,7 +341,7 @@ flush-add-t44 t c =
     let g = rooms (a .level) (40 * a .m + 8) (32 * a .m) (length (a .s .now)) (P .1) (P .3) in
     let Q = c .before .before .before .before .before .before .before .before .before .before .before .before .before .before .before .before .before .before .before .before .before .before .longest-pending-span .ensures in
     let T = rw (c .before .before .before .before .before .before .before .before .before .before .before .before .before .before .before .before .move-span .ensures, c .before .before .before .before .before .before .before .before .before .before .before .before .before .before .before .before .before .before .before .before .child-at .ensures, c .before .before .before .before .before .datoms .given .1) at (c .before .before .before .before .before .before .before .before .before .before .before .insert-into .ensures) in
-    omega (arith, flush-back (a .extent) (a .store .now) (a .c) (a .written) (a .level) (a .m) (a .n) (a .s .now) (P .0) (c .before .before .before .before .before .before .before .before .before .before .before .before .before .before .before .before .before .before .before .before .before .before .longest-pending-span .result) Q (omega (arith, P .2)) (omega arith) _ _ _ _ T, Q .rises, Q .within, c .before .before .before .before .before .before .before .before .before .before .before .before .before .before .before .before .before .before .before .before .before .before .before .before .before .before .fits .n .fits)
+    omega (arith, flush-back (a .extent) (a .store .now) (a .c) (a .written) (a .level) (a .m) (a .n) (a .s .now) (P .0) (c .before .before .before .before .before .before .before .before .before .before .before .before .before .before .before .before .before .before .before .before .before .before .longest-pending-span .result) Q (omega (arith, P .2)) (omega arith) eavt _ _ _ _ T, Q .rises, Q .within, c .before .before .before .before .before .before .before .before .before .before .before .before .before .before .before .before .before .before .before .before .before .before .before .before .before .before .fits .n .fits)
 
 flush-enum-known-refusal : (t : ℕ) → flush-lts.Need-enum-known-refusal (flush-calls t) (flush-at t) flush.Post
 flush-enum-known-refusal t c = search needs
@@ -358,7 +359,7 @@ flush-returns t c =
     let g = rooms (a .level) (40 * a .m + 8) (32 * a .m) (length (a .s .now)) (P .1) (P .3) in
     let Q = c .before .before .before .before .before .before .before .before .before .before .before .before .before .before .before .before .before .before .before .before .before .before .longest-pending-span .ensures in
     let T = rw (c .before .before .before .before .before .before .before .before .before .before .before .before .before .before .before .before .move-span .ensures, c .before .before .before .before .before .before .before .before .before .before .before .before .before .before .before .before .before .before .before .before .child-at .ensures, c .before .before .before .before .before .datoms .given .1) at (c .before .before .before .before .before .before .before .before .before .before .before .insert-into .ensures) in
-    flush-done (a .extent) (a .store .now) (a .c) (a .written) (a .level) (a .m) (a .n) (a .s .now) (P .0) (c .before .before .before .before .before .before .before .before .before .before .before .before .before .before .before .before .before .before .before .before .before .before .longest-pending-span .result) Q (omega (arith, P .2)) (omega arith) _ _ _ _ _ T (rw (c .before .before .before .before .before .before .before .before .before .before .before .before .before .before .before .before .move-span .ensures) at (c .before .before .splice .ensures))
+    flush-done (a .extent) (a .store .now) (a .c) (a .written) (a .level) (a .m) (a .n) (a .s .now) (P .0) (c .before .before .before .before .before .before .before .before .before .before .before .before .before .before .before .before .before .before .before .before .before .before .longest-pending-span .result) Q (omega (arith, P .2)) (omega arith) eavt _ _ _ _ _ T (rw (c .before .before .before .before .before .before .before .before .before .before .before .before .before .before .before .before .move-span .ensures) at (c .before .before .splice .ensures))
 
 flush-same-length-3 : (t : ℕ) → flush-lts.Need-same-length-3 (flush-calls t) (flush-at t) flush.Post
 flush-same-length-3 t c = search needs
@@ -373,7 +374,7 @@ flush-returns-2 t c =
     let g = rooms (a .level) (40 * a .m + 8) (32 * a .m) (length (a .s .now)) (P .1) (P .3) in
     let Q = c .before .before .before .before .before .before .before .before .before .before .before .before .before .before .before .before .before .before .longest-pending-span .ensures in
     let T = rw (c .before .before .before .before .before .before .before .before .before .before .before .before .move-span .ensures, c .before .before .before .before .before .before .before .before .before .before .before .before .before .before .before .before .child-at .ensures, c .before .refusal .given .1) at (c .before .before .before .before .before .before .before .insert-into .ensures) in
-    flush-fails (a .extent) (a .store .now) (a .c) (a .written) (a .level) (a .m) (a .n) (a .s .now) (P .0) (c .before .before .before .before .before .before .before .before .before .before .before .before .before .before .before .before .before .before .longest-pending-span .result) Q (omega (arith, P .2)) (omega arith) _ _ _ _ _ T
+    flush-fails (a .extent) (a .store .now) (a .c) (a .written) (a .level) (a .m) (a .n) (a .s .now) (P .0) (c .before .before .before .before .before .before .before .before .before .before .before .before .before .before .before .before .before .before .longest-pending-span .result) Q (omega (arith, P .2)) (omega arith) eavt _ _ _ _ _ T
 
 insert-into-load-requires : (t : ℕ) → insert-into-lts.Need-load-requires (insert-into-calls t) (insert-into-at t) insert-into.Post
 insert-into-load-requires t c κs = search needs
@@ -391,7 +392,7 @@ insert-into-settle-requires t c κs =
     let L = rw (c .before .before .before .before .count .given .1) at (c .before .before .before .before .before .before .before .before .load .ensures) in
     let f = area-fits (a .level) (40 * a .m + 8) (32 * a .m) (length (a .s .now)) (P .2) in
     let g = area-fits (a .level) (a .c) (a .n) (a .m) (P .1) in
-    let h = loads-few (a .extent) (a .store .now) (a .c) (a .written) (a .level) (a .page) (a .s .now) (a .m) (a .n) _ L in (P .0, omega arith, omega (arith, P .0 .cap))
+    let h = loads-few eavt (a .extent) (a .store .now) (a .c) (a .written) (a .level) (a .page) (a .s .now) (a .m) (a .n) _ L in (P .0, omega arith, omega (arith, P .0 .cap))
 
 insert-into-same-length : (t : ℕ) → insert-into-lts.Need-same-length (insert-into-calls t) (insert-into-at t) insert-into.Post
 insert-into-same-length t c = search needs
@@ -406,8 +407,8 @@ insert-into-returns t c =
     let L = rw (c .before .before .before .before .before .before .before .before .before .count .given .1) at (c .before .before .before .before .before .before .before .before .before .before .before .before .before .load .ensures) in
     let f = area-fits (a .level) (40 * a .m + 8) (32 * a .m) (length (a .s .now)) (P .2) in
     let g = area-fits (a .level) (a .c) (a .n) (a .m) (P .1) in
-    let h = loads-few (a .extent) (a .store .now) (a .c) (a .written) (a .level) (a .page) (a .s .now) (a .m) (a .n) _ L in
-    insert-flat (a .extent) (a .store .now) (a .c) (a .written) (a .level) (a .page) (a .s .now) (a .m) (a .n) _ L (c .before .before .before .before .before .before .before .if1 .taken) _ _ _ (c .before .before .before .before .settle .ensures)
+    let h = loads-few eavt (a .extent) (a .store .now) (a .c) (a .written) (a .level) (a .page) (a .s .now) (a .m) (a .n) _ L in
+    insert-flat eavt (a .extent) (a .store .now) (a .c) (a .written) (a .level) (a .page) (a .s .now) (a .m) (a .n) _ L (c .before .before .before .before .before .before .before .if1 .taken) _ _ _ (c .before .before .before .before .settle .ensures eavt)
 
 insert-into-drain-requires : (t : ℕ) → insert-into-lts.Need-drain-requires (insert-into-calls t) (insert-into-at t) insert-into.Post
 insert-into-drain-requires t c κs =
@@ -416,7 +417,7 @@ insert-into-drain-requires t c κs =
     let L = rw (c .before .before .before .before .count .given .1) at (c .before .before .before .before .before .before .before .before .load .ensures) in
     let f = area-fits (a .level) (40 * a .m + 8) (32 * a .m) (length (a .s .now)) (P .2) in
     let g = area-fits (a .level) (a .c) (a .n) (a .m) (P .1) in
-    let h = loads-few (a .extent) (a .store .now) (a .c) (a .written) (a .level) (a .page) (a .s .now) (a .m) (a .n) _ L in
+    let h = loads-few eavt (a .extent) (a .store .now) (a .c) (a .written) (a .level) (a .page) (a .s .now) (a .m) (a .n) _ L in
     let k = add-mul (a .level) 1 (a .c) in
     (omega arith, (P .0, omega arith, omega (arith, P .0 .cap, P .1, one-mul (a .c)), omega (arith, P .2)))
 
@@ -430,9 +431,9 @@ insert-into-settle-requires-2 t c κs =
     let L = rw (c .before .before .before .before .before .before .before .before .before .before .before .before .before .before .count .given .1) at (c .before .before .before .before .before .before .before .before .before .before .before .before .before .before .before .before .before .before .load .ensures) in
     let f = area-fits (a .level) (40 * a .m + 8) (32 * a .m) (length (a .s .now)) (P .2) in
     let g = area-fits (a .level) (a .c) (a .n) (a .m) (P .1) in
-    let h = loads-few (a .extent) (a .store .now) (a .c) (a .written) (a .level) (a .page) (a .s .now) (a .m) (a .n) _ L in
+    let h = loads-few eavt (a .extent) (a .store .now) (a .c) (a .written) (a .level) (a .page) (a .s .now) (a .m) (a .n) _ L in
     let T = rw (c .before .before .before .datoms .given .1) at (c .before .before .before .before .before .before .before .before .before .drain .ensures) in
-    (went-ready (a .extent) (a .store .now) (a .c) (a .written) (a .level) (a .page) (a .s .now) (a .m) (a .n) _ L (omega arith) _ _ _ _ T (P .0), omega arith, went-few (a .extent) (a .store .now) (a .c) (a .written) (a .level) (a .page) (a .s .now) (a .m) (a .n) _ L (omega arith) _ _ _ _ T)
+    (went-ready eavt (a .extent) (a .store .now) (a .c) (a .written) (a .level) (a .page) (a .s .now) (a .m) (a .n) _ L (omega arith) _ _ _ _ T (P .0), omega arith, went-few eavt (a .extent) (a .store .now) (a .c) (a .written) (a .level) (a .page) (a .s .now) (a .m) (a .n) _ L (omega arith) _ _ _ _ T)
 
 insert-into-enum-known-refusal : (t : ℕ) → insert-into-lts.Need-enum-known-refusal (insert-into-calls t) (insert-into-at t) insert-into.Post
 insert-into-enum-known-refusal t c = search needs
@@ -446,7 +447,7 @@ insert-into-same-length-4 t c = search needs
 insert-into-returns-2 : (t : ℕ) → insert-into-lts.Need-returns-2 (insert-into-calls t) (insert-into-at t) insert-into.Post
 insert-into-returns-2 t c =
     let a = c .before .before .before .before .before .before .before .before .before .args in
-    insert-bad (a .extent) (a .store .now) (a .c) (a .written) (a .level) (a .page) (a .s .now) (a .m) (a .n) _ (c .before .before .before .before .before .before .before .before .before .pre .1 .0) (rw (c .enum-told .given .1) at (c .before .before .before .before .load .ensures)) _
+    insert-bad eavt (a .extent) (a .store .now) (a .c) (a .written) (a .level) (a .page) (a .s .now) (a .m) (a .n) _ (c .before .before .before .before .before .before .before .before .before .pre .1 .0) (rw (c .enum-told .given .1) at (c .before .before .before .before .load .ensures)) _
 
 insert-into-same-length-5 : (t : ℕ) → insert-into-lts.Need-same-length-5 (insert-into-calls t) (insert-into-at t) insert-into.Post
 insert-into-same-length-5 t c = search needs
@@ -461,9 +462,9 @@ insert-into-returns-3 t c =
     let L = rw (c .before .before .before .before .before .before .before .before .before .before .before .before .before .before .before .before .before .before .before .count .given .1) at (c .before .before .before .before .before .before .before .before .before .before .before .before .before .before .before .before .before .before .before .before .before .before .before .load .ensures) in
     let f = area-fits (a .level) (40 * a .m + 8) (32 * a .m) (length (a .s .now)) (P .2) in
     let g = area-fits (a .level) (a .c) (a .n) (a .m) (P .1) in
-    let h = loads-few (a .extent) (a .store .now) (a .c) (a .written) (a .level) (a .page) (a .s .now) (a .m) (a .n) _ L in
+    let h = loads-few eavt (a .extent) (a .store .now) (a .c) (a .written) (a .level) (a .page) (a .s .now) (a .m) (a .n) _ L in
     let T = rw (c .before .before .before .before .before .before .before .before .datoms .given .1) at (c .before .before .before .before .before .before .before .before .before .before .before .before .before .before .drain .ensures) in
-    insert-goes (a .extent) (a .store .now) (a .c) (a .written) (a .level) (a .page) (a .s .now) (a .m) (a .n) _ L (omega arith) _ _ _ _ T _ _ _ (c .before .before .before .before .settle2 .ensures)
+    insert-goes eavt (a .extent) (a .store .now) (a .c) (a .written) (a .level) (a .page) (a .s .now) (a .m) (a .n) _ L (omega arith) _ _ _ _ T _ _ _ (c .before .before .before .before .settle2 .ensures eavt)
 
 insert-into-same-length-7 : (t : ℕ) → insert-into-lts.Need-same-length-7 (insert-into-calls t) (insert-into-at t) insert-into.Post
 insert-into-same-length-7 t c = search needs
@@ -478,8 +479,8 @@ insert-into-returns-4 t c =
     let L = rw (c .before .before .before .before .before .before .before .before .before .before .before .before .count .given .1) at (c .before .before .before .before .before .before .before .before .before .before .before .before .before .before .before .before .load .ensures) in
     let f = area-fits (a .level) (40 * a .m + 8) (32 * a .m) (length (a .s .now)) (P .2) in
     let g = area-fits (a .level) (a .c) (a .n) (a .m) (P .1) in
-    let h = loads-few (a .extent) (a .store .now) (a .c) (a .written) (a .level) (a .page) (a .s .now) (a .m) (a .n) _ L in
-    insert-stops (a .extent) (a .store .now) (a .c) (a .written) (a .level) (a .page) (a .s .now) (a .m) (a .n) _ L (omega arith) _ _ _ _ (rw (c .before .refusal .given .1) at (c .before .before .before .before .before .before .before .drain .ensures))
+    let h = loads-few eavt (a .extent) (a .store .now) (a .c) (a .written) (a .level) (a .page) (a .s .now) (a .m) (a .n) _ L in
+    insert-stops eavt (a .extent) (a .store .now) (a .c) (a .written) (a .level) (a .page) (a .s .now) (a .m) (a .n) _ L (omega arith) _ _ _ _ (rw (c .before .refusal .given .1) at (c .before .before .before .before .before .before .before .drain .ensures))
 
 pub +drain+flush+insert-into-spec : {M : Type 1} → statement M
 +drain+flush+insert-into-spec = close μ-drain μ-flush μ-insert-into (λ t. drain-lts.spec (

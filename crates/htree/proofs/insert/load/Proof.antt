@@ -1,10 +1,7 @@
 -- `load` meets its contract: what the page was opened as, and what the merge leaves, in the rules' words. Assumes nothing.
-use native.Mathlib.Nat.{add-sub-cancel-left}
 use native.Mathlib.Omega.{arith}
 use mathlib.Core.Path.{sym, _∙_}
-use lib.ListN.{length-take, length-drop}
-use Rattle.rules.specs.Store.{pageAt}
-use Rattle.memory_store.specs.FetchLaws.{in-order, page-inside}
+use Rattle.index.specs.Order.{eavt}
 use Rattle.node.specs.Merge.{is-whole, is-met}
 use Rattle.htree.specs.Load.{load-damaged, load-opens, load-met, load-whole}
 use borrow.Author.Needs.{needs}
@@ -20,66 +17,38 @@ enum-told c = search needs
 returns : tie.Need-returns
 returns c =
     let a = c .before .before .before .before .args in
-    load-damaged (a .extent) (a .store .now) (a .level) (a .page) (a .s .now) (a .m) (a .n) (sym (c .enum-told .given .1) ∙ c .before .before .before .before .pre .4)
+    load-damaged eavt (a .extent) (a .store .now) (a .level) (a .page) (a .s .now) (a .m) (a .n) (sym (c .enum-told .given .1) ∙ c .before .before .before .before .pre .4)
 
-mul-at : tie.Need-mul-at
-mul-at c =
+part-of-requires : tie.Need-part-of-requires
+part-of-requires c κs =
     let a = c .before .before .before .before .before .args in
     let e = sym (c .before .opened .given .1) ∙ c .before .before .before .before .before .pre .4 in
-    let O = load-opens (a .extent) (a .store .now) (a .level) (a .page) (a .s .now) (a .m) (a .n) _ (c .before .before .before .before .before .pre .0) e in
-    let o = in-order (a .extent) (a .store .now) (c .before .before .before .before .before .pre .0) in
-    let i = page-inside (a .extent) (a .store .now) (a .page .0) o (O .below) in
-    omega arith
-
-add-merge : tie.Need-add-merge
-add-merge c =
-    let a = c .before .before .before .before .before .args in
-    let e = sym (c .before .opened .given .1) ∙ c .before .before .before .before .before .pre .4 in
-    let O = load-opens (a .extent) (a .store .now) (a .level) (a .page) (a .s .now) (a .m) (a .n) _ (c .before .before .before .before .before .pre .0) e in
-    let o = in-order (a .extent) (a .store .now) (c .before .before .before .before .before .pre .0) in
-    let i = page-inside (a .extent) (a .store .now) (a .page .0) o (O .below) in
-    omega arith
-
-sub-merge : tie.Need-sub-merge
-sub-merge c = search needs
-
-part-merge-start : tie.Need-part-merge-start
-part-merge-start c = search needs
-
-part-merge-end : tie.Need-part-merge-end
-part-merge-end c =
-    let a = c .before .before .before .before .before .args in
-    let e = sym (c .before .opened .given .1) ∙ c .before .before .before .before .before .pre .4 in
-    let O = load-opens (a .extent) (a .store .now) (a .level) (a .page) (a .s .now) (a .m) (a .n) _ (c .before .before .before .before .before .pre .0) e in
-    let o = in-order (a .extent) (a .store .now) (c .before .before .before .before .before .pre .0) in
-    let i = page-inside (a .extent) (a .store .now) (a .page .0) o (O .below) in
-    omega arith
+    let O = load-opens eavt (a .extent) (a .store .now) (a .level) (a .page) (a .s .now) (a .m) (a .n) _ (c .before .before .before .before .before .pre .0) e in
+    (c .before .before .before .before .before .pre .0, O .used)
 
 mul-merge : tie.Need-mul-merge
 mul-merge c = search needs
 
-add-merge-2 : tie.Need-add-merge-2
-add-merge-2 c = search needs
+add-merge : tie.Need-add-merge
+add-merge c = search needs
 
 merge-requires : tie.Need-merge-requires
 merge-requires c κs =
     let a = c .before .before .before .before .before .before .before .args in
     let e = sym (c .before .before .before .opened .given .1) ∙ c .before .before .before .before .before .before .before .pre .4 in
-    let O = load-opens (a .extent) (a .store .now) (a .level) (a .page) (a .s .now) (a .m) (a .n) _ (c .before .before .before .before .before .before .before .pre .0) e in
-    let o = in-order (a .extent) (a .store .now) (c .before .before .before .before .before .before .before .pre .0) in
-    let i = page-inside (a .extent) (a .store .now) (a .page .0) o (O .below) in (
-      simp (add-sub-cancel-left, length-take, length-drop) (omega (arith, o .known .fits, c .before .before .before .before .before .before .before .pre .1)),
+    let O = load-opens eavt (a .extent) (a .store .now) (a .level) (a .page) (a .s .now) (a .m) (a .n) _ (c .before .before .before .before .before .before .before .pre .0) e in (
+      rw (c .before .part-of .ensures) (omega (arith, O .wide, c .before .before .before .before .before .before .before .pre .1)),
       (omega (arith, O .few, c .before .before .before .before .before .before .before .pre .1), (search needs, (omega (arith, O .few, c .before .before .before .before .before .before .before .pre .1), search needs))),
     )
 
 enum-told-2 : tie.Need-enum-told-2
 enum-told-2 c = search needs
 
-add-t24 : tie.Need-add-t24
-add-t24 c =
+add-t18 : tie.Need-add-t18
+add-t18 c =
     let a = c .before .before .before .before .before .before .before .before .before .before .before .before .args in
     let e = sym (c .before .before .before .before .before .before .before .before .opened .given .1) ∙ c .before .before .before .before .before .before .before .before .before .before .before .before .pre .4 in
-    let O = load-opens (a .extent) (a .store .now) (a .level) (a .page) (a .s .now) (a .m) (a .n) _ (c .before .before .before .before .before .before .before .before .before .before .before .before .pre .0) e in
+    let O = load-opens eavt (a .extent) (a .store .now) (a .level) (a .page) (a .s .now) (a .m) (a .n) _ (c .before .before .before .before .before .before .before .before .before .before .before .before .pre .0) e in
     omega (arith, O .few, c .before .before .before .before .before .before .before .before .before .before .before .before .pre .1)
 
 enum-told-3 : tie.Need-enum-told-3
@@ -89,24 +58,22 @@ same-length : tie.Need-same-length
 same-length c = search needs
 
 returns-2 : tie.Need-returns-2
-unfolding pageAt
 returns-2 c =
     let a = c .before .before .before .before .before .before .before .before .before .before .before .before .args in
     let e = sym (c .before .before .before .before .before .before .before .before .opened .given .1) ∙ c .before .before .before .before .before .before .before .before .before .before .before .before .pre .4 in
-    let M = rw add-sub-cancel-left at (c .before .before .before .before .merge .ensures) in
-    load-whole (a .extent) (a .store .now) (a .level) (a .page) (a .s .now) (a .m) (a .n) _ (c .before .before .before .before .before .before .before .before .before .before .before .before .pre .0) e _ (M .same)
+    let M = rw (c .before .before .before .before .before .before .part-of .ensures) at (c .before .before .before .before .merge .ensures) in
+    load-whole eavt (a .extent) (a .store .now) (a .level) (a .page) (a .s .now) (a .m) (a .n) _ (c .before .before .before .before .before .before .before .before .before .before .before .before .pre .0) e _ (M .same)
     (is-whole _ (sym (M .answer) ∙ c .enum-told2 .given .1)) (rw (c .before .before .before .before .before .before .before .before .before .before .before .before .pre .1) at (M .node (c .enum-told2 .given .1) (a .level)))
 
 same-length-2 : tie.Need-same-length-2
 same-length-2 c = search needs
 
 returns-3 : tie.Need-returns-3
-unfolding pageAt
 returns-3 c =
     let a = c .before .before .before .before .before .before .before .before .before .before .before .before .args in
     let e = sym (c .before .before .before .before .before .before .before .before .opened .given .1) ∙ c .before .before .before .before .before .before .before .before .before .before .before .before .pre .4 in
-    let M = rw add-sub-cancel-left at (c .before .before .before .before .merge .ensures) in
-    load-met (a .extent) (a .store .now) (a .level) (a .page) (a .s .now) (a .m) (a .n) _ (c .before .before .before .before .before .before .before .before .before .before .before .before .pre .0) e _ (M .same)
+    let M = rw (c .before .before .before .before .before .before .part-of .ensures) at (c .before .before .before .before .merge .ensures) in
+    load-met eavt (a .extent) (a .store .now) (a .level) (a .page) (a .s .now) (a .m) (a .n) _ (c .before .before .before .before .before .before .before .before .before .before .before .before .pre .0) e _ (M .same)
     (is-met _ (sym (M .answer) ∙ c .enum-told3 .given .1))
 
 pub load-spec : {M : Type 1} → statement M
@@ -116,16 +83,12 @@ load-spec =
     enum-known-opened
     enum-told
     returns
-    mul-at
-    add-merge
-    sub-merge
-    part-merge-start
-    part-merge-end
+    part-of-requires
     mul-merge
-    add-merge-2
+    add-merge
     merge-requires
     enum-told-2
-    add-t24
+    add-t18
     enum-told-3
     same-length
     returns-2

@@ -18,7 +18,7 @@ use Rattle.htree.proofs.place.put_part.Tie as tie
 
 returns : tie.Need-returns
 unfolding partOf nodeOf
-returns c = λ o e. put-tall _ _ _ o (c .if1 .taken)
+returns c = λ t o e. put-tall t _ _ _ o (c .if1 .taken)
 
 div-room : tie.Need-div-room
 div-room c =
@@ -34,7 +34,7 @@ sub-room c =
 
 returns-2 : tie.Need-returns-2
 unfolding partOf nodeOf
-returns-2 c = λ o e. put-full _ _ _ o (omega arith) (omega arith)
+returns-2 c = λ t o e. put-full t _ _ _ o (omega arith) (omega arith)
 
 mul-start : tie.Need-mul-start
 mul-start c = search needs
@@ -89,8 +89,8 @@ returns-3 c =
     (omega (arith, part-few (a .m) (a .level) (a .n) (a .i) (a .a) (a .area .now) (omega arith)))
     (part-lens (a .m) (a .level) (a .n) (a .i) (a .a) (a .area .now) (omega arith)
     ∙ ap suc (sym (part-few (a .m) (a .level) (a .n) (a .i) (a .a) (a .area .now) (omega arith)))) in
-    λ q l.
-    put-done (a .extent) (a .store .now) n q (omega arith) (a .written) l (omega (arith, div-le-self (length (a .store .now)) (a .extent .size))) (omega arith)
+    λ t q l.
+    put-done t (a .extent) (a .store .now) n q (omega arith) (a .written) l (omega (arith, div-le-self (length (a .store .now)) (a .extent .size))) (omega arith)
     (rw (c .before .before .before .write-page .ensures, back, ← g, R .cap)
     (wrote-one (a .extent) (a .store .now) (a .written) n (rw (R .cap) at size) f))
 

@@ -20,7 +20,7 @@ returns : tie.Need-returns
 returns c =
     let a = c .before .before .before .before .before .before .before .before .before .before .args in
     let R = c .before .before .before .before .before .before .before .before .before .before .pre .0 in
-    λ o e. rw (settle-split (a .extent) (a .store .now) (a .m) (a .level) (a .n) (a .s .now) (omega (arith, R .cap)) o) (c .before .before .before .before .split .ensures o e)
+    λ t o e. rw (settle-split t (a .extent) (a .store .now) (a .m) (a .level) (a .n) (a .s .now) (omega (arith, R .cap)) o) (c .before .before .before .before .split .ensures t o e)
 
 put-part-requires : tie.Need-put-part-requires
 put-part-requires c κs = search needs
@@ -49,10 +49,10 @@ returns-2 : tie.Need-returns-2
 returns-2 c =
     let a = c .before .before .before .before .before .before .before .before .before .before .before .before .before .before .before .args in
     let R = c .before .before .before .before .before .before .before .before .before .before .before .before .before .before .before .pre .0 in
-    λ o e.
-    let t = rw (whole-part (a .m) (a .level) (a .n) (a .s .now), c .before .before .before .before .before .id .given .1) at (c .before .before .before .before .before .before .before .before .before .put-part .ensures o e) in
+    λ t o e.
+    let T = rw (whole-part (a .m) (a .level) (a .n) (a .s .now), c .before .before .before .before .before .id .given .1) at (c .before .before .before .before .before .before .before .before .before .put-part .ensures t o e) in
     rw (c .before .before .put-child .ensures, ← e)
-    (tell-went (settle-put (a .extent) (a .store .now) (a .m) (a .level) (a .n) (a .s .now) (omega (arith, R .cap)) (omega arith) (omega arith) o _ _ t))
+    (tell-went (settle-put t (a .extent) (a .store .now) (a .m) (a .level) (a .n) (a .s .now) (omega (arith, R .cap)) (omega arith) (omega arith) o _ _ T))
 
 same-length-5 : tie.Need-same-length-5
 same-length-5 c = search needs
@@ -64,10 +64,10 @@ returns-3 : tie.Need-returns-3
 returns-3 c =
     let a = c .before .before .before .before .before .before .before .before .before .before .before .args in
     let R = c .before .before .before .before .before .before .before .before .before .before .before .pre .0 in
-    λ o e.
-    let t = rw (whole-part (a .m) (a .level) (a .n) (a .s .now), c .before .refusal .given .1) at (c .before .before .before .before .before .put-part .ensures o e) in
+    λ t o e.
+    let T = rw (whole-part (a .m) (a .level) (a .n) (a .s .now), c .before .refusal .given .1) at (c .before .before .before .before .before .put-part .ensures t o e) in
     rw (← e)
-    (tell-stopped (settle-refused (a .extent) (a .store .now) (a .m) (a .level) (a .n) (a .s .now) (omega (arith, R .cap)) (omega arith) (omega arith) o _ _ t (rw e (R .room))))
+    (tell-stopped (settle-refused t (a .extent) (a .store .now) (a .m) (a .level) (a .n) (a .s .now) (omega (arith, R .cap)) (omega arith) (omega arith) o _ _ T (rw e (R .room))))
 
 pub settle-spec : {M : Type 1} → statement M
 settle-spec =

@@ -67,7 +67,7 @@ loop-holds c =
     let K = in-order (a .extent) (a .store .now) (R .good) .known in
     let D = divided (a .c) (a .n) _ _ _ (omega (arith, K .some, R .cap)) (omega arith) refl refl refl in
     record {
-      half = λ o e. rw (D .each, D .more) (halfway-start (a .extent) (a .store .now) (a .written) (a .level) (a .m) (a .n) (a .s .now) o e _ (rw (← R .cap) (D .pages)) (R .room));
+      half = λ t o e. rw (D .each, D .more) (halfway-start t (a .extent) (a .store .now) (a .written) (a .level) (a .m) (a .n) (a .s .now) o e _ (rw (← R .cap) (D .pages)) (R .room));
       divided = D;
       begun = R;
       left = D .some;
@@ -141,7 +141,7 @@ returns : tie.Need-returns Inv-loop μ-loop
 returns c =
     let a = c .before .before .before .before .before .before .before .before .before .before .before .before .before .before .before .args in
     let I = c .before .before .before .before .before .before .before .before .before .before .before .before .loop .inv in
-    λ o e. tell-stopped (looping-stop I _ (c .before .before .before .before .before .before .before .before .before .before .share-of .ensures) _ _ _ (rw (c .before .refusal .given .1) at (c .before .before .before .before .before .before .before .split-part .ensures)) o e)
+    λ t o e. tell-stopped (looping-stop I _ (c .before .before .before .before .before .before .before .before .before .before .share-of .ensures) _ _ _ (rw (c .before .refusal .given .1) at (c .before .before .before .before .before .before .before .split-part .ensures)) t o e)
 
 sub-put-part : tie.Need-sub-put-part Inv-loop μ-loop
 sub-put-part c =
@@ -185,10 +185,10 @@ returns-2 : tie.Need-returns-2 Inv-loop μ-loop
 returns-2 c =
     let a = c .before .before .before .before .before .before .before .before .before .before .before .before .before .before .before .before .args in
     let I = c .before .before .before .before .before .before .before .before .before .before .before .before .before .loop .inv in
-    λ o e.
+    λ t o e.
     rw (c .before .before .put-child .ensures)
     (tell-went (looping-end I (omega arith) (omega arith) (omega (arith, I .left)) _ _
-    (λ o₁ e₁. rw (c .before .before .before .before .before .id .given .1) at (c .before .before .before .before .before .before .before .before .before .put-part .ensures o₁ e₁)) o e))
+    (λ t₁ o₁ e₁. rw (c .before .before .before .before .before .id .given .1) at (c .before .before .before .before .before .before .before .before .before .put-part .ensures t₁ o₁ e₁)) t o e))
 
 same-length-5 : tie.Need-same-length-5 Inv-loop μ-loop
 same-length-5 c =
@@ -204,9 +204,9 @@ returns-3 : tie.Need-returns-3 Inv-loop μ-loop
 returns-3 c =
     let a = c .before .before .before .before .before .before .before .before .before .before .before .before .args in
     let I = c .before .before .before .before .before .before .before .before .before .loop .inv in
-    λ o e.
+    λ t o e.
     tell-stopped (looping-refused I (omega (arith, I .left)) _ _
-    (λ o₁ e₁. rw (c .before .refusal2 .given .1) at (c .before .before .before .before .before .put-part .ensures o₁ e₁)) o e)
+    (λ t₁ o₁ e₁. rw (c .before .refusal2 .given .1) at (c .before .before .before .before .before .put-part .ensures t₁ o₁ e₁)) t o e)
 
 pub split-spec : {M : Type 1} → statement M
 split-spec =

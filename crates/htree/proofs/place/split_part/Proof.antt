@@ -40,7 +40,7 @@ returns : tie.Need-returns
 returns c =
     let a = c .before .before .before .before .before .before .before .before .before .before .before .before .before .before .before .before .before .before .args in
     record {
-      page = λ o e. rw (c .before .before .before .before .before .before .before .before .before .id .given .1) at (c .before .before .before .before .before .before .before .before .before .before .before .before .before .put-part .ensures o e);
+      page = λ t o e. rw (c .before .before .before .before .before .before .before .before .before .id .given .1) at (c .before .before .before .before .before .before .before .before .before .before .before .before .before .put-part .ensures t o e);
       area = λ id q. let same : c .before .before .before .before .before .before .before .before .before .id .given .0 .0 ≡ id = cc in rw (c .before .before .put-child .ensures, c .before .before .before .before .before .before .put-midpoint .ensures, same);
     }
 
@@ -54,7 +54,7 @@ returns-2 : tie.Need-returns-2
 returns-2 c =
     let a = c .before .before .before .before .before .before .before .before .before .before .args in
     record {
-      page = λ o e. rw (c .before .refusal .given .1) at (c .before .before .before .before .before .put-part .ensures o e);
+      page = λ t o e. rw (c .before .refusal .given .1) at (c .before .before .before .before .before .put-part .ensures t o e);
       area = λ id q. absurd (apart (cc));
     }
 

@@ -15,8 +15,8 @@ returns : tie.Need-returns
 returns c =
     let a = c .before .before .before .before .args in
     let R = c .before .before .before .before .pre .0 in
-    λ o e.
-    rw (← e, c .child-at .ensures) (top-one (a .extent) (a .store .now) (a .level) (a .m) (a .n) (a .s .now) o (omega arith) (rw e (R .room)))
+    λ t o e.
+    rw (← e, c .child-at .ensures) (top-one t (a .extent) (a .store .now) (a .level) (a .m) (a .n) (a .s .now) o (omega arith) (rw e (R .room)))
 
 put-part-requires : tie.Need-put-part-requires
 put-part-requires c κs = search needs
@@ -40,9 +40,9 @@ returns-2 : tie.Need-returns-2
 returns-2 c =
     let a = c .before .before .before .before .before .before .before .before .before .before .args in
     let R = c .before .before .before .before .before .before .before .before .before .before .pre .0 in
-    λ o e.
-    let t = rw (whole-part (a .m) (a .level) (a .n) (a .s .now), c .before .id .given .1) at (c .before .before .before .before .before .put-part .ensures o e) in
-    rw (← e) (top-put (a .extent) (a .store .now) (a .level) (a .m) (a .n) (a .s .now) o (omega arith) _ _ t)
+    λ t o e.
+    let T = rw (whole-part (a .m) (a .level) (a .n) (a .s .now), c .before .id .given .1) at (c .before .before .before .before .before .put-part .ensures t o e) in
+    rw (← e) (top-put t (a .extent) (a .store .now) (a .level) (a .m) (a .n) (a .s .now) o (omega arith) _ _ T)
 
 same-length-2 : tie.Need-same-length-2
 same-length-2 c = search needs
@@ -51,9 +51,9 @@ returns-3 : tie.Need-returns-3
 returns-3 c =
     let a = c .before .before .before .before .before .before .before .before .before .before .args in
     let R = c .before .before .before .before .before .before .before .before .before .before .pre .0 in
-    λ o e.
-    let t = rw (whole-part (a .m) (a .level) (a .n) (a .s .now), c .before .refusal .given .1) at (c .before .before .before .before .before .put-part .ensures o e) in
-    rw (← e) (top-refused (a .extent) (a .store .now) (a .level) (a .m) (a .n) (a .s .now) o (omega arith) _ _ t (rw e (R .room)))
+    λ t o e.
+    let T = rw (whole-part (a .m) (a .level) (a .n) (a .s .now), c .before .refusal .given .1) at (c .before .before .before .before .before .put-part .ensures t o e) in
+    rw (← e) (top-refused t (a .extent) (a .store .now) (a .level) (a .m) (a .n) (a .s .now) o (omega arith) _ _ T (rw e (R .room)))
 
 pub top-spec : {M : Type 1} → statement M
 top-spec =

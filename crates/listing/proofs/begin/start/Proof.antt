@@ -1,4 +1,6 @@
 -- `start` meets its contract: the checks in their order, then the pages. Assumes nothing.
+use Rattle.index.specs.Order.{eavt}
+use Rattle.index.specs.Form.{eavt-bound}
 use Rattle.listing.specs.StartLaws.{start-bad, start-lower, start-upper, start-root, start-on}
 use borrow.Author.Tests.{not-true, not-false}
 use mathlib.Core.Path.{sym, _∙_}
@@ -14,7 +16,7 @@ refused-requires c κs = search needs
 
 returns : tie.Need-returns
 returns c = let a = c .before .before .before .before .args in
-    c .refused .ensures ∙ start-bad (a .extent) (a .store .now) (a .root) (a .lower) (a .upper) (sym (c .before .before .is-bad .ensures) ∙ c .before .if1 .taken)
+    c .refused .ensures ∙ start-bad eavt (a .extent) (a .store .now) (a .root) (a .lower) (a .upper) (sym (c .before .before .is-bad .ensures) ∙ c .before .if1 .taken)
 
 is-bound-requires : tie.Need-is-bound-requires
 is-bound-requires c κs = search needs
@@ -28,8 +30,8 @@ returns-2 c =
     let if1 = c .before .before .before .if1 in
     let is-bound = c .before .before .is-bound in
     let a = c .before .before .before .before .before .before .args in
-    c .refused2 .ensures ∙ start-lower (a .extent) (a .store .now) (a .root) (a .lower) (a .upper) (sym (is-bad .ensures) ∙ if1 .left)
-    (sym (is-bound .ensures) ∙ not-true _ (c .before .if2 .taken))
+    c .refused2 .ensures ∙ start-lower eavt (a .extent) (a .store .now) (a .root) (a .lower) (a .upper) (sym (is-bad .ensures) ∙ if1 .left)
+    (eavt-bound _ ∙ sym (is-bound .ensures) ∙ not-true _ (c .before .if2 .taken))
 
 is-bound-requires-2 : tie.Need-is-bound-requires-2
 is-bound-requires-2 c κs = search needs
@@ -45,8 +47,8 @@ returns-3 c =
     let if2 = c .before .before .before .if2 in
     let is-bound2 = c .before .before .is-bound2 in
     let a = c .before .before .before .before .before .before .before .before .args in
-    c .refused3 .ensures ∙ start-upper (a .extent) (a .store .now) (a .root) (a .lower) (a .upper) (sym (is-bad .ensures) ∙ if1 .left)
-    (sym (is-bound .ensures) ∙ not-false _ (if2 .left)) (sym (is-bound2 .ensures) ∙ not-true _ (c .before .if3 .taken))
+    c .refused3 .ensures ∙ start-upper eavt (a .extent) (a .store .now) (a .root) (a .lower) (a .upper) (sym (is-bad .ensures) ∙ if1 .left)
+    (eavt-bound _ ∙ sym (is-bound .ensures) ∙ not-false _ (if2 .left)) (eavt-bound _ ∙ sym (is-bound2 .ensures) ∙ not-true _ (c .before .if3 .taken))
 
 is-bad-root-requires : tie.Need-is-bad-root-requires
 is-bad-root-requires c κs = search needs
@@ -64,8 +66,8 @@ returns-4 c =
     let if3 = c .before .before .before .if3 in
     let is-bad-root = c .before .before .is-bad-root in
     let a = c .before .before .before .before .before .before .before .before .before .before .args in
-    c .refused4 .ensures ∙ start-root (a .extent) (a .store .now) (a .root) (a .lower) (a .upper) (sym (is-bad .ensures) ∙ if1 .left)
-    (sym (is-bound .ensures) ∙ not-false _ (if2 .left)) (sym (is-bound2 .ensures) ∙ not-false _ (if3 .left))
+    c .refused4 .ensures ∙ start-root eavt (a .extent) (a .store .now) (a .root) (a .lower) (a .upper) (sym (is-bad .ensures) ∙ if1 .left)
+    (eavt-bound _ ∙ sym (is-bound .ensures) ∙ not-false _ (if2 .left)) (eavt-bound _ ∙ sym (is-bound2 .ensures) ∙ not-false _ (if3 .left))
     (sym (is-bad-root .ensures) ∙ c .before .if4 .taken)
 
 start-under-requires : tie.Need-start-under-requires
@@ -81,8 +83,8 @@ returns-5 c =
     let if3 = c .before .before .before .if3 in
     let is-bad-root = c .before .before .is-bad-root in
     let a = c .before .before .before .before .before .before .before .before .before .before .args in
-    c .start-under .ensures ∙ start-on (a .extent) (a .store .now) (a .root) (a .lower) (a .upper) (sym (is-bad .ensures) ∙ if1 .left)
-    (sym (is-bound .ensures) ∙ not-false _ (if2 .left)) (sym (is-bound2 .ensures) ∙ not-false _ (if3 .left))
+    c .start-under .ensures ∙ start-on eavt (a .extent) (a .store .now) (a .root) (a .lower) (a .upper) (sym (is-bad .ensures) ∙ if1 .left)
+    (eavt-bound _ ∙ sym (is-bound .ensures) ∙ not-false _ (if2 .left)) (eavt-bound _ ∙ sym (is-bound2 .ensures) ∙ not-false _ (if3 .left))
     (sym (is-bad-root .ensures) ∙ c .before .if4 .left)
 
 pub start-spec : {M : Type 1} → statement M

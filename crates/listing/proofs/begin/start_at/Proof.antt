@@ -1,4 +1,5 @@
 -- `start_at` meets its contract: a way that is lost refuses the start, the lower first. Assumes nothing.
+use Rattle.index.specs.Order.{eavt}
 use Rattle.listing.specs.Starts.{was-lost, came-down, full-of, upper-lost, both-down}
 use Rattle.listing.specs.Fill.{down-long}
 use Rattle.listing.specs.Descent.{testOf, downOf}
@@ -26,8 +27,8 @@ returns c =
     let descend = c .before .before .before .before .before .descend in
     let begin-end = c .before .before .begin-end in
     let a = c .before .before .before .before .before .before .before .before .args in
-    let lower = downOf (a .extent) (a .store .now) (testOf (NotBelow (a .lower))) (a .level) (a .root) in
-    let upper = downOf (a .extent) (a .store .now) (testOf (NotBelow (a .upper))) (a .level) (a .root) in
+    let lower = downOf eavt (a .extent) (a .store .now) (testOf eavt (NotBelow (a .lower))) (a .level) (a .root) in
+    let upper = downOf eavt (a .extent) (a .store .now) (testOf eavt (NotBelow (a .upper))) (a .level) (a .root) in
     c .refused .ensures ∙ was-lost (a .level) _ (descend .result) _ lower (descend .ensures) (begin-end .given .1) upper
 
 enum-told : tie.Need-enum-told
@@ -54,10 +55,10 @@ returns-2 c =
     let descend2 = c .before .before .before .before .before .descend2 in
     let end-end = c .before .before .end-end in
     let a = c .before .before .before .before .before .before .before .before .before .before .before .before .before .args in
-    let lower = downOf (a .extent) (a .store .now) (testOf (NotBelow (a .lower))) (a .level) (a .root) in
-    let upper = downOf (a .extent) (a .store .now) (testOf (NotBelow (a .upper))) (a .level) (a .root) in
+    let lower = downOf eavt (a .extent) (a .store .now) (testOf eavt (NotBelow (a .lower))) (a .level) (a .root) in
+    let upper = downOf eavt (a .extent) (a .store .now) (testOf eavt (NotBelow (a .upper))) (a .level) (a .root) in
     let D = came-down (a .level) _ (descend .result) lower (descend .ensures) (enum-told .given .1) (pre .1 .1) (full-of _ (empty .ensures))
-    (down-long (a .extent) (a .store .now) (testOf (NotBelow (a .lower))) (a .level) (a .root)) in
+    (down-long eavt (a .extent) (a .store .now) (testOf eavt (NotBelow (a .lower))) (a .level) (a .root)) in
     c .refused2 .ensures ∙ upper-lost (a .level) _ _ (descend .result) (descend2 .result) lower upper D _ (descend2 .ensures) (end-end .given .1)
 
 enum-told-2 : tie.Need-enum-told-2
@@ -78,13 +79,13 @@ returns-3 c =
     let empty2 = c .before .before .before .before .before .empty2 in
     let descend2 = c .before .before .before .before .descend2 in
     let a = c .before .before .before .before .before .before .before .before .before .before .before .before .args in
-    let lower = downOf (a .extent) (a .store .now) (testOf (NotBelow (a .lower))) (a .level) (a .root) in
-    let upper = downOf (a .extent) (a .store .now) (testOf (NotBelow (a .upper))) (a .level) (a .root) in
+    let lower = downOf eavt (a .extent) (a .store .now) (testOf eavt (NotBelow (a .lower))) (a .level) (a .root) in
+    let upper = downOf eavt (a .extent) (a .store .now) (testOf eavt (NotBelow (a .upper))) (a .level) (a .root) in
     let D = came-down (a .level) _ (descend .result) lower (descend .ensures) (enum-told .given .1) (pre .1 .1) (full-of _ (empty .ensures))
-    (down-long (a .extent) (a .store .now) (testOf (NotBelow (a .lower))) (a .level) (a .root)) in
+    (down-long eavt (a .extent) (a .store .now) (testOf eavt (NotBelow (a .lower))) (a .level) (a .root)) in
     let G = came-down (a .level) _ (descend2 .result) upper (descend2 .ensures) (c .before .enum-told2 .given .1) (pre .1 .1)
     (full-of _ (empty2 .ensures))
-    (down-long (a .extent) (a .store .now) (testOf (NotBelow (a .upper))) (a .level) (a .root)) in
+    (down-long eavt (a .extent) (a .store .now) (testOf eavt (NotBelow (a .upper))) (a .level) (a .root)) in
     rw (c .cursor-of .ensures) (both-down (a .level) _ _ (descend .result) (descend2 .result) lower upper D G)
 
 pub start-at-spec : {M : Type 1} → statement M

@@ -1,4 +1,5 @@
 -- `start_under` meets its contract: nothing between the bounds, a root that cannot be read, or both ways from it. Assumes nothing.
+use Rattle.index.specs.Order.{eavt}
 use Rattle.listing.specs.StartLaws.{under-nothing, under-damaged, under-read}
 use Rattle.memory_store.specs.Readable.{opens, told-fine, told-faulty}
 use Rattle.memory_store.specs.Reading.{told}
@@ -16,7 +17,7 @@ nothing-requires c κs = search needs
 
 returns : tie.Need-returns
 returns c = let a = c .before .before .before .before .args in
-    rw (c .nothing .ensures) (under-nothing (a .extent) (a .store .now) (a .root) (a .lower) (a .upper) (sym (c .before .before .is-any-between .ensures) ∙ not-true _ (c .before .if1 .taken)))
+    rw (c .nothing .ensures) (under-nothing eavt (a .extent) (a .store .now) (a .root) (a .lower) (a .upper) (sym (c .before .before .is-any-between .ensures) ∙ not-true _ (c .before .if1 .taken)))
 
 capacity-of-requires : tie.Need-capacity-of-requires
 capacity-of-requires c κs = search needs
@@ -39,9 +40,9 @@ returns-2 c =
     let if1 = c .before .before .before .before .before .if1 in
     let node-at = c .before .before .before .node-at in
     let a = c .before .before .before .before .before .before .before .before .args in
-    let e = told-faulty (a .extent) (a .store .now) (a .root) _
+    let e = told-faulty eavt (a .extent) (a .store .now) (a .root) _
     (sym (ap (told (a .extent) (a .store .now) (a .root)) (c .before .enum-told .given .1)) ∙ node-at .ensures) in
-    c .refused .ensures ∙ under-damaged (a .extent) (a .store .now) (a .root) (a .lower) (a .upper)
+    c .refused .ensures ∙ under-damaged eavt (a .extent) (a .store .now) (a .root) (a .lower) (a .upper)
     (sym (is-any-between .ensures) ∙ not-false _ (if1 .left)) _ e
 
 start-at-requires : tie.Need-start-at-requires
@@ -51,9 +52,9 @@ start-at-requires c κs =
     let node-at = c .before .before .before .node-at in
     let a = c .before .before .before .before .before .before .before .before .args in
     let g = c .before .level .given in
-    let e = told-fine (a .extent) (a .store .now) (a .root) (g .0 .0) (g .0 .1 .0)
+    let e = told-fine eavt (a .extent) (a .store .now) (a .root) (g .0 .0) (g .0 .1 .0)
     (sym (ap (told (a .extent) (a .store .now) (a .root)) (g .1)) ∙ node-at .ensures) in
-    (pre, (capacity-of .ensures, opens (a .extent) (a .store .now) (a .root) (g .0 .0) (g .0 .1 .0) pre e .low))
+    (pre, (capacity-of .ensures, opens eavt (a .extent) (a .store .now) (a .root) (g .0 .0) (g .0 .1 .0) pre e .low))
 
 returns-3 : tie.Need-returns-3
 returns-3 c =
@@ -62,9 +63,9 @@ returns-3 c =
     let node-at = c .before .before .before .before .node-at in
     let a = c .before .before .before .before .before .before .before .before .before .args in
     let g = c .before .before .level .given in
-    let e = told-fine (a .extent) (a .store .now) (a .root) (g .0 .0) (g .0 .1 .0)
+    let e = told-fine eavt (a .extent) (a .store .now) (a .root) (g .0 .0) (g .0 .1 .0)
     (sym (ap (told (a .extent) (a .store .now) (a .root)) (g .1)) ∙ node-at .ensures) in
-    c .start-at .ensures ∙ under-read (a .extent) (a .store .now) (a .root) (a .lower) (a .upper)
+    c .start-at .ensures ∙ under-read eavt (a .extent) (a .store .now) (a .root) (a .lower) (a .upper)
     (sym (is-any-between .ensures) ∙ not-false _ (if1 .left)) (g .0 .0) (g .0 .1 .0) e
 
 pub start-under-spec : {M : Type 1} → statement M

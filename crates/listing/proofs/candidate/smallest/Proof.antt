@@ -6,13 +6,14 @@ use mathlib.Core.Path.{_≡_, ap, _∙_}
 use Rattle.index.specs.Order.{eavt}
 use Rattle.rules.specs.Store.{fetchPage}
 use Rattle.listing.specs.Opening.{open-at}
-use Rattle.listing.specs.Candidate.{picked}
-use Rattle.listing.specs.CandidateLaws.{fine-in, picked-none, picked-on}
+use Rattle.listing.specs.Candidate.{candidateBelow}
+use Rattle.listing.specs.CandidateLaws.{candidate-none, candidate-on}
+use Rattle.listing.specs.Levels.{fine-in}
 use Rattle.listing.proofs.candidate.smallest.Statement.{statement}
 use Rattle.listing.proofs.candidate.smallest.Tie as tie
 
 abbrev Inv-loop : tie.InvT-loop
-Inv-loop store extent c cursor height best₀ level₀ best level = (level ≤ height) × (best ≡ picked (fetchPage eavt extent store) level (cursor .«begin_indices») (cursor .«begin_pages»))
+Inv-loop store extent c cursor height best₀ level₀ best level = (level ≤ height) × (best ≡ candidateBelow eavt (fetchPage eavt extent store) level (cursor .«begin_indices») (cursor .«begin_pages»))
 
 abbrev μ-loop : tie.MeasureT-loop
 μ-loop store extent c cursor height best₀ level₀ best level = height - level
@@ -20,7 +21,7 @@ abbrev μ-loop : tie.MeasureT-loop
 loop-holds : tie.Need-loop-holds Inv-loop μ-loop
 loop-holds c = let a = c .before .args in
     let u = a .t4 in
-    (omega arith, picked-none (fetchPage eavt (a .extent) (a .store .now)) (u .«begin_indices») (u .«begin_pages»))
+    (omega arith, candidate-none eavt (fetchPage eavt (a .extent) (a .store .now)) (u .«begin_indices») (u .«begin_pages»))
 
 mul-index : tie.Need-mul-index Inv-loop μ-loop
 mul-index c = search needs
@@ -56,14 +57,14 @@ loop-again c =
     let a = c .before .before .before .before .before .before .args in
     let u = a .t4 in
     let w = c .before .before .before .before .loop in
-    (omega (arith, test .taken), picked-on (fetchPage eavt (a .extent) (a .store .now)) (u .«begin_indices») (u .«begin_pages») (w .level) (w .best) (c .chosen .result) (w .inv .1) (c .chosen .ensures))
+    (omega (arith, test .taken), candidate-on eavt (fetchPage eavt (a .extent) (a .store .now)) (u .«begin_indices») (u .«begin_pages») (w .level) (w .best) (c .chosen .result) (w .inv .1) (c .chosen .ensures))
 
 returns : tie.Need-returns Inv-loop μ-loop
 returns c = let a = c .before .before .before .args in
     let u = a .t4 in
     let w = c .before .loop in
     let e : w .level ≡ u .height = omega (arith, w .inv .0, c .loop-test .left) in
-    w .inv .1 ∙ ap (λ n. picked (fetchPage eavt (a .extent) (a .store .now)) n (u .«begin_indices») (u .«begin_pages»)) e
+    w .inv .1 ∙ ap (λ n. candidateBelow eavt (fetchPage eavt (a .extent) (a .store .now)) n (u .«begin_indices») (u .«begin_pages»)) e
 
 pub smallest-spec : {M : Type 1} → statement M
 smallest-spec =

@@ -3,13 +3,14 @@ use borrow.Author.Needs.{needs}
 use Prim.Native.Nat.{_≤_}
 use native.Mathlib.Omega.{arith}
 use mathlib.Core.Path.{_≡_, refl, sym, _∙_}
-use Rattle.listing.specs.Descent.{testOf, descentOf, downOf, lost-is, down-lost, down-ends, down-on}
+use Rattle.index.specs.Order.{eavt}
+use Rattle.listing.specs.Descent.{testOf, descentOf, downOf, down-lost, down-ends, down-on, down-stuck}
 use Rattle.listing.proofs.descent.descend.Statement.{statement}
 use Rattle.listing.proofs.descent.descend.Tie as tie
 
 abbrev Inv-loop : tie.InvT-loop
 Inv-loop store extent c seek level filled₀ l₀ p₀ filled l p =
-    (l ≤ 7) × (descentOf l filled (downOf extent store (testOf seek) l p) ≡ descentOf l₀ filled₀ (downOf extent store (testOf seek) l₀ p₀))
+    (l ≤ 7) × (descentOf l filled (downOf eavt extent store (testOf eavt seek) l p) ≡ descentOf l₀ filled₀ (downOf eavt extent store (testOf eavt seek) l₀ p₀))
 
 abbrev μ-loop : tie.MeasureT-loop
 μ-loop store extent c seek level filled₀ l₀ p₀ filled l p = l
@@ -26,14 +27,14 @@ enum-known-index c = search needs
 enum-told : tie.Need-enum-told Inv-loop μ-loop
 enum-told c = search needs
 
-empty-requires : tie.Need-empty-requires Inv-loop μ-loop
-empty-requires c κs = search needs
+lost-at-requires : tie.Need-lost-at-requires Inv-loop μ-loop
+lost-at-requires c κs = search needs
 
 returns : tie.Need-returns Inv-loop μ-loop
 returns c = let a = c .before .before .before .before .before .before .args in
     let w = c .before .before .before .before .loop in
-    lost-is (w .p) _ (c .empty .ensures)
-    ∙ down-lost (a .extent) (a .store .now) (testOf (a .seek)) (w .l) (w .filled) (w .p) (sym (c .before .enum-told .given .1) ∙ c .before .before .before .place-in .ensures) ∙ w .inv .1
+    c .lost-at .ensures
+    ∙ down-lost eavt (a .extent) (a .store .now) (testOf eavt (a .seek)) (w .l) (w .filled) (w .p) (sym (c .before .enum-told .given .1) ∙ c .before .before .before .place-in .ensures) ∙ w .inv .1
 
 mul-filled : tie.Need-mul-filled Inv-loop μ-loop
 mul-filled c = search needs
@@ -52,7 +53,29 @@ returns-2 c = let a = c .before .before .before .before .before .before .before 
     let w = c .before .before .before .before .before .loop in
     let g = c .before .before .index .given in
     let e = sym (g .1) ∙ c .before .before .before .before .place-in .ensures in
-    down-ends (a .extent) (a .store .now) (testOf (a .seek)) (w .l) (w .filled) (w .p) _ _ e (c .if1 .taken) ∙ w .inv .1
+    down-ends eavt (a .extent) (a .store .now) (testOf eavt (a .seek)) (w .l) (w .filled) (w .p) _ _ e (c .if1 .taken) ∙ w .inv .1
+
+enum-known-next : tie.Need-enum-known-next Inv-loop μ-loop
+enum-known-next c = search needs
+
+enum-told-2 : tie.Need-enum-told-2 Inv-loop μ-loop
+enum-told-2 c = search needs
+
+max-requires : tie.Need-max-requires Inv-loop μ-loop
+max-requires c κs = search needs
+
+lost-at-requires-2 : tie.Need-lost-at-requires-2 Inv-loop μ-loop
+lost-at-requires-2 c κs = search needs
+
+returns-3 : tie.Need-returns-3 Inv-loop μ-loop
+returns-3 c =
+    let k = c .before .before .before .before in
+    let a = k .before .before .before .before .before .before .before .args in
+    let w = k .before .before .before .before .before .loop in
+    let e = sym (k .before .before .index .given .1) ∙ k .before .before .before .before .place-in .ensures in
+    let word = k .before .before .before .before .before .before .before .good .1 .0 in
+    c .lost-at2 .ensures
+    ∙ rw (c .before .max .ensures) (down-stuck eavt (a .extent) (a .store .now) (testOf eavt (a .seek)) (w .l) (w .filled) (w .p) _ _ e (k .if1 .left) (omega (arith, word)) (c .before .before .enum-told2 .given .1) ∙ w .inv .1)
 
 sub-l : tie.Need-sub-l Inv-loop μ-loop
 sub-l c = search needs
@@ -61,11 +84,12 @@ loop-less : tie.Need-loop-less Inv-loop μ-loop
 loop-less c = search needs
 
 loop-again : tie.Need-loop-again Inv-loop μ-loop
-loop-again c = let a = c .before .before .before .before .before .before .before .args in
-    let w = c .before .before .before .before .before .loop in
-    let g = c .before .before .index .given in
-    let e = sym (g .1) ∙ c .before .before .before .before .place-in .ensures in
-    (omega (arith, w .inv .0), down-on (a .extent) (a .store .now) (testOf (a .seek)) (w .l) (w .filled) (w .p) _ _ e (c .if1 .left) ∙ w .inv .1)
+loop-again c =
+    let k = c .before .before .before in
+    let a = k .before .before .before .before .before .before .before .args in
+    let w = k .before .before .before .before .before .loop in
+    let e = sym (k .before .before .index .given .1) ∙ k .before .before .before .before .place-in .ensures in
+    (omega (arith, w .inv .0), down-on eavt (a .extent) (a .store .now) (testOf eavt (a .seek)) (w .l) (w .filled) (w .p) _ _ e (k .if1 .left) _ (c .before .next .given .1) ∙ w .inv .1)
 
 pub descend-spec : {M : Type 1} → statement M
 descend-spec =
@@ -77,13 +101,18 @@ descend-spec =
     place-in-requires
     enum-known-index
     enum-told
-    empty-requires
+    lost-at-requires
     returns
     mul-filled
     element-write-filled
     mul-p
     element-set-from-p
     returns-2
+    enum-known-next
+    enum-told-2
+    max-requires
+    lost-at-requires-2
+    returns-3
     sub-l
     loop-less
     loop-again)

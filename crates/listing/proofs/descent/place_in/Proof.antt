@@ -1,6 +1,7 @@
 -- `place_in` meets its contract: by what the page is opened as at the level asked for. Assumes nothing.
 use native.Mathlib.Omega.{arith}
 use mathlib.Core.Path.{_∙_, sym}
+use Rattle.index.specs.Order.{eavt}
 use Rattle.memory_store.specs.Readable.{opens}
 use Rattle.memory_store.specs.Opened.{opened-node}
 use Rattle.listing.specs.Descent.{place-lost, place-at, testOf}
@@ -18,7 +19,7 @@ enum-told : tie.Need-enum-told
 enum-told c = search needs
 
 returns : tie.Need-returns
-returns c = let a = c .before .before .before .before .args in place-lost (a .extent) (a .store .now) (a .page) (testOf (a .seek)) (a .level) (sym (c .enum-told .given .1) ∙ c .before .before .open-at .ensures)
+returns c = let a = c .before .before .before .before .args in place-lost eavt (a .extent) (a .store .now) (a .page) (testOf eavt (a .seek)) (a .level) (sym (c .enum-told .given .1) ∙ c .before .before .open-at .ensures)
 
 fetch-requires : tie.Need-fetch-requires
 fetch-requires c κs = search needs
@@ -27,26 +28,26 @@ index-in-requires : tie.Need-index-in-requires
 index-in-requires c κs =
     let a = c .before .before .before .before .before .before .args in
     let k = c .before .before .k .given .0 .0 in
-    let e = opened-node (a .extent) (a .store .now) (a .page) (a .level) k (sym (c .before .before .k .given .1) ∙ c .before .before .before .before .open-at .ensures) in
-    let w = opens (a .extent) (a .store .now) (a .page) (a .level) k (c .before .before .before .before .before .before .pre .0) e in
+    let e = opened-node eavt (a .extent) (a .store .now) (a .page) (a .level) k (sym (c .before .before .k .given .1) ∙ c .before .before .before .before .open-at .ensures) in
+    let w = opens eavt (a .extent) (a .store .now) (a .page) (a .level) k (c .before .before .before .before .before .before .pre .0) e in
     rw (c .fetch .ensures, w .bytes) (omega (arith, w .few, w .wide), w .rise)
 
-child-from-requires : tie.Need-child-from-requires
-child-from-requires c κs =
+next-from-requires : tie.Need-next-from-requires
+next-from-requires c κs =
     let a = c .before .before .before .before .before .before .before .args in
     let k = c .before .before .before .k .given .0 .0 in
-    let e = opened-node (a .extent) (a .store .now) (a .page) (a .level) k (sym (c .before .before .before .k .given .1) ∙ c .before .before .before .before .before .open-at .ensures) in
-    let w = opens (a .extent) (a .store .now) (a .page) (a .level) k (c .before .before .before .before .before .before .before .pre .0) e in
+    let e = opened-node eavt (a .extent) (a .store .now) (a .page) (a .level) k (sym (c .before .before .before .k .given .1) ∙ c .before .before .before .before .before .open-at .ensures) in
+    let w = opens eavt (a .extent) (a .store .now) (a .page) (a .level) k (c .before .before .before .before .before .before .before .pre .0) e in
     rw (c .before .fetch .ensures, w .bytes, c .before .before .before .before .before .before .before .pre .1) (w .few, omega (arith, w .wide))
 
 returns-2 : tie.Need-returns-2
 returns-2 c =
     let a = c .before .before .before .before .before .before .before .before .args in
     let k = c .before .before .before .before .k .given .0 .0 in
-    let e = opened-node (a .extent) (a .store .now) (a .page) (a .level) k (sym (c .before .before .before .before .k .given .1) ∙ c .before .before .before .before .before .before .open-at .ensures) in
-    let w = opens (a .extent) (a .store .now) (a .page) (a .level) k (c .before .before .before .before .before .before .before .before .pre .0) e in
-    place-at (a .extent) (a .store .now) (a .page) (testOf (a .seek)) (a .level) k e _ (a .c) _ _ (c .before .before .fetch .ensures ∙ w .bytes) (c .before .before .before .before .before .before .before .before .pre .1)
-    (c .before .index-in .ensures) (c .child-from .ensures)
+    let e = opened-node eavt (a .extent) (a .store .now) (a .page) (a .level) k (sym (c .before .before .before .before .k .given .1) ∙ c .before .before .before .before .before .before .open-at .ensures) in
+    let w = opens eavt (a .extent) (a .store .now) (a .page) (a .level) k (c .before .before .before .before .before .before .before .before .pre .0) e in
+    place-at eavt (a .extent) (a .store .now) (a .page) (testOf eavt (a .seek)) (a .level) k e _ (a .c) _ _ (c .before .before .fetch .ensures ∙ w .bytes) (c .before .before .before .before .before .before .before .before .pre .1)
+    (c .before .index-in .ensures) (c .next-from .ensures)
 
 pub place-in-spec : {M : Type 1} → statement M
 place-in-spec =
@@ -58,5 +59,5 @@ place-in-spec =
     returns
     fetch-requires
     index-in-requires
-    child-from-requires
+    next-from-requires
     returns-2)

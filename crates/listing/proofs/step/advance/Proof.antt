@@ -1,16 +1,13 @@
 -- `advance` meets its contract: beside a pending datom the levels below stay, behind a midpoint they are filled anew. Assumes nothing.
-use Prim.Native.Nat.{_+_, _*_}
 use native.Mathlib.Omega.{arith}
 use mathlib.Core.Path.{sym, ap, _∙_}
 use borrow.Author.Tests.{not-true, not-false}
 use lib.ListN.{getD}
 use Rattle.store.specs.Page.{page}
-use Rattle.rules.specs.Page.{countOf}
+use Rattle.index.specs.Order.{eavt}
 use Rattle.rules.specs.Node.{isMidpoint}
 use Rattle.memory_store.specs.FetchLaws.{in-order}
-use Rattle.memory_store.specs.Readable.{opens}
-use Rattle.listing.specs.CandidateLaws.{read-node, read-most}
-use Rattle.listing.specs.AdvanceLaws.{read-children, adv-bottom, adv-pending, adv-midpoint}
+use Rattle.listing.specs.AdvanceLaws.{within-open, within-most, within-children, adv-bottom, adv-pending, adv-child, adv-stuck}
 use borrow.Author.Needs.{needs}
 use Rattle.listing.proofs.step.advance.Statement.{statement}
 use Rattle.listing.proofs.step.advance.Tie as tie
@@ -30,60 +27,28 @@ element-copy-out-page c = search needs
 fetch-requires : tie.Need-fetch-requires
 fetch-requires c κs = search needs
 
-mul-count : tie.Need-mul-count
-mul-count c = let a = c .before .before .before .before .args in
+count-of-requires : tie.Need-count-of-requires
+count-of-requires c κs =
+    let start = c .before .before .before .before in
+    let a = start .args in
     let b = a .t5 in
     let q = getD (b .pages) (a .level) (page 0) in
-    let good = c .before .before .before .before .pre .0 in
-    let cap = c .before .before .before .before .pre .1 .0 in
-    let within = c .before .before .before .before .pre .1 .1 .1 in
-    let e = read-node (a .extent) (a .store .now) q _ (within .read) in
-    let o = opens (a .extent) (a .store .now) q _ _ good e in
-    let few = in-order (a .extent) (a .store .now) good .known .few in
-    let most = read-most (a .extent) (a .store .now) q _ _ e in
-    omega (arith, few, cap)
-
-add-count : tie.Need-add-count
-add-count c = let a = c .before .before .before .before .args in
-    let b = a .t5 in
-    let q = getD (b .pages) (a .level) (page 0) in
-    let good = c .before .before .before .before .pre .0 in
-    let cap = c .before .before .before .before .pre .1 .0 in
-    let within = c .before .before .before .before .pre .1 .1 .1 in
-    let e = read-node (a .extent) (a .store .now) q _ (within .read) in
-    let o = opens (a .extent) (a .store .now) q _ _ good e in
-    let few = in-order (a .extent) (a .store .now) good .known .few in
-    let most = read-most (a .extent) (a .store .now) q _ _ e in
-    omega (arith, few, cap)
-
-shared-slice-read-count : tie.Need-shared-slice-read-count
-shared-slice-read-count c = let a = c .before .before .before .before .before .args in
-    let b = a .t5 in
-    let q = getD (b .pages) (a .level) (page 0) in
-    let good = c .before .before .before .before .before .pre .0 in
-    let cap = c .before .before .before .before .before .pre .1 .0 in
-    let within = c .before .before .before .before .before .pre .1 .1 .1 in
-    let e = read-node (a .extent) (a .store .now) q _ (within .read) in
-    let o = opens (a .extent) (a .store .now) q _ _ good e in
-    let few = in-order (a .extent) (a .store .now) good .known .few in
-    let most = read-most (a .extent) (a .store .now) q _ _ e in
-    rw (c .before .fetch .ensures, o .bytes, cap) (omega (arith, o .wide))
-
-cast-count : tie.Need-cast-count
-cast-count c = omega (arith, c .shared-slice-known2 .given (40 * c .before .before .before .before .before .args .c + 9))
+    let good = start .pre .0 in
+    let within = start .pre .1 .1 .1 in
+    let o = within-open eavt (a .extent) (a .store .now) q _ good within in
+    rw (c .fetch .ensures, o .bytes, start .pre .1 .0) (o .wide)
 
 add-next : tie.Need-add-next
-add-next c = let a = c .before .before .before .before .before .args in
+add-next c =
+    let start = c .before .before .before .before .before in
+    let a = start .args in
     let b = a .t5 in
     let q = getD (b .pages) (a .level) (page 0) in
-    let good = c .before .before .before .before .before .pre .0 in
-    let cap = c .before .before .before .before .before .pre .1 .0 in
-    let within = c .before .before .before .before .before .pre .1 .1 .1 in
-    let e = read-node (a .extent) (a .store .now) q _ (within .read) in
-    let o = opens (a .extent) (a .store .now) q _ _ good e in
+    let good = start .pre .0 in
+    let within = start .pre .1 .1 .1 in
+    let o = within-open eavt (a .extent) (a .store .now) q _ good within in
     let few = in-order (a .extent) (a .store .now) good .known .few in
-    let most = read-most (a .extent) (a .store .now) q _ _ e in
-    omega (arith, within .most, most, o .few, few)
+    omega (arith, within-most eavt (a .extent) (a .store .now) q _ good within, o .few, few)
 
 mul-next : tie.Need-mul-next
 mul-next c = search needs
@@ -92,113 +57,109 @@ element-write-next : tie.Need-element-write-next
 element-write-next c = search needs
 
 returns : tie.Need-returns
-returns c = let a = c .before .before .before .before .before .before .args in
-    let b = a .t5 in
-    let q = getD (b .pages) (a .level) (page 0) in
-    let good = c .before .before .before .before .before .before .pre .0 in
-    let cap = c .before .before .before .before .before .before .pre .1 .0 in
-    let within = c .before .before .before .before .before .before .pre .1 .1 .1 in
-    let e = read-node (a .extent) (a .store .now) q _ (within .read) in
-    let o = opens (a .extent) (a .store .now) q _ _ good e in
-    let few = in-order (a .extent) (a .store .now) good .known .few in
-    let most = read-most (a .extent) (a .store .now) q _ _ e in
-    adv-bottom (a .extent) (a .store .now) b (a .level) (c .if1 .taken)
+returns c =
+    let a = c .before .before .before .before .before .before .args in
+    adv-bottom eavt (a .extent) (a .store .now) (a .t5) (a .level) (c .if1 .taken)
 
 is-midpoint-at-requires : tie.Need-is-midpoint-at-requires
-unfolding countOf
-is-midpoint-at-requires c κs = let a = c .before .before .before .before .before .before .args in
+is-midpoint-at-requires c κs =
+    let start = c .before .before .before .before .before .before in
+    let a = start .args in
     let b = a .t5 in
     let q = getD (b .pages) (a .level) (page 0) in
-    let good = c .before .before .before .before .before .before .pre .0 in
-    let cap = c .before .before .before .before .before .before .pre .1 .0 in
-    let within = c .before .before .before .before .before .before .pre .1 .1 .1 in
-    let e = read-node (a .extent) (a .store .now) q _ (within .read) in
-    let o = opens (a .extent) (a .store .now) q _ _ good e in
-    let few = in-order (a .extent) (a .store .now) good .known .few in
-    let most = read-most (a .extent) (a .store .now) q _ _ e in
-    rw (c .before .before .fetch .ensures, o .bytes, cap) (o .few, (omega (arith, o .wide), omega (arith, within .most, most)))
+    let good = start .pre .0 in
+    let within = start .pre .1 .1 .1 in
+    let o = within-open eavt (a .extent) (a .store .now) q _ good within in
+    rw (c .before .count-of .ensures, c .before .before .fetch .ensures, o .bytes, start .pre .1 .0)
+    (o .few, (omega (arith, o .wide), within-most eavt (a .extent) (a .store .now) q _ good within))
 
 returns-2 : tie.Need-returns-2
-unfolding countOf
-returns-2 c = let a = c .before .before .before .before .before .before .before .before .args in
+returns-2 c =
+    let start = c .before .before .before .before .before .before .before .before in
+    let a = start .args in
     let b = a .t5 in
     let q = getD (b .pages) (a .level) (page 0) in
-    let good = c .before .before .before .before .before .before .before .before .pre .0 in
-    let cap = c .before .before .before .before .before .before .before .before .pre .1 .0 in
-    let within = c .before .before .before .before .before .before .before .before .pre .1 .1 .1 in
-    let e = read-node (a .extent) (a .store .now) q _ (within .read) in
-    let o = opens (a .extent) (a .store .now) q _ _ good e in
-    let few = in-order (a .extent) (a .store .now) good .known .few in
-    let most = read-most (a .extent) (a .store .now) q _ _ e in
-    let kids = read-children (a .extent) (a .store .now) q _ _ e in
-    let mid = rw (c .before .before .before .before .fetch .ensures, o .bytes, cap) at (c .before .is-midpoint-at .ensures) in
-    adv-pending (a .extent) (a .store .now) b (a .level) (c .before .before .if1 .left) (ap (λ ks. isMidpoint ks (getD (b .indices) (a .level) 0)) kids ∙ sym mid ∙ not-true _ (c .if2 .taken))
+    let good = start .pre .0 in
+    let within = start .pre .1 .1 .1 in
+    let o = within-open eavt (a .extent) (a .store .now) q _ good within in
+    let kids = within-children eavt (a .extent) (a .store .now) q _ good within in
+    let mid = rw (c .before .before .before .count-of .ensures, c .before .before .before .before .fetch .ensures, o .bytes, start .pre .1 .0) at (c .before .is-midpoint-at .ensures) in
+    adv-pending eavt (a .extent) (a .store .now) b (a .level) (c .before .before .if1 .left) (ap (λ ks. isMidpoint ks (getD (b .indices) (a .level) 0)) kids ∙ sym mid ∙ not-true _ (c .if2 .taken))
 
-add-child-from : tie.Need-add-child-from
-add-child-from c = let a = c .before .before .before .before .before .before .before .before .args in
+add-next-midpoint : tie.Need-add-next-midpoint
+add-next-midpoint c =
+    let start = c .before .before .before .before .before .before .before .before in
+    let a = start .args in
     let b = a .t5 in
     let q = getD (b .pages) (a .level) (page 0) in
-    let good = c .before .before .before .before .before .before .before .before .pre .0 in
-    let cap = c .before .before .before .before .before .before .before .before .pre .1 .0 in
-    let within = c .before .before .before .before .before .before .before .before .pre .1 .1 .1 in
-    let e = read-node (a .extent) (a .store .now) q _ (within .read) in
-    let o = opens (a .extent) (a .store .now) q _ _ good e in
+    let good = start .pre .0 in
+    let within = start .pre .1 .1 .1 in
+    let o = within-open eavt (a .extent) (a .store .now) q _ good within in
     let few = in-order (a .extent) (a .store .now) good .known .few in
-    let most = read-most (a .extent) (a .store .now) q _ _ e in
-    omega (arith, within .most, most, o .few, few)
+    omega (arith, within-most eavt (a .extent) (a .store .now) q _ good within, o .few, few)
 
-child-from-requires : tie.Need-child-from-requires
-unfolding countOf
-child-from-requires c κs = let a = c .before .before .before .before .before .before .before .before .args in
+next-midpoint-requires : tie.Need-next-midpoint-requires
+next-midpoint-requires c κs =
+    let start = c .before .before .before .before .before .before .before .before in
+    let a = start .args in
     let b = a .t5 in
     let q = getD (b .pages) (a .level) (page 0) in
-    let good = c .before .before .before .before .before .before .before .before .pre .0 in
-    let cap = c .before .before .before .before .before .before .before .before .pre .1 .0 in
-    let within = c .before .before .before .before .before .before .before .before .pre .1 .1 .1 in
-    let e = read-node (a .extent) (a .store .now) q _ (within .read) in
-    let o = opens (a .extent) (a .store .now) q _ _ good e in
-    let few = in-order (a .extent) (a .store .now) good .known .few in
-    let most = read-most (a .extent) (a .store .now) q _ _ e in
-    rw (c .before .before .before .before .fetch .ensures, o .bytes, cap) (o .few, omega (arith, o .wide))
+    let good = start .pre .0 in
+    let within = start .pre .1 .1 .1 in
+    let o = within-open eavt (a .extent) (a .store .now) q _ good within in
+    rw (c .before .before .before .count-of .ensures, c .before .before .before .before .fetch .ensures, o .bytes, start .pre .1 .0)
+    (o .few, omega (arith, o .wide))
+
+enum-known-child : tie.Need-enum-known-child
+enum-known-child c = search needs
+
+enum-told : tie.Need-enum-told
+enum-told c = search needs
+
+max-requires : tie.Need-max-requires
+max-requires c κs = search needs
+
+lost-at-requires : tie.Need-lost-at-requires
+lost-at-requires c κs = search needs
+
+returns-3 : tie.Need-returns-3
+returns-3 c =
+    let start = c .before .before .before .before .before .before .before .before .before .before .before .before .before in
+    let a = start .args in
+    let b = a .t5 in
+    let q = getD (b .pages) (a .level) (page 0) in
+    let good = start .pre .0 in
+    let within = start .pre .1 .1 .1 in
+    let o = within-open eavt (a .extent) (a .store .now) q _ good within in
+    let kids = within-children eavt (a .extent) (a .store .now) q _ good within in
+    let mid = rw (c .before .before .before .before .before .before .before .before .count-of .ensures, c .before .before .before .before .before .before .before .before .before .fetch .ensures, o .bytes, start .pre .1 .0) at (c .before .before .before .before .before .before .is-midpoint-at .ensures) in
+    let next = rw (c .before .before .before .before .before .before .before .before .count-of .ensures, c .before .before .before .before .before .before .before .before .before .fetch .ensures, o .bytes, start .pre .1 .0, ← kids) at (c .before .before .before .before .next-midpoint .ensures) in
+    let word = start .good .1 .0 in
+    c .lost-at .ensures
+    ∙ rw (c .before .max .ensures) (adv-stuck eavt (a .extent) (a .store .now) b (a .level) (c .before .before .before .before .before .before .before .if1 .left) (ap (λ ks. isMidpoint ks (getD (b .indices) (a .level) 0)) kids ∙ sym mid ∙ not-false _ (c .before .before .before .before .before .if2 .left)) (omega (arith, word)) (sym next ∙ c .before .before .enum-told .given .1))
 
 sub-descend : tie.Need-sub-descend
 sub-descend c = search needs
 
 descend-requires : tie.Need-descend-requires
-descend-requires c κs = let a = c .before .before .before .before .before .before .before .before .before .args in
-    let b = a .t5 in
-    let q = getD (b .pages) (a .level) (page 0) in
-    let good = c .before .before .before .before .before .before .before .before .before .pre .0 in
-    let cap = c .before .before .before .before .before .before .before .before .before .pre .1 .0 in
-    let within = c .before .before .before .before .before .before .before .before .before .pre .1 .1 .1 in
-    let e = read-node (a .extent) (a .store .now) q _ (within .read) in
-    let o = opens (a .extent) (a .store .now) q _ _ good e in
-    let few = in-order (a .extent) (a .store .now) good .known .few in
-    let most = read-most (a .extent) (a .store .now) q _ _ e in
-    (good, (cap, omega (arith, c .before .before .before .before .before .before .before .before .before .pre .1 .1 .0)))
+descend-requires c κs =
+    let pre = c .before .before .before .before .before .before .before .before .before .before .before .before .pre in
+    (pre .0, (pre .1 .0, omega (arith, pre .1 .1 .0)))
 
-returns-3 : tie.Need-returns-3
-unfolding countOf
-returns-3 c =
-    let fetch = c .before .before .before .before .before .before .fetch in
-    let if1 = c .before .before .before .before .if1 in
-    let is-midpoint-at = c .before .before .before .is-midpoint-at in
-    let if2 = c .before .before .if2 in
-    let a = c .before .before .before .before .before .before .before .before .before .before .args in
+returns-4 : tie.Need-returns-4
+returns-4 c =
+    let start = c .before .before .before .before .before .before .before .before .before .before .before .before .before in
+    let a = start .args in
     let b = a .t5 in
     let q = getD (b .pages) (a .level) (page 0) in
-    let good = c .before .before .before .before .before .before .before .before .before .before .pre .0 in
-    let cap = c .before .before .before .before .before .before .before .before .before .before .pre .1 .0 in
-    let within = c .before .before .before .before .before .before .before .before .before .before .pre .1 .1 .1 in
-    let e = read-node (a .extent) (a .store .now) q _ (within .read) in
-    let o = opens (a .extent) (a .store .now) q _ _ good e in
-    let few = in-order (a .extent) (a .store .now) good .known .few in
-    let most = read-most (a .extent) (a .store .now) q _ _ e in
-    let kids = read-children (a .extent) (a .store .now) q _ _ e in
-    let mid = rw (fetch .ensures, o .bytes, cap) at (is-midpoint-at .ensures) in
-    let next = rw (fetch .ensures, o .bytes, cap, ← kids) at (c .before .child-from .ensures) in
-    c .descend .ensures ∙ adv-midpoint (a .extent) (a .store .now) b (a .level) (if1 .left)
-    (ap (λ ks. isMidpoint ks (getD (b .indices) (a .level) 0)) kids ∙ sym mid ∙ not-false _ (if2 .left)) _ next
+    let good = start .pre .0 in
+    let within = start .pre .1 .1 .1 in
+    let o = within-open eavt (a .extent) (a .store .now) q _ good within in
+    let kids = within-children eavt (a .extent) (a .store .now) q _ good within in
+    let mid = rw (c .before .before .before .before .before .before .before .before .count-of .ensures, c .before .before .before .before .before .before .before .before .before .fetch .ensures, o .bytes, start .pre .1 .0) at (c .before .before .before .before .before .before .is-midpoint-at .ensures) in
+    let next = rw (c .before .before .before .before .before .before .before .before .count-of .ensures, c .before .before .before .before .before .before .before .before .before .fetch .ensures, o .bytes, start .pre .1 .0, ← kids) at (c .before .before .before .before .next-midpoint .ensures) in
+    c .descend .ensures
+    ∙ adv-child eavt (a .extent) (a .store .now) b (a .level) (c .before .before .before .before .before .before .before .if1 .left) (ap (λ ks. isMidpoint ks (getD (b .indices) (a .level) 0)) kids ∙ sym mid ∙ not-false _ (c .before .before .before .before .before .if2 .left)) _ (sym next ∙ c .before .before .child .given .1)
 
 pub advance-spec : {M : Type 1} → statement M
 advance-spec =
@@ -209,18 +170,20 @@ advance-spec =
     mul-page
     element-copy-out-page
     fetch-requires
-    mul-count
-    add-count
-    shared-slice-read-count
-    cast-count
+    count-of-requires
     add-next
     mul-next
     element-write-next
     returns
     is-midpoint-at-requires
     returns-2
-    add-child-from
-    child-from-requires
+    add-next-midpoint
+    next-midpoint-requires
+    enum-known-child
+    enum-told
+    max-requires
+    lost-at-requires
+    returns-3
     sub-descend
     descend-requires
-    returns-3)
+    returns-4)

@@ -1,5 +1,6 @@
 -- `step` meets its contract: the checks in their order, then the pages. Assumes nothing.
 use mathlib.Core.Path.{sym, _∙_}
+use Rattle.index.specs.Order.{eavt}
 use Rattle.listing.specs.StepLaws.{step-bad, step-tall, step-ended, step-goes}
 use borrow.Author.Needs.{needs}
 use Rattle.listing.proofs.step.step.Statement.{statement}
@@ -14,7 +15,7 @@ refused-requires c κs = search needs
 returns : tie.Need-returns
 returns c = let a = c .before .before .before .before .args in
     let u = a .cursor in
-    c .refused .ensures ∙ step-bad (a .extent) (a .store .now) u (sym (c .before .before .is-bad .ensures) ∙ c .before .if1 .taken)
+    c .refused .ensures ∙ step-bad eavt (a .extent) (a .store .now) u (sym (c .before .before .is-bad .ensures) ∙ c .before .if1 .taken)
 
 max-requires : tie.Need-max-requires
 max-requires c κs = search needs
@@ -29,7 +30,7 @@ returns-2 c =
     let if2 = c .before .before .if2 in
     let a = c .before .before .before .before .before .before .before .args in
     let u = a .cursor in
-    c .refused2 .ensures ∙ rw (c .before .max .ensures) (step-tall (a .extent) (a .store .now) u (sym (is-bad .ensures) ∙ if1 .left) (if2 .taken))
+    c .refused2 .ensures ∙ rw (c .before .max .ensures) (step-tall eavt (a .extent) (a .store .now) u (sym (is-bad .ensures) ∙ if1 .left) (if2 .taken))
 
 is-at-end-requires : tie.Need-is-at-end-requires
 is-at-end-requires c κs = c .if2 .left
@@ -46,7 +47,7 @@ returns-3 c =
     let a = c .before .before .before .before .before .before .before .before .args in
     let u = a .cursor in
     c .ended .ensures
-    ∙ step-ended (a .extent) (a .store .now) u (sym (is-bad .ensures) ∙ if1 .left) (if2 .left) (sym (is-at-end .ensures) ∙ c .before .if3 .taken)
+    ∙ step-ended eavt (a .extent) (a .store .now) u (sym (is-bad .ensures) ∙ if1 .left) (if2 .left) (sym (is-at-end .ensures) ∙ c .before .if3 .taken)
 
 step-on-requires : tie.Need-step-on-requires
 step-on-requires c κs = ((sym (c .before .before .before .before .before .is-bad .ensures) ∙ c .before .before .before .before .if1 .left), c .before .before .if2 .left)
@@ -59,7 +60,7 @@ returns-4 c =
     let is-at-end = c .before .before .is-at-end in
     let a = c .before .before .before .before .before .before .before .before .args in
     let u = a .cursor in
-    c .step-on .ensures ∙ step-goes (a .extent) (a .store .now) u (sym (is-bad .ensures) ∙ if1 .left) (if2 .left)
+    c .step-on .ensures ∙ step-goes eavt (a .extent) (a .store .now) u (sym (is-bad .ensures) ∙ if1 .left) (if2 .left)
     (sym (is-at-end .ensures) ∙ c .before .if3 .left)
 
 pub step-spec : {M : Type 1} → statement M

@@ -32,7 +32,7 @@ returns c =
     let a = c .before .before .before .before .before .before .before .args in
     let u = a .cursor in
     c .refused .ensures
-    ∙ on-damaged (a .extent) (a .store .now) u _ (openFrames (fetchPage eavt (a .extent) (a .store .now)) (beginFrames u))
+    ∙ on-damaged eavt (a .extent) (a .store .now) u _ (openFrames (fetchPage eavt (a .extent) (a .store .now)) (beginFrames u))
     (sym (page .given .1) ∙ open-all .ensures)
 
 enum-told : tie.Need-enum-told
@@ -74,7 +74,7 @@ yield-at-requires c κs =
     let u = a .cursor in
     let ready = sym (open-all .ensures) ∙ enum-told .given .1 in
     let g = c .before .level .given in
-    let lt = on-under (a .extent) (a .store .now) u ready (g .0 .0) (g .0 .1 .0) (sym (g .1) ∙ smallest .ensures) in
+    let lt = on-under eavt (a .extent) (a .store .now) u ready (g .0 .0) (g .0 .1 .0) (sym (g .1) ∙ smallest .ensures) in
     let o = open-at (fetchPage eavt (a .extent) (a .store .now)) (u .«begin_indices») (u .«begin_pages») (u .height) (g .0 .0) ready lt in
     (pre .0, (capacity-of .ensures, (pre .1, (omega (arith, lt, pre .1), within-of _ _ _ o))))
 
@@ -87,13 +87,13 @@ returns-2 c =
     let a = c .before .before .before .before .before .before .before .before .before .before .args in
     let u = a .cursor in
     let ready = sym (open-all .ensures) ∙ enum-told .given .1 in
-    c .refused2 .ensures ∙ rw (c .before .max .ensures) (on-nothing (a .extent) (a .store .now) u ready (sym (enum-told2 .given .1) ∙ smallest .ensures))
+    c .refused2 .ensures ∙ rw (c .before .max .ensures) (on-nothing eavt (a .extent) (a .store .now) u ready (sym (enum-told2 .given .1) ∙ smallest .ensures))
 
 returns-3 : tie.Need-returns-3
 returns-3 c = let a = c .before .before .before .before .before .before .before .before .before .before .args in
     let u = a .cursor in
     let ready = sym (c .before .before .before .before .before .before .before .open-all .ensures) ∙ c .before .before .before .before .before .enum-told .given .1 in
-    c .refused3 .ensures ∙ on-twice (a .extent) (a .store .now) u ready _ (sym (c .before .before .page2 .given .1) ∙ c .before .before .before .before .smallest .ensures)
+    c .refused3 .ensures ∙ on-twice eavt (a .extent) (a .store .now) u ready _ (sym (c .before .before .page2 .given .1) ∙ c .before .before .before .before .smallest .ensures)
 
 returns-4 : tie.Need-returns-4
 returns-4 c =
@@ -109,7 +109,7 @@ returns-4 c =
     let is : length (u .«begin_indices») ≡ 8 = mapped-length _ (u .«begin_indices») 8 (held .1 .0 .1 .0 .1) in
     let ps : length (u .«begin_pages») ≡ 8 = mapped-length _ (u .«begin_pages») 8 (held .1 .1 .0 .1 .0 .1) in
     let full : Full (beginOf u) = (is, ps) in
-    c .yield-at .ensures ∙ on-at (a .extent) (a .store .now) u ready full (pre .1) (g .0 .0) (g .0 .1 .0) (sym (g .1) ∙ smallest .ensures)
+    c .yield-at .ensures ∙ on-at eavt (a .extent) (a .store .now) u ready full (pre .1) (g .0 .0) (g .0 .1 .0) (sym (g .1) ∙ smallest .ensures)
 
 pub step-on-spec : {M : Type 1} → statement M
 step-on-spec =

@@ -48,7 +48,7 @@ loop-again c =
     let full = w .inv .1 .0 in (
       omega (arith, c .loop-test .taken),
       (
-        (length-set (w .kept .indices) (w .level) 0 ∙ full .0, length-set (w .kept .pages) (w .level) (page 0) ∙ full .1),
+        (simp length-set (full .0), simp length-set (full .1)),
         (
           w .inv .1 .1 .0,
           (

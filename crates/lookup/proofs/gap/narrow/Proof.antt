@@ -6,7 +6,7 @@ use Rattle.store.specs.Cells.{cells-end}
 use Rattle.datom.specs.Datom.{datomAt, datomOf}
 use Rattle.datom.specs.Laws.{datoms-from}
 use Rattle.index.specs.declared.Order.the-variants.{Less, Equal, Greater}
-use Rattle.index.specs.Order.{cmpEavt, named}
+use Rattle.index.specs.Order.{eavt, named}
 use Rattle.index.specs.Named.{less-named, equal-named, greater-named}
 use Rattle.lookup.specs.Gap.{narrowed}
 use borrow.Author.Needs.{needs}
@@ -54,7 +54,7 @@ unfolding narrowed
 returns-3 c =
     let a = c .before .before .before .before .before .before .before .before .before .args in
     let h = c .before .before .before .before .gap .given .0 .0 in
-    let e : named (cmpEavt (datomAt (a .page .now) (32 * a .i)) h) ≡ Less = cc (c .enum-told2 .given .1, c .before .before .before .before .before .before .datom-at .ensures) in
+    let e : named (eavt .cmp (datomAt (a .page .now) (32 * a .i)) h) ≡ Less = cc (c .enum-told2 .given .1, c .before .before .before .before .before .before .datom-at .ensures) in
     rw (datoms-from (a .k) (a .i) (a .page .now) (omega arith), c .before .before .before .before .gap .given .1, less-named _ e .0, c .before .before .before .before .before .before .datom-at .ensures)
 
 returns-4 : tie.Need-returns-4
@@ -62,7 +62,7 @@ unfolding narrowed
 returns-4 c =
     let a = c .before .before .before .before .before .before .before .before .before .args in
     let h = c .before .before .before .before .gap .given .0 .0 in
-    let e : named (cmpEavt (datomAt (a .page .now) (32 * a .i)) h) ≡ Equal = cc (c .enum-told3 .given .1, c .before .before .before .before .before .before .datom-at .ensures) in
+    let e : named (eavt .cmp (datomAt (a .page .now) (32 * a .i)) h) ≡ Equal = cc (c .enum-told3 .given .1, c .before .before .before .before .before .before .datom-at .ensures) in
     rw (datoms-from (a .k) (a .i) (a .page .now) (omega arith), c .before .before .before .before .gap .given .1, equal-named _ e .0)
 
 returns-5 : tie.Need-returns-5
@@ -70,7 +70,7 @@ unfolding narrowed
 returns-5 c =
     let a = c .before .before .before .before .before .before .before .before .before .args in
     let h = c .before .before .before .before .gap .given .0 .0 in
-    let e : named (cmpEavt (datomAt (a .page .now) (32 * a .i)) h) ≡ Greater = cc (c .enum-told4 .given .1, c .before .before .before .before .before .before .datom-at .ensures) in
+    let e : named (eavt .cmp (datomAt (a .page .now) (32 * a .i)) h) ≡ Greater = cc (c .enum-told4 .given .1, c .before .before .before .before .before .before .datom-at .ensures) in
     rw (datoms-from (a .k) (a .i) (a .page .now) (omega arith), c .before .before .before .before .gap .given .1, greater-named _ e .0)
 
 pub narrow-spec : {M : Type 1} → statement M

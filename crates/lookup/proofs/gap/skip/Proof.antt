@@ -4,6 +4,7 @@ use native.Mathlib.Omega.{arith}
 use mathlib.Core.Path.{_≡_, sym, _∙_}
 use lib.ListN.{drop}
 use Rattle.datom.specs.Datom.{datomsOf}
+use Rattle.index.specs.Order.{eavt}
 use Rattle.rules.specs.Node.{rankBy}
 use borrow.Author.Tests.{not-true, not-false}
 use Rattle.lookup.specs.Gap.{inside, pass-on, pass-stop, pass-end}
@@ -12,7 +13,7 @@ use Rattle.lookup.proofs.gap.skip.Statement.{statement}
 use Rattle.lookup.proofs.gap.skip.Tie as tie
 
 abbrev Inv-loop : tie.InvT-loop
-Inv-loop gap b n from i₀ i = (i ≤ n) × (i + rankBy (inside gap) (drop i (datomsOf n b)) ≡ from + rankBy (inside gap) (drop from (datomsOf n b)))
+Inv-loop gap b n from i₀ i = (i ≤ n) × (i + rankBy (inside eavt gap) (drop i (datomsOf n b)) ≡ from + rankBy (inside eavt gap) (drop from (datomsOf n b)))
 
 abbrev μ-loop : tie.MeasureT-loop
 μ-loop gap b n from i₀ i = n - i

@@ -2,6 +2,8 @@
 use Prim.Native.Nat.{_<_}
 use native.Mathlib.Omega.{arith}
 use borrow.Author.Tests.{ltb-true}
+use Rattle.index.specs.Order.{eavt}
+use Rattle.index.specs.Ways.{less-entity, less-attribute}
 use Rattle.memory_store.specs.Fours.{never, rises-entity, rises-attribute}
 use borrow.Author.Needs.{needs}
 use Rattle.memory_store.proofs.reader.pair_rises.Statement.{statement}
@@ -17,7 +19,7 @@ word-requires-2 : tie.Need-word-requires-2
 word-requires-2 c κs = search needs
 
 returns : tie.Need-returns
-returns c e = let a = c .before .before .before .before .args in rises-entity (a .s .now) (a .at) (omega (arith, c .if1 .taken))
+returns c e = let a = c .before .before .before .before .args in rises-entity eavt (a .s .now) (a .at) less-entity (omega (arith, c .if1 .taken))
 
 returns-2 : tie.Need-returns-2
 returns-2 c e = never e
@@ -38,7 +40,7 @@ returns-3 : tie.Need-returns-3
 returns-3 c e =
     let a = c .before .before .before .before .before .before .before .args in
     let h : c .before .word3 .result < c .word4 .result = ltb-true _ _ e in
-    rises-attribute (a .s .now) (a .at) (omega arith) (omega (arith, h))
+    rises-attribute eavt (a .s .now) (a .at) less-attribute (omega arith) (omega (arith, h))
 
 pub pair-rises-spec : {M : Type 1} → statement M
 pair-rises-spec =

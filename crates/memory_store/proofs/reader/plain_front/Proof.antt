@@ -4,12 +4,14 @@ use Prim.Native.Nat.{_-_, _≤_}
 use native.Mathlib.Omega.{arith}
 use mathlib.Core.Path.{refl, _∙_}
 use borrow.Author.Tests.{not-false}
+use Rattle.index.specs.Order.{eavt}
+use Rattle.index.specs.Form.{eavt-plain}
 use Rattle.memory_store.specs.Fours.{SameFrom, four-on}
 use Rattle.memory_store.proofs.reader.plain_front.Statement.{statement}
 use Rattle.memory_store.proofs.reader.plain_front.Tie as tie
 
 abbrev Inv-loop : tie.InvT-loop
-Inv-loop s k i₀ i = (i ≤ k) × SameFrom k s 0 i
+Inv-loop s k i₀ i = (i ≤ k) × SameFrom eavt k s 0 i
 
 abbrev μ-loop : tie.MeasureT-loop
 μ-loop s k i₀ i = k - i
@@ -48,7 +50,7 @@ loop-again : tie.Need-loop-again Inv-loop μ-loop
 loop-again c =
     let a = c .before .before .before .before .before .before .before .args in
     let l = c .before .before .before .before .before .loop in
-    let s = four-on (a .k) (a .s .now) (l .i) (omega arith) (c .before .before .before .four-rise .ensures (not-false _ (c .before .before .if1 .left))) (c .before .four-integers .ensures (not-false _ (c .if2 .left))) in
+    let s = four-on eavt eavt-plain (a .k) (a .s .now) (l .i) (omega arith) (c .before .before .before .four-rise .ensures (not-false _ (c .before .before .if1 .left))) (c .before .four-integers .ensures (not-false _ (c .if2 .left))) in
     (omega arith, (l .inv .1 .0 ∙ s .0, l .inv .1 .1 ∙ s .1))
 
 returns-3 : tie.Need-returns-3 Inv-loop μ-loop

@@ -1,0 +1,156 @@
+-- Where a C program goes on by what a call left is where the history goes on. Rests on Area and on what is proved beyond demand 3.
+use Prim.Native.Nat.{ℕ, _+_, _*_, _^_, _≤_, _<_}
+use native.Mathlib.Nat.{add-zero, mul-le-mul-left}
+use native.Mathlib.Omega.{arith}
+use mathlib.Core.Bool.{Bool, true, false, _||_}
+use mathlib.Core.List.{List, _∷_}
+use mathlib.Core.Logic.{inl}
+use mathlib.Core.Path.{_≡_, refl, _∙_, ap}
+use borrow.Author.Tests.{eq-eqb, ne-eqb, eqb-true, eqb-false, ltb-true, ltb-false}
+use lib.Dec.{eqb, ltb}
+use lib.ListN.{length}
+use Rattle.store.specs.declared.PageId.{PageId}
+use Rattle.store.specs.declared.Extent.{Extent}
+use Rattle.store.specs.Words.{wordAt}
+use Rattle.store.specs.Page.{isNone}
+use Rattle.store.specs.Size.{capacity}
+use Rattle.store.specs.Laws.{apart, Known, known-size}
+use Rattle.index.specs.Order.{eavt}
+use Rattle.answer.specs.declared.Refusal.{Refusal}
+use Rattle.answer.specs.declared.Refusal.the-variants.{BadStore, TooMany, BadDatom, OutOfOrder, NoPage, Repeated, Damaged, TooTall, NoRoom, BadBound}
+use Rattle.answer.specs.declared.Answer.{Answer}
+use Rattle.answer.specs.declared.Answer.the-variants.{Done, Refused}
+use Rattle.answer.specs.Table.{numberOf, answerWords}
+use Rattle.rules.specs.Store.{badStore, badRoot, envOf, storeAfter}
+use Rattle.rules.specs.Entry.{wordBytes, reply, insertReply, initialiseReply}
+use Rattle.rules.specs.Lists.{In}
+use Rattle.rules.specs.Within.{Writes, insert-bytes-writes, initialise-bytes-writes, written-fits}
+use Rattle.florinwick.specs.Words.{Replied}
+use Rattle.history.specs.Statement.{Known as Root, Moment, Call, inserts, initialises, givenRoot, givenBatch, noRoot, Fair, outcomeOf, after, calls, Later, now, next, History}
+use Rattle.history.specs.Statement as history
+use Rattle.history.specs.Listing.{later-later}
+use Rattle.history.specs.Demand.{later-known}
+use Rattle.history.specs.Base.{sizes, base-beyond}
+use Rattle.demand.specs.Area.{root-word, pages-word}
+use Rattle.demand.specs.Caller.{replyTo, goesOn, CallerMove, ran, others}
+use Rattle.demand.specs.Runs.{Runs, start, then}
+
+-- a store that is in order
+either-false : (a b : Bool) → (a || b) ≡ false → (a ≡ false) × (b ≡ false)
+either-false false b e = (refl, e)
+either-false true b e = absurd (apart (cc))
+
+record Sized (x : Extent) (s : List ℕ) : Type 0 where
+  pos : 0 < x .size
+  fits : x .count * x .size ≤ length s
+
+sized : (x : Extent) (s : List ℕ) → badStore x s ≡ false → Sized x s
+unfolding badStore
+sized x s e =
+    let w = either-false (eqb (capacity (x .size)) 0) _ e in
+    let K : Known (x .size) = known-size (x .size) (eqb-false (capacity (x .size)) 0 (w .0)) in
+    record { pos = omega (arith, K .fits); fits = omega (arith, ltb-false (length s) (x .count * x .size) (w .1)) }
+
+-- a root is none or a page below the count, so 64 bits hold it
+root-small : (x : Extent) (root : PageId) → badRoot x root ≡ false → x .count < 2 ^ 64 → root .0 < 2 ^ 64
+unfolding badRoot isNone
+root-small x root e h = side (eqb (root .0) 0xffff_ffff_ffff_ffff) refl (ltb (root .0) (x .count)) refl
+  where
+    side : (a : Bool) → eqb (root .0) 0xffff_ffff_ffff_ffff ≡ a → (b : Bool) → ltb (root .0) (x .count) ≡ b → root .0 < 2 ^ 64
+    side true p b q = omega (arith, eqb-true (root .0) 0xffff_ffff_ffff_ffff p)
+    side false p true q = omega (arith, ltb-true (root .0) (x .count) q)
+    side false p false q = let k : true ≡ false = rw (p, q) at e in absurd (apart (cc))
+
+-- what a call is answered and leaves
+reply-is : (m : Moment) (c : Call) (a : List ℕ) → replyTo m c a ≡ reply (m .extent) (m .store) a (givenRoot c .root) (outcomeOf eavt m c)
+unfolding insertReply initialiseReply
+reply-is m (inserts k b scratch) a = refl
+reply-is m (initialises b scratch) a = refl
+
+pub writes : (m : Moment) (c : Call) → Writes (envOf eavt (m .extent) (m .store) .allow) (outcomeOf eavt m c)
+writes m (inserts k b scratch) = insert-bytes-writes eavt (m .extent) (m .store) scratch (k .root) b
+writes m (initialises b scratch) = initialise-bytes-writes eavt (m .extent) (m .store) scratch b
+
+-- by the answer's own words
+pub record AnswerLeft (m : Moment) (c : Call) (r : ℕ) (s a₁ : List ℕ) : Type 0 where
+  pub returns : r ≡ answerWords (givenRoot c .root) (outcomeOf eavt m c .answer) .number
+  pub store : s ≡ storeAfter (m .extent) (m .store) (outcomeOf eavt m c .pages)
+  pub area : a₁ ≡ wordBytes (answerWords (givenRoot c .root) (outcomeOf eavt m c .answer))
+
+pub left-by : (m : Moment) (c : Call) (r : ℕ) (s a a₁ : List ℕ) → length a ≡ 32 → Replied r s a₁ (replyTo m c a) → AnswerLeft m c r s a₁
+unfolding reply
+left-by m c r s a a₁ h R =
+    let Q : Replied r s a₁ (reply (m .extent) (m .store) a (givenRoot c .root) (outcomeOf eavt m c)) = rw (reply-is m c a) at R in
+    let k = eq-eqb (length a) 32 h in
+    record { returns = rw k at (Q .returns); store = rw k at (Q .store); area = rw k at (Q .area) }
+
+-- the same count, bytes and roots: the same moment
+moment-same :
+    {size c c₁ : ℕ} {s s₁ : List ℕ} {ks ks₁ : List Root} → c ≡ c₁ → s ≡ s₁ → ks ≡ ks₁ →
+    _≡_ {A = Moment}
+    (record { extent = record { size = size; count = c }; store = s; roots = ks })
+    (record { extent = record { size = size; count = c₁ }; store = s₁; roots = ks₁ })
+moment-same e f g = rw (e, f, g)
+
+refused-number : (r : Refusal) → numberOf r ≡ 0 → ⊥
+refused-number BadStore e = omega arith
+refused-number TooMany e = omega arith
+refused-number (BadDatom i) e = omega arith
+refused-number (OutOfOrder i) e = omega arith
+refused-number NoPage e = omega arith
+refused-number (Repeated i) e = omega arith
+refused-number (Damaged p) e = omega arith
+refused-number TooTall e = omega arith
+refused-number NoRoom e = omega arith
+refused-number BadBound e = omega arith
+
+module _ (size : ℕ) (known : In size sizes) where
+  ready : (m : Moment) → History eavt size m → Sized (m .extent) (m .store)
+  ready m h = sized (m .extent) (m .store) (base-beyond size known m h noRoot (later-known (h .1) noRoot (inl refl)) .inOrder)
+
+  module _ (m : Moment) (h : History eavt size m) (c : Call) (F : Fair m c) where
+    abbrev answer : Answer
+    answer = outcomeOf eavt m c .answer
+
+    -- 64 bits hold what Done says
+    done-small : (root : PageId) (n : ℕ) → answer ≡ Done root n → (root .0 < 2 ^ 64) × (n < 2 ^ 64)
+    done-small root n e =
+        let S = ready m h in
+        let W = writes m c in
+        let f = written-fits eavt (m .extent) (m .store) (outcomeOf eavt m c) W (S .pos) (S .fits) in
+        let k : m .extent .count + n ≤ length (m .store) =
+        omega (arith, W .counted root n e, mul-le-mul-left {m = 1} {n = m .extent .size} (m .extent .count + length (outcomeOf eavt m c .pages)) (S .pos)) in
+        let new : In (record { root = root; batches = givenBatch c ∷ givenRoot c .batches }) (after eavt m c .roots) = rw e (inl refl) in
+        let B = base-beyond size known (after eavt m c) (h .0, next (h .1) (calls c F)) _ new .known in (
+          root-small (record { size = m .extent .size; count = m .extent .count + n }) root (rw e at B) (omega (arith, F .lent .short)),
+          omega (arith, F .lent .short),
+        )
+
+    goes-on : (r : ℕ) (s a : List ℕ) → AnswerLeft m c r s a → goesOn m c r s a ≡ after eavt m c
+    goes-on r s a L = side answer refl
+      where
+        side : (w : Answer) → answer ≡ w → goesOn m c r s a ≡ after eavt m c
+        side (Done root n) e =
+            let small = done-small root n e in
+            let words = answerWords (givenRoot c .root) (Done root n) in
+            let number : r ≡ 0 = rw e at (L .returns) in
+            let area : a ≡ wordBytes words = rw e at (L .area) in
+            let top : wordAt a 8 ≡ root .0 = rw area (root-word words (small .0)) in
+            let pages : wordAt a 16 ≡ n = rw area (pages-word words (small .1)) in
+            rw e (moment-same (ap (λ (k : ℕ). m .extent .count + k) pages) (L .store) (rw (number, top)))
+        side (Refused q) e =
+            let words = answerWords (givenRoot c .root) (Refused q) in
+            let number : r ≡ numberOf q = rw e at (L .returns) in
+            let area : a ≡ wordBytes words = rw e at (L .area) in
+            let pages : wordAt a 16 ≡ 0 = rw area (pages-word words (omega arith)) in
+            rw e
+            (moment-same (ap (λ (k : ℕ). m .extent .count + k) pages ∙ add-zero (m .extent .count)) (L .store)
+            (rw (number, ne-eqb (numberOf q) 0 (refused-number q))))
+
+  -- so a run of a C program is a history
+  pub runs-on : {m m₁ : Moment} → History eavt size m → Runs CallerMove m m₁ → Later eavt m m₁
+  runs-on h start = now
+  runs-on h (then {m₁} l (ran c F r s a a₁ e R)) =
+      let l₁ = runs-on h l in
+      rw (goes-on m₁ (h .0, later-later (h .1) l₁) c F r s a₁ (left-by m₁ c r s a a₁ e R)) (next l₁ (calls c F))
+  runs-on h (then l (others s e)) = next (runs-on h l) (history.others s e)

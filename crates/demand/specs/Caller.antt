@@ -1,0 +1,110 @@
+-- Demand 3 of the code, for a caller in C or C++: what it is handed back are numbers and bytes, and it goes on by them. Calls that are
+-- known by the promises of the C entries alone are calls of a history; so the listings that it steps through, and the numbers that its
+-- batches are answered with, are those of demand 3.
+use Prim.Native.Nat.{ℕ, zero, suc, _+_, _*_, _^_, _<_}
+use mathlib.Core.Bool.{true, false, cond}
+use mathlib.Core.List.{List, [], _∷_}
+use mathlib.Core.Logic.{_↔_}
+use mathlib.Core.Path.{_≡_}
+use lib.Dec.{eqb}
+use lib.ListN.{length, take}
+use Rattle.store.specs.Words.{wordAt}
+use Rattle.store.specs.Page.{page}
+use Rattle.datom.specs.declared.Datom.{Datom}
+use Rattle.datom.specs.Datom.{datomAt, datomBytes}
+use Rattle.index.specs.Order.{eavt}
+use Rattle.answer.specs.Table.{checkWords}
+use Rattle.rules.specs.Store.{badScratch}
+use Rattle.rules.specs.Insert.{batchOf}
+use Rattle.rules.specs.Check.{checkTree}
+use Rattle.rules.specs.Entry.{Reply, insertReply, initialiseReply}
+use Rattle.rules.specs.Lists.{In}
+use Rattle.florinwick.specs.Words.{Replied, AreaReplied}
+use Rattle.florinwick.specs.Listing.{startIn, stepIn, Begins, Steps}
+use Rattle.history.specs.Statement.{Known, Moment, Call, inserts, initialises, givenRoot, givenBatch, Lent, Fair, beginning, gathered, Between, WellFormed}
+use Rattle.history.specs.More.{FirstShared}
+use Rattle.history.specs.Base.{sizes}
+use Rattle.demand.specs.Runs.{Runs}
+
+-- what `florinwick_insert` and `florinwick_initialise` promise of a call, given an area for the answer
+abbrev pub replyTo : Moment → Call → List ℕ → Reply
+replyTo m (inserts k b scratch) a = insertReply eavt (m .extent) (m .store) scratch (k .root) b a
+replyTo m (initialises b scratch) a = initialiseReply eavt (m .extent) (m .store) scratch b a
+
+-- how the caller goes on, by the number that was returned and the words in the area: the page count grows by word 2, and after 0 word 1 is
+-- a root that may be used
+abbrev pub goesOn : Moment → Call → ℕ → List ℕ → List ℕ → Moment
+goesOn m c r s a =
+    record {
+      extent = record { size = m .extent .size; count = m .extent .count + wordAt a 16 };
+      store = s;
+      roots = cond (eqb r 0) (record { root = page (wordAt a 8); batches = givenBatch c ∷ givenRoot c .batches } ∷ m .roots) (m .roots);
+    }
+
+-- what may happen between two moments: a call that returned r, left the bytes s and wrote its answer into an area of 32 bytes; or somebody
+-- else, at or past the count
+pub data CallerMove (m : Moment) : Moment → Type 0 where
+  ran :
+      (c : Call) → Fair m c → (r : ℕ) (s a a₁ : List ℕ) → length a ≡ 32 → Replied r s a₁ (replyTo m c a) → CallerMove m (goesOn m c r s a₁)
+  others :
+      (s : List ℕ) → take (m .extent .count * m .extent .size) s ≡ take (m .extent .count * m .extent .size) (m .store) →
+      CallerMove m (record { extent = m .extent; store = s; roots = m .roots })
+
+-- what the caller has after a step: the number returned, the bytes of its cursor and those of its datom area
+pub record StepBytes : Type 0 where
+  pub number : ℕ
+  pub cursor : List ℕ
+  pub datom : List ℕ
+
+-- a step from the bytes c of a cursor, by the promise of `florinwick_list_step`, with areas of 32 bytes for the answer and the datom
+pub record StepTaken (m : Moment) (c : List ℕ) (k : StepBytes) : Type 0 where
+  pub area : List ℕ
+  pub told : List ℕ
+  pub room : List ℕ
+  pub answers : length area ≡ 32
+  pub datoms : length room ≡ 32
+  pub steps : Steps (k .number) area told c (k .cursor) room (k .datom) (stepIn eavt (m .extent) (m .store) c room)
+
+-- n steps, each at a moment of its own, each from the bytes that the one before it left
+abbrev pub StepsTaken : (ℕ → Moment) → ℕ → List ℕ → (ℕ → StepBytes) → Type 0
+StepsTaken at zero c r = Unit {0}
+StepsTaken at (suc n) c r = StepTaken (at 0) c (r 0) × StepsTaken (λ i. at (suc i)) n (r 0 .cursor) (λ i. r (suc i))
+
+-- 0 for each datom, with its bytes in the area, and then 32
+abbrev pub Heard : List Datom → (ℕ → StepBytes) → Type 0
+Heard [] r = r 0 .number ≡ 32
+Heard (d ∷ ds) r = (r 0 .number ≡ 0) × (r 0 .datom ≡ datomBytes d) × Heard ds (λ i. r (suc i))
+
+-- "hands out .., and ends": begun by `florinwick_list_start` at any later moment, each step taken at any moment later still
+abbrev pub CallerHandsOut : Moment → Known → List ℕ → List ℕ → List Datom → Type 0
+CallerHandsOut m k lower upper ds =
+    (m₁ : Moment) → Runs CallerMove m m₁ → length (m₁ .store) < 2 ^ 64 →
+    (r : ℕ) (a a₁ c c₁ : List ℕ) → length a ≡ 32 → length c ≡ 264 →
+    Begins r a a₁ c c₁ (k .root) (startIn eavt (m₁ .extent) (m₁ .store) (k .root) lower upper c) →
+    (r ≡ 0)
+    × ((at : ℕ → Moment) → ((i : ℕ) → Runs CallerMove m₁ (at i)) → (n : ℕ) (w : ℕ → StepBytes) → StepsTaken at n c₁ w → length ds < n → Heard ds w)
+
+-- what a caller of the C interface is promised of a root
+pub record CallerPromise (m : Moment) (k : Known) : Type 0 where
+  pub listed :
+      (lower upper : List ℕ) → length lower ≡ 32 → length upper ≡ 32 → eavt .bound (datomAt lower 0) ≡ true → eavt .bound (datomAt upper 0) ≡ true →
+      (ds : List Datom) × Between (eavt .cmp) (datomAt lower 0) (datomAt upper 0) (gathered (k .batches)) ds × CallerHandsOut m k lower upper ds
+  pub stays : (m₁ : Moment) → Runs CallerMove m m₁ → In k (m₁ .roots)
+  -- "Repeated" is 6
+  pub answered :
+      (b : List ℕ) → Lent (m .store) b → WellFormed eavt b → (scratch : ℕ) → badScratch (m .extent) scratch ≡ false →
+      (r : ℕ) (s a a₁ : List ℕ) → length a ≡ 32 → Replied r s a₁ (replyTo m (inserts k b scratch) a) →
+      (r ≡ 6) ↔ ((d : Datom) × In d (batchOf b) × In d (gathered (k .batches)))
+  -- "the answer is Repeated with the first such place, and nothing is written": word 3 is its index in the batch
+  pub receipt :
+      (b : List ℕ) → Lent (m .store) b → WellFormed eavt b → (scratch : ℕ) → badScratch (m .extent) scratch ≡ false →
+      (r : ℕ) (s a a₁ : List ℕ) → length a ≡ 32 → Replied r s a₁ (replyTo m (inserts k b scratch) a) → r ≡ 6 →
+      FirstShared (eavt .cmp) (gathered (k .batches)) (batchOf b) (wordAt a₁ 24) × (s ≡ m .store)
+  -- and Sound is 0
+  pub sound :
+      (r : ℕ) (a a₁ : List ℕ) → length a ≡ 32 →
+      AreaReplied r a a₁ (checkWords (k .root) (checkTree eavt (m .extent) (m .store) (k .root))) → r ≡ 0
+
+-- the theorem: from no pages and no root on, every root that may be used is as promised
+abbrev pub CallerDemand3 : Type 0
+CallerDemand3 = (size : ℕ) → In size sizes → (s : List ℕ) (m : Moment) → Runs CallerMove (beginning size s) m → (k : Known) → In k (m .roots) → CallerPromise m k

@@ -1,0 +1,94 @@
+-- What is proved of a history beyond demand 3: which datom Repeated names and what else is answered, that words of 64 bits hold every
+-- cursor, that the check finds no fault and every page can be read, and what becomes of a batch that is sent again. Rests on Statement;
+-- Demand and Again prove it.
+use Prim.Native.Nat.{ℕ, zero, suc, _^_, _<_, Ordering}
+use mathlib.Core.Bool.{true, false}
+use mathlib.Core.List.{List, _∷_, _++_}
+use mathlib.Core.Logic.{_⊎_}
+use mathlib.Core.Path.{_≡_}
+use lib.ListN.{length}
+use Rattle.store.specs.declared.PageId.{PageId}
+use Rattle.datom.specs.declared.Datom.{Datom}
+use Rattle.index.specs.Order.{DatomOrd}
+use Rattle.answer.specs.declared.Refusal.the-variants.{Repeated, TooTall, NoRoom}
+use Rattle.answer.specs.declared.Answer.{Answer}
+use Rattle.answer.specs.declared.Answer.the-variants.{Done, Refused}
+use Rattle.answer.specs.declared.Started.{Started}
+use Rattle.answer.specs.declared.Stepped.{Stepped}
+use Rattle.answer.specs.declared.Check.the-variants.{Sound}
+use Rattle.answer.specs.Fit.{CursorFits}
+use Rattle.rules.specs.Page.{Node}
+use Rattle.rules.specs.Tree.{fine}
+use Rattle.rules.specs.Store.{badStore, badScratch, badRoot, fetchPage}
+use Rattle.rules.specs.Insert.{batchOf}
+use Rattle.rules.specs.Listing.{startList}
+use Rattle.rules.specs.Check.{checkTree}
+use Rattle.rules.specs.Lists.{In}
+use Rattle.history.specs.Statement.{Known, Moment, Call, inserts, givenRoot, givenBatch, Lent, Fair, outcomeOf, after, Later, History, gathered, StepsAlong, WellFormed, Shared}
+
+-- datom i of a batch is the first of it that is shared
+pub record FirstShared (cmp : Datom → Datom → Ordering) (u b : List Datom) (i : ℕ) : Type 0 where
+  pub before : List Datom
+  pub datom : Datom
+  pub rest : List Datom
+  pub batch : b ≡ before ++ (datom ∷ rest)
+  pub index : length before ≡ i
+  pub shared : Shared cmp u datom
+  pub first : (d : Datom) → In d before → Shared cmp u d → ⊥
+
+-- a well-formed batch b, answered a at a root that the datoms u led to: Repeated names the first that is shared, and else the answer is
+-- Done, TooTall or NoRoom, so never Damaged
+pub record Answered (cmp : Datom → Datom → Ordering) (u b : List Datom) (a : Answer) : Type 0 where
+  pub first : (i : ℕ) → a ≡ Refused (Repeated i) → FirstShared cmp u b i
+  pub otherwise :
+      ((d : Datom) → In d b → Shared cmp u d → ⊥) →
+      ((root : PageId) × (n : ℕ) × (a ≡ Done root n)) ⊎ ((a ≡ Refused TooTall) ⊎ (a ≡ Refused NoRoom))
+
+-- every cursor that n steps gave is one that words of 64 bits hold
+abbrev pub AllFit : ℕ → (ℕ → Stepped) → Type 0
+AllFit zero r = Unit {0}
+AllFit (suc n) r = CursorFits (r 0 .cursor) × AllFit n (λ i. r (suc i))
+
+-- so a cursor that is kept in bytes comes back as it was, where the slice has fewer than 2^64 bytes
+abbrev pub CursorsFit : DatomOrd → Moment → Known → Datom → Datom → Type 0
+CursorsFit t m k lo hi =
+    length (m .store) < 2 ^ 64 → (b : Started) → b ≡ startList t (m .extent) (m .store) (k .root) lo hi →
+    CursorFits (b .cursor)
+    × ((at : ℕ → Moment) → ((i : ℕ) → Later t m (at i)) → (n : ℕ) (r : ℕ → Stepped) → StepsAlong t at n (b .cursor) r → AllFit n r)
+
+pub record Beyond (t : DatomOrd) (m : Moment) (k : Known) : Type 0 where
+  pub answered :
+      (b : List ℕ) → Lent (m .store) b → WellFormed t b → (scratch : ℕ) → badScratch (m .extent) scratch ≡ false →
+      Answered (t .cmp) (gathered (k .batches)) (batchOf b) (outcomeOf t m (inserts k b scratch) .answer)
+  pub cursors : (lo hi : Datom) → t .bound lo ≡ true → t .bound hi ≡ true → CursorsFit t m k lo hi
+  -- neither 1, scratch apart, nor 5 is given
+  pub inOrder : badStore (m .extent) (m .store) ≡ false
+  pub known : badRoot (m .extent) (k .root) ≡ false
+  pub sound : checkTree t (m .extent) (m .store) (k .root) ≡ Sound
+  pub readable : (p : PageId) → p .0 < m .extent .count → (n : Node) × (fetchPage t (m .extent) (m .store) p ≡ fine n)
+
+abbrev pub Beyond3 : DatomOrd → ℕ → Type 0
+Beyond3 t size = (m : Moment) → History t size m → (k : Known) → In k (m .roots) → Beyond t m k
+
+-- a root that grew from another: the batches that led to it end in those that led to the other
+abbrev pub GrewFrom : Known → Known → Type 0
+GrewFrom k k₁ = (bs : List (List ℕ)) × (k₁ .batches ≡ bs ++ k .batches)
+
+-- in the operator's words: what an accepted call took in, sent again whole or in part, at the root that it led to or at any that grew
+-- from that one, is answered Repeated with index 0, and the store is byte for byte as before. Insert takes an ascending batch, so what
+-- was handed to initialise in another order is sent again in order.
+abbrev pub Resending : DatomOrd → ℕ → Type 0
+Resending t size =
+    (m : Moment) → History t size m → (c : Call) → Fair m c → (root : PageId) (n : ℕ) → outcomeOf t m c .answer ≡ Done root n →
+    (m₁ : Moment) → Later t (after t m c) m₁ →
+    (k₁ : Known) → In k₁ (m₁ .roots) → GrewFrom (record { root = root; batches = givenBatch c ∷ givenRoot c .batches }) k₁ →
+    (b : List ℕ) → Lent (m₁ .store) b → WellFormed t b → 0 < length b →
+    ((d : Datom) → In d (batchOf b) → In d (batchOf (givenBatch c))) →
+    (scratch : ℕ) → badScratch (m₁ .extent) scratch ≡ false →
+    (outcomeOf t m₁ (inserts k₁ b scratch) .answer ≡ Refused (Repeated 0)) × (after t m₁ (inserts k₁ b scratch) .store ≡ m₁ .store)
+
+-- an accepted insert's batch is well formed, so it may be sent again as it is
+abbrev pub AcceptedFormed : DatomOrd → ℕ → Type 0
+AcceptedFormed t size =
+    (m : Moment) → History t size m → (k : Known) (b : List ℕ) (scratch : ℕ) → Fair m (inserts k b scratch) → (root : PageId) (n : ℕ) →
+    outcomeOf t m (inserts k b scratch) .answer ≡ Done root n → WellFormed t b

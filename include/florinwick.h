@@ -40,7 +40,10 @@
 extern "C" {
 #endif
 
-/* Numbers that a call may give, in the order in which they are tested. */
+/*
+ * Numbers that a call may give. Within a call they are tested in this order, but for these: 10 comes before 5; 6 and 7 come as the lookup
+ * meets them, datom by datom, and 7, 8 and 9 as they are met once writing has begun, 8 before 9 at one page.
+ */
 enum florinwick_number {
     FLORINWICK_DONE = 0,          /* done; a datom was listed; the tree is sound */
     FLORINWICK_BAD_STORE = 1,     /* page size unknown, page count times page size exceeds the store, or scratch too short */
@@ -49,7 +52,9 @@ enum florinwick_number {
     FLORINWICK_OUT_OF_ORDER = 4,  /* index: the first datom not above the one before; for initialise, the first equal to an earlier one */
     FLORINWICK_NO_PAGE = 5,       /* the root is neither none nor below the page count */
     FLORINWICK_REPEATED = 6,      /* index: the first datom of the batch that the tree holds already */
-    FLORINWICK_DAMAGED = 7,       /* page: it is missing, unreadable or of the wrong level; none where no page is to blame */
+    FLORINWICK_DAMAGED = 7,       /* page: it is missing, unreadable or of the wrong level, or holds a datom equal to one that is merged
+                                     into it or listed beside it; for a step also an index past its count, and none where the height is
+                                     over 8 or no datom is left */
     FLORINWICK_TOO_TALL = 8,      /* the next page to write would have level 8 */
     FLORINWICK_NO_ROOM = 9,       /* the next page to write does not fit into the store */
     FLORINWICK_BAD_BOUND = 10,    /* a bound of a listing is malformed */

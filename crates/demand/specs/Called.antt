@@ -2,29 +2,29 @@
 use Prim.Native.Nat.{ℕ, _+_, _*_, _^_, _≤_, _<_}
 use native.Mathlib.Nat.{add-zero, mul-le-mul-left}
 use native.Mathlib.Omega.{arith}
-use mathlib.Core.Bool.{Bool, true, false, _||_}
+use mathlib.Core.Bool.{Bool, true, false}
 use mathlib.Core.List.{List, _∷_}
 use mathlib.Core.Logic.{inl}
 use mathlib.Core.Path.{_≡_, refl, _∙_, ap}
-use borrow.Author.Tests.{eq-eqb, ne-eqb, eqb-true, eqb-false, ltb-true, ltb-false}
+use borrow.Author.Tests.{eq-eqb, ne-eqb, eqb-true, ltb-true}
 use lib.Dec.{eqb, ltb}
 use lib.ListN.{length}
 use Rattle.store.specs.declared.PageId.{PageId}
 use Rattle.store.specs.declared.Extent.{Extent}
 use Rattle.store.specs.Words.{wordAt}
 use Rattle.store.specs.Page.{isNone}
-use Rattle.store.specs.Size.{capacity}
-use Rattle.store.specs.Laws.{apart, Known, known-size}
+use Rattle.store.specs.Laws.{apart, Known}
 use Rattle.index.specs.Order.{eavt}
 use Rattle.answer.specs.declared.Refusal.{Refusal}
 use Rattle.answer.specs.declared.Refusal.the-variants.{BadStore, TooMany, BadDatom, OutOfOrder, NoPage, Repeated, Damaged, TooTall, NoRoom, BadBound}
 use Rattle.answer.specs.declared.Answer.{Answer}
 use Rattle.answer.specs.declared.Answer.the-variants.{Done, Refused}
 use Rattle.answer.specs.Table.{numberOf, answerWords}
-use Rattle.rules.specs.Store.{badStore, badRoot, envOf, storeAfter}
+use Rattle.rules.specs.Store.{badRoot, envOf, storeAfter}
 use Rattle.rules.specs.Entry.{wordBytes, reply, insertReply, initialiseReply}
 use Rattle.rules.specs.Lists.{In}
 use Rattle.rules.specs.Within.{Writes, insert-bytes-writes, initialise-bytes-writes, written-fits}
+use Rattle.memory_store.specs.FetchLaws.{InOrder, in-order}
 use Rattle.florinwick.specs.Words.{Replied}
 use Rattle.history.specs.Statement.{Known as Root, Moment, Call, inserts, initialises, givenRoot, givenBatch, noRoot, Fair, outcomeOf, after, calls, Later, now, next, History}
 use Rattle.history.specs.Statement as history
@@ -34,22 +34,6 @@ use Rattle.history.specs.Base.{sizes, base-beyond}
 use Rattle.demand.specs.Area.{root-word, pages-word}
 use Rattle.demand.specs.Caller.{replyTo, goesOn, CallerMove, ran, others}
 use Rattle.demand.specs.Runs.{Runs, start, then}
-
--- a store that is in order
-either-false : (a b : Bool) → (a || b) ≡ false → (a ≡ false) × (b ≡ false)
-either-false false b e = (refl, e)
-either-false true b e = absurd (apart (cc))
-
-record Sized (x : Extent) (s : List ℕ) : Type 0 where
-  pos : 0 < x .size
-  fits : x .count * x .size ≤ length s
-
-sized : (x : Extent) (s : List ℕ) → badStore x s ≡ false → Sized x s
-unfolding badStore
-sized x s e =
-    let w = either-false (eqb (capacity (x .size)) 0) _ e in
-    let K : Known (x .size) = known-size (x .size) (eqb-false (capacity (x .size)) 0 (w .0)) in
-    record { pos = omega (arith, K .fits); fits = omega (arith, ltb-false (length s) (x .count * x .size) (w .1)) }
 
 -- a root is none or a page below the count, so 64 bits hold it
 root-small : (x : Extent) (root : PageId) → badRoot x root ≡ false → x .count < 2 ^ 64 → root .0 < 2 ^ 64
@@ -105,8 +89,8 @@ refused-number NoRoom e = omega arith
 refused-number BadBound e = omega arith
 
 module _ (size : ℕ) (known : In size sizes) where
-  ready : (m : Moment) → History eavt size m → Sized (m .extent) (m .store)
-  ready m h = sized (m .extent) (m .store) (base-beyond size known m h noRoot (later-known (h .1) noRoot (inl refl)) .inOrder)
+  ready : (m : Moment) → History eavt size m → InOrder (m .extent) (m .store)
+  ready m h = in-order (m .extent) (m .store) (base-beyond size known m h noRoot (later-known (h .1) noRoot (inl refl)) .inOrder)
 
   module _ (m : Moment) (h : History eavt size m) (c : Call) (F : Fair m c) where
     abbrev answer : Answer
@@ -116,10 +100,11 @@ module _ (size : ℕ) (known : In size sizes) where
     done-small : (root : PageId) (n : ℕ) → answer ≡ Done root n → (root .0 < 2 ^ 64) × (n < 2 ^ 64)
     done-small root n e =
         let S = ready m h in
+        let pos : 0 < m .extent .size = omega (arith, S .known .fits) in
         let W = writes m c in
-        let f = written-fits eavt (m .extent) (m .store) (outcomeOf eavt m c) W (S .pos) (S .fits) in
+        let f = written-fits eavt (m .extent) (m .store) (outcomeOf eavt m c) W pos (S .holds) in
         let k : m .extent .count + n ≤ length (m .store) =
-        omega (arith, W .counted root n e, mul-le-mul-left {m = 1} {n = m .extent .size} (m .extent .count + length (outcomeOf eavt m c .pages)) (S .pos)) in
+        omega (arith, W .counted root n e, mul-le-mul-left {m = 1} {n = m .extent .size} (m .extent .count + length (outcomeOf eavt m c .pages)) pos) in
         let new : In (record { root = root; batches = givenBatch c ∷ givenRoot c .batches }) (after eavt m c .roots) = rw e (inl refl) in
         let B = base-beyond size known (after eavt m c) (h .0, next (h .1) (calls c F)) _ new .known in (
           root-small (record { size = m .extent .size; count = m .extent .count + n }) root (rw e at B) (omega (arith, F .lent .short)),

@@ -1,13 +1,13 @@
 -- Demand 3 of the code, for a caller in C or C++: what it is handed back are numbers and bytes, and it goes on by them. Calls that are
 -- known by the promises of the C entries alone are calls of a history; so the listings that it steps through, and the numbers that its
 -- batches are answered with, are those of demand 3.
-use Prim.Native.Nat.{ℕ, zero, suc, _+_, _*_, _^_, _<_}
+use Prim.Native.Nat.{ℕ, zero, suc, _+_, _^_, _<_}
 use mathlib.Core.Bool.{true, false, cond}
 use mathlib.Core.List.{List, [], _∷_}
 use mathlib.Core.Logic.{_↔_}
 use mathlib.Core.Path.{_≡_}
 use lib.Dec.{eqb}
-use lib.ListN.{length, take}
+use lib.ListN.{length}
 use Rattle.store.specs.Words.{wordAt}
 use Rattle.store.specs.Page.{page}
 use Rattle.datom.specs.declared.Datom.{Datom}
@@ -24,7 +24,7 @@ use Rattle.florinwick.specs.Listing.{startIn, stepIn, Begins, Steps}
 use Rattle.history.specs.Statement.{Known, Moment, Call, inserts, initialises, givenRoot, givenBatch, Lent, Fair, beginning, gathered, Between, WellFormed}
 use Rattle.history.specs.More.{FirstShared}
 use Rattle.history.specs.Base.{sizes}
-use Rattle.demand.specs.Runs.{Runs}
+use Rattle.demand.specs.Runs.{SameBelow, Runs}
 
 -- what `florinwick_insert` and `florinwick_initialise` promise of a call, given an area for the answer
 abbrev pub replyTo : Moment → Call → List ℕ → Reply
@@ -46,9 +46,7 @@ goesOn m c r s a =
 pub data CallerMove (m : Moment) : Moment → Type 0 where
   ran :
       (c : Call) → Fair m c → (r : ℕ) (s a a₁ : List ℕ) → length a ≡ 32 → Replied r s a₁ (replyTo m c a) → CallerMove m (goesOn m c r s a₁)
-  others :
-      (s : List ℕ) → take (m .extent .count * m .extent .size) s ≡ take (m .extent .count * m .extent .size) (m .store) →
-      CallerMove m (record { extent = m .extent; store = s; roots = m .roots })
+  others : (s : List ℕ) → SameBelow m s → CallerMove m (record { extent = m .extent; store = s; roots = m .roots })
 
 -- what the caller has after a step: the number returned, the bytes of its cursor and those of its datom area
 pub record StepBytes : Type 0 where

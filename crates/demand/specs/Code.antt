@@ -1,11 +1,11 @@
 -- Demand 3 of the code, for a caller in Rattle: calls that are known by their promises alone are calls of a history, so what Statement
 -- says of a history holds of what the code did.
-use Prim.Native.Nat.{ℕ, _*_, _<_}
+use Prim.Native.Nat.{ℕ, _<_}
 use mathlib.Core.Bool.{true, false}
 use mathlib.Core.List.{List}
 use mathlib.Core.Logic.{_↔_, Iff·trans}
 use mathlib.Core.Path.{_≡_, sym, _∙_}
-use lib.ListN.{length, take}
+use lib.ListN.{length}
 use Rattle.store.specs.declared.PageId.{PageId}
 use Rattle.store.specs.declared.Extent.{Extent}
 use Rattle.datom.specs.declared.Datom.{Datom}
@@ -32,7 +32,7 @@ use Rattle.history.specs.Statement.{Known, Moment, Call, inserts, beginning, Le
 use Rattle.history.specs.Statement as history
 use Rattle.history.specs.Order.{same-self}
 use Rattle.history.specs.Batch.{insert-records, initialise-records}
-use Rattle.demand.specs.Runs.{Runs, start, then}
+use Rattle.demand.specs.Runs.{SameBelow, Runs, start, then}
 use Rattle.history.specs.Base.{sizes, base, base-beyond, shared-same}
 
 -- a call of `entry::insert` or `entry::initialise`, by its promise: it answered a and left the bytes s
@@ -42,9 +42,7 @@ Gave m c a s = Replies (m .extent) (m .store) s a (outcomeOf eavt m c)
 -- what may happen between two moments: a call of the code; or somebody else, at or past the count
 pub data CodeMove (m : Moment) : Moment → Type 0 where
   ran : (c : Call) → Fair m c → (a : Answer) (s : List ℕ) → Gave m c a s → CodeMove m (left m c a s)
-  others :
-      (s : List ℕ) → take (m .extent .count * m .extent .size) s ≡ take (m .extent .count * m .extent .size) (m .store) →
-      CodeMove m (record { extent = m .extent; store = s; roots = m .roots })
+  others : (s : List ℕ) → SameBelow m s → CodeMove m (record { extent = m .extent; store = s; roots = m .roots })
 
 move-next : {m m₁ : Moment} → CodeMove m m₁ → Next eavt m m₁
 move-next (ran c F a s R) = rw (R .answer, R .store) (history.calls c F)

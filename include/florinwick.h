@@ -25,13 +25,19 @@
  *
  * What a call leaves in the store:
  *   Done                     bytes below the old page count, and those past the new one, are as they were
- *   1 to 6, 10               no byte is changed
+ *   1 to 6, 10, 16           no byte is changed
  *   7, 8, 9                  root and page count stay; pages past the count may hold what was written before the refusal, every other
  *                            byte is as it was. The call may be made again: with more room after NoRoom
  * Calls whose store is const change no byte of it.
  */
 #ifndef FLORINWICK_H
 #define FLORINWICK_H
+
+/* The version of this interface: a call that is added raises the second number, and one that changes the first. */
+#define FLORINWICK_VERSION_MAJOR 0
+#define FLORINWICK_VERSION_MINOR 2
+#define FLORINWICK_VERSION_PATCH 0
+#define FLORINWICK_VERSION "0.2.0"
 
 #include <stddef.h>
 #include <stdint.h>
@@ -41,23 +47,25 @@ extern "C" {
 #endif
 
 /*
- * Numbers that a call may give. Within a call they are tested in this order, but for these: 10 comes before 5; 6 and 7 come as the lookup
- * meets them, datom by datom, and 7, 8 and 9 as they are met once writing has begun, 8 before 9 at one page.
+ * Numbers that a call may give. Within a call they are tested in this order, but for these: 10 comes before 5; 6 and 7, or 16 and 7, come
+ * as the lookup meets them, datom by datom, and 7, 8 and 9 as they are met once writing has begun, 8 before 9 at one page.
  */
 enum florinwick_number {
-    FLORINWICK_DONE = 0,          /* done; a datom was listed; the tree is sound */
+    FLORINWICK_DONE = 0,          /* done; the batch is held; a datom was listed; the tree is sound */
     FLORINWICK_BAD_STORE = 1,     /* page size unknown, page count times page size exceeds the store, or scratch too short */
     FLORINWICK_TOO_MANY = 2,      /* the batch has over 128 datoms, or its bytes are no multiple of 32 */
     FLORINWICK_BAD_DATOM = 3,     /* index: the first malformed datom, or one with value max */
     FLORINWICK_OUT_OF_ORDER = 4,  /* index: the first datom not above the one before; for initialise, the first equal to an earlier one */
     FLORINWICK_NO_PAGE = 5,       /* the root is neither none nor below the page count */
-    FLORINWICK_REPEATED = 6,      /* index: the first datom of the batch that the tree holds already */
+    FLORINWICK_REPEATED = 6,      /* index: the first datom of the batch that the tree holds already; it does not say that the tree holds
+                                     the others: ask florinwick_held */
     FLORINWICK_DAMAGED = 7,       /* page: it is missing, unreadable or of the wrong level, or holds a datom equal to one that is merged
                                      into it or listed beside it; for a step also an index past its count, and none where the height is
                                      over 8 or no datom is left */
     FLORINWICK_TOO_TALL = 8,      /* the next page to write would have level 8 */
     FLORINWICK_NO_ROOM = 9,       /* the next page to write does not fit into the store */
     FLORINWICK_BAD_BOUND = 10,    /* a bound of a listing is malformed */
+    FLORINWICK_NOT_HELD = 16,     /* index: the first datom of the batch that the tree does not hold */
     FLORINWICK_ENDED = 32,        /* the listing has ended; no refusal */
     FLORINWICK_UNSOUND = 33       /* page: the first fault that the check met; no refusal */
 };
@@ -107,6 +115,15 @@ struct florinwick_datom {
 uint64_t florinwick_insert_records(uint8_t *store, size_t store_len, uint64_t page_size, uint64_t page_count, uint64_t root,
                                    const struct florinwick_datom *batch, size_t batch_count, uint8_t *scratch, size_t scratch_len,
                                    uint8_t *answer, size_t answer_len);
+
+/*
+ * Whether the tree at a root holds all datoms of an ascending batch: 0, or 16 with the index of the first that it does not hold. A page
+ * that a datom's path comes to and that cannot be read is 7, so 16 and 7 come in whichever order they are met. An empty batch is held at
+ * every root, none too; at root none any other batch is 16 with index 0. A batch that was accepted is held at the root that it led to
+ * and at every root that grew from that one. It takes no scratch. Numbers: 1 to 5, 7, 16.
+ */
+uint64_t florinwick_held(const uint8_t *store, size_t store_len, uint64_t page_size, uint64_t page_count, uint64_t root,
+                         const uint8_t *batch, size_t batch_len, uint8_t *answer, size_t answer_len);
 
 /*
  * Why a page cannot be fetched, or 0: the page is then the part of the store at page * page_size, page_size bytes long. It says

@@ -209,6 +209,18 @@ impl Asked<'_> {
         })
     }
 
+    pub fn held(&self, root: u64, batch: &[u8], random: &mut Random) -> Result<Answer, String> {
+        let batch = Lent::new(batch, random);
+        let before = batch.all().to_vec();
+        let answer = self.answered(random, |area| unsafe {
+            archive::florinwick_held(
+                self.store.as_ptr(), self.store.len(), self.page_size, self.page_count, root,
+                batch.content().as_ptr(), batch.length(), area.as_mut_ptr(), area.len(),
+            )
+        })?;
+        if batch.all() == &before[..] { Ok(answer) } else { Err("a batch that was asked for or its guards were changed".to_string()) }
+    }
+
     pub fn check(&self, root: u64, random: &mut Random) -> Result<Answer, String> {
         self.answered(random, |area| unsafe {
             archive::florinwick_check(

@@ -1,4 +1,5 @@
-//! Document 01's "Listing and check" for any cursor and any store, written to its text: the judge where the Rust has no answer.
+//! Document 01's "Listing and check" for any cursor and any store, and document 02's question whether a batch is held, written to their text:
+//! the judge where the Rust has no answer.
 
 use std::cmp::Ordering;
 
@@ -145,6 +146,35 @@ impl Model<'_> {
             }
         }
         Step::Yields(datom, next)
+    }
+
+    /// "In each page the path finds the first datom not below the one sought; it stops if that is equal or the level is 0, and else goes
+    /// on to the first real child at or after that index": whether it ends at an equal datom. An error is the page where it is lost.
+    fn is_met(&self, root: u64, sought: &Datom) -> Result<bool, u64> {
+        let mut node = self.node(root).ok_or(root)?;
+        loop {
+            let first = node.datoms.iter().take_while(|held| compare(held, sought).is_lt()).count();
+            let is_equal = node.datoms.get(first).map_or(false, |held| compare(held, sought).is_eq());
+            if is_equal || node.level == 0 {
+                return Ok(is_equal);
+            }
+            let child = child_from(&node, first);
+            node = self.node_of_level(child, node.level as usize - 1).ok_or(child)?;
+        }
+    }
+
+    /// "0 where the tree holds all its datoms, number 16 NotHeld with the index of the first that it does not hold, .. and 7 as met":
+    /// the number, and the index or page, of a batch that 1 to 5 let through.
+    pub fn held(&self, root: u64, batch: &[Datom]) -> (u64, u64) {
+        for (i, datom) in batch.iter().enumerate() {
+            let is_met = if root == NONE { Ok(false) } else { self.is_met(root, datom) };
+            match is_met {
+                Ok(true) => {}
+                Ok(false) => return (16, i as u64),
+                Err(page) => return (7, page),
+            }
+        }
+        (0, 0)
     }
 
     /// The page of the first fault that the check's walk meets. "Root "none" is Sound."

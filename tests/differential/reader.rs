@@ -100,6 +100,16 @@ impl<'a> Reader<'a> {
         Ok(judged)
     }
 
+    /// Whether a tree holds a batch that is well formed, as by the rules: the number, and the index or page.
+    pub fn held(&mut self, root: u64, batch: &[Datom]) -> Result<(u64, u64), Fault> {
+        let (number, detail) = self.model().held(root, batch);
+        let answer = self.asked().held(root, &bytes_of(batch), self.random)?;
+        let expected = if number == 0 { Answer::told(0, 0) } else { Answer { root, ..Answer::told(number, detail) } };
+        same("the answer to a batch that is asked for", &answer, &expected)?;
+        self.tally.asked[match number { 0 => 0, 16 => 1, _ => 2 }] += 1;
+        Ok((number, detail))
+    }
+
     /// "A fetch checks 1, 5." "For a fetch, "none" is NoPage."
     pub fn fetch(&mut self, page: u64) -> Result<(), Fault> {
         let expected = if page != NONE && page < self.pages.count() { Answer::told(0, 0) } else { Answer::told(5, 0) };

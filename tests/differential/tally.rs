@@ -41,6 +41,8 @@ pub struct Tally {
     pub ended: u64,
     pub damaged: [u64; 5],
     pub made_up: u64,
+    /// Batches that were asked for: held, not held, and Damaged.
+    pub asked: [u64; 3],
     pub sound: u64,
     pub unsound: u64,
     pub fetches: u64,
@@ -75,6 +77,8 @@ impl Tally {
             out, "  steps by the rules: {} yield, {} ended, Damaged {}: height {}, begin page {}, nothing left {}, equal pair {}, advancing {}; {} from made-up cursors",
             self.yielded, self.ended, self.damaged.iter().sum::<u64>(), high, open, left, twice, lost, self.made_up,
         )?;
+        let [held, not_held, damaged] = self.asked;
+        writeln!(out, "  asked for: {} batches held, {} not, {} Damaged", held, not_held, damaged)?;
         writeln!(
             out, "  checks: {} sound, {} unsound; damaged pages: {} readable, {} not",
             self.sound, self.unsound, self.damaged_readable, self.damaged_unreadable,

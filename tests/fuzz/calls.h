@@ -10,7 +10,7 @@ constexpr size_t STORE_ROOM = 1 << 16;
 constexpr size_t SCRATCH_ROOM = 332352 + GUARD;
 constexpr size_t CURSOR = 264;
 
-enum class Entry { Initialise, Insert, Fetch, Check, Start, Step };
+enum class Entry { Initialise, Insert, Fetch, Check, Start, Step, Held };
 
 struct Call {
     Entry entry;
@@ -78,6 +78,8 @@ struct Slices {
         case Entry::Step:
             return florinwick_list_step(pages, room, call.page_size, call.page_count, cursor.bytes(), cursor.length(),
                     datom.bytes(), datom.length(), out, words);
+        case Entry::Held:
+            return florinwick_held(pages, room, call.page_size, call.page_count, call.root, batch.for_reading(), batch.length(), out, words);
         }
         abort();
     }
@@ -141,7 +143,7 @@ private:
 
     // Which numbers an entry may give, and what the other words then are.
     static void judge_words(const Call &call, const Answer &answer) {
-        static const uint64_t may_give[] = {0x31f, 0x3ff, 0x23, 0x23 | uint64_t{1} << 33, 0x4a3, 0x83 | uint64_t{1} << 32};
+        static const uint64_t may_give[] = {0x31f, 0x3ff, 0x23, 0x23 | uint64_t{1} << 33, 0x4a3, 0x83 | uint64_t{1} << 32, 0x100bf};
         uint64_t number = answer.number, batch = call.batch.size() / 32;
         must(number < 64 && may_give[static_cast<int>(call.entry)] >> number & 1, "a number that this entry does not give");
         if (call.answer_length != 32) {
@@ -153,7 +155,7 @@ private:
         must(!is_refused || answer.pages == 0, "a refused call has written pages");
         must(call.writes() || (answer.pages == 0 && (is_refused || answer.root == 0)), "a word that is not used is not 0");
         switch (number) {
-        case 3: case 4: case 6:
+        case 3: case 4: case 6: case 16:
             must(answer.detail < batch, "an index past the batch");
             break;
         case 7: case 33:

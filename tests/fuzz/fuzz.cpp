@@ -1,6 +1,7 @@
 // A fuzzer over the C interface. An input is a script of calls on one store; what a call answers is the fuzzer's feedback, as the
 // archive itself has no counters.
 #include <cstdint>
+#include <optional>
 
 #include "calls.h"
 
@@ -74,12 +75,24 @@ void put(std::vector<uint8_t> &bytes, const Datom &datom) {
     memcpy(bytes.data() + bytes.size() - 32, datom.data(), 32);
 }
 
+std::vector<uint8_t> bytes_of(const std::vector<Datom> &datoms) {
+    std::vector<uint8_t> bytes;
+    for (const Datom &datom : datoms) {
+        put(bytes, datom);
+    }
+    return bytes;
+}
+
+// The datoms that led to a root, in order; nothing where that is not known.
+using Led = std::optional<std::vector<Datom>>;
+
 struct World {
     Script script;
     Twice twice;
     uint64_t size, count = 0;
     size_t length;
     std::vector<uint64_t> roots;
+    std::vector<Led> held;
     // No page was damaged.
     bool is_sound = true;
     uint64_t last_number = 0;
@@ -92,6 +105,7 @@ struct World {
         length = std::min(STORE_ROOM, script.below(8) * 32 * size + script.below(64));
         count = 0, is_sound = true, last_number = 0;
         roots.assign(1, NONE);
+        held.assign(1, std::vector<Datom>());
         cursor.assign(CURSOR, 0);
         twice.store(std::vector<uint8_t>(length, 0xc3));
     }
@@ -137,11 +151,7 @@ struct World {
         if (is_sorted) {
             std::sort(datoms.begin(), datoms.end(), is_below);
         }
-        std::vector<uint8_t> bytes;
-        for (const Datom &datom : datoms) {
-            put(bytes, datom);
-        }
-        return bytes;
+        return bytes_of(datoms);
     }
 
     // Lengths and numbers that a call may not have.
@@ -182,6 +192,7 @@ struct World {
         if (answer.root == NONE) {
             return;
         }
+        held.push_back(with(held_at(call.root), call.batch));
         roots.push_back(answer.root);
         note({7, level_of(twice.pages() + answer.root * size, size), about(count)});
         if (is_sound) {
@@ -189,7 +200,26 @@ struct World {
         }
     }
 
-    // A batch that went in is met again at its root, and the tree is sound.
+    // No page that may be a root has none; a page in use that no call gave as a root, a child, is not known.
+    Led held_at(uint64_t root) const {
+        auto which = std::find(roots.begin(), roots.end(), root);
+        return root >= count ? held[0] : which == roots.end() ? Led() : held[static_cast<size_t>(which - roots.begin())];
+    }
+
+    static Led with(Led led, const std::vector<uint8_t> &batch) {
+        if (!led) {
+            return led;
+        }
+        auto old = static_cast<std::ptrdiff_t>(led->size());
+        for (size_t at = 0; at < batch.size(); at += 32) {
+            led->push_back(datom_at(batch.data() + at));
+        }
+        std::sort(led->begin() + old, led->end(), is_below);
+        std::inplace_merge(led->begin(), led->begin() + old, led->end(), is_below);
+        return led;
+    }
+
+    // A batch that went in is met again at its root, and held there and not before, and the tree is sound.
     void must_hold(uint64_t root, const Call &call) {
         Call again = good(Entry::Insert);
         again.root = root, again.batch = call.batch;
@@ -199,9 +229,66 @@ struct World {
             // The batch of an initialise need not rise.
             must(is_repeated || (call.entry == Entry::Initialise && answer.number == 4), "a batch that went in is not met again");
         }
+        ask_for(root, call.batch);
+        ask_for(call.root, call.batch);
         Call check = good(Entry::Check);
         check.root = root;
         must(make(check).number == 0, "a tree that was built by these calls is not sound");
+    }
+
+    // What is answered of a batch in a sound store: 2, 3 and 4 as insert has them, then the first datom that the root does not hold.
+    void ask_for(uint64_t root, const std::vector<uint8_t> &batch) {
+        Call call = good(Entry::Held);
+        call.root = root, call.batch = batch;
+        Answer answer = make(call);
+        Led there = held_at(root);
+        if (!there) {
+            return;
+        }
+        uint64_t number = batch.size() % 32 != 0 || batch.size() > 128 * 32 ? 2 : 0, detail = 0;
+        auto first = [&](uint64_t which, auto is_so) {
+            for (size_t i = 0; number == 0 && i < batch.size() / 32; i++) {
+                if (is_so(i, datom_at(batch.data() + 32 * i))) {
+                    number = which, detail = i;
+                    return;
+                }
+            }
+        };
+        first(3, [](size_t, const Datom &datom) { return !is_storable(datom); });
+        first(4, [&](size_t i, const Datom &datom) { return i > 0 && !is_below(datom_at(batch.data() + 32 * i - 32), datom); });
+        if (number == 0 && root != NONE && root >= count) {
+            number = 5;
+        }
+        first(16, [&](size_t, const Datom &datom) { return !std::binary_search(there->begin(), there->end(), datom, is_below); });
+        must(answer.number == number && answer.detail == detail, "a batch is not held as it went in");
+    }
+
+    // A part of what a root holds, and one datom more now and then.
+    std::vector<uint8_t> part() {
+        std::vector<Datom> datoms;
+        std::vector<Datom> from = held_at(root()).value_or(std::vector<Datom>());
+        for (size_t i = script.byte(), by = 1 + script.below(7); i < from.size() && datoms.size() < 128; i += by) {
+            datoms.push_back(from[i]);
+        }
+        if (script.below(2)) {
+            datoms.push_back(script.datom());
+        }
+        std::sort(datoms.begin(), datoms.end(), is_below);
+        return bytes_of(datoms);
+    }
+
+    void ask() {
+        Call call = good(Entry::Held);
+        call.root = root();
+        call.batch = script.below(4) == 0 ? batch(script.below(16) != 0) : part();
+        if (script.below(8) == 0) {
+            spoil(call);
+            make(call);
+        } else if (is_sound) {
+            ask_for(call.root, call.batch);
+        } else {
+            make(call);
+        }
     }
 
     void read_one() {
@@ -290,7 +377,7 @@ struct World {
             case 3: list(); break;
             case 4: read_one(); break;
             case 5: make_up(); break;
-            case 6: list(); break;
+            case 6: ask(); break;
             default: damage();
             }
         }
@@ -300,7 +387,7 @@ struct World {
 }
 
 extern "C" int LLVMFuzzerTestOneInput(const uint8_t *data, size_t length) {
-    static World world{Script(nullptr, 0), {}, 256, 0, 0, {}, true, 0, {}};
+    static World world{Script(nullptr, 0), {}, 256, 0, 0, {}, {}, true, 0, {}};
     world.begin(data, length);
     world.run();
     return 0;

@@ -2,9 +2,11 @@
 use Prim.Native.Nat.{ℕ}
 use Rattle.store.specs.declared.PageId.{PageId}
 use Rattle.answer.specs.declared.Refusal.{Refusal}
-use Rattle.answer.specs.declared.Refusal.the-variants.{BadStore, TooMany, BadDatom, OutOfOrder, NoPage, Repeated, Damaged, TooTall, NoRoom, BadBound}
+use Rattle.answer.specs.declared.Refusal.the-variants.{BadStore, TooMany, BadDatom, OutOfOrder, NoPage, Repeated, Damaged, TooTall, NoRoom, BadBound, NotHeld}
 use Rattle.answer.specs.declared.Answer.{Answer}
 use Rattle.answer.specs.declared.Answer.the-variants as answer
+use Rattle.answer.specs.declared.Held.{Held}
+use Rattle.answer.specs.declared.Held.the-variants as held
 use Rattle.answer.specs.declared.Fetch.{Fetch}
 use Rattle.answer.specs.declared.Fetch.the-variants as fetch
 use Rattle.answer.specs.declared.Start.{Start}
@@ -26,6 +28,8 @@ numberOf (Damaged p) = 7
 numberOf TooTall = 8
 numberOf NoRoom = 9
 numberOf BadBound = 10
+-- document 02, Ten: "16 NotHeld(i)"
+numberOf (NotHeld i) = 16
 
 -- "index or page (0 if neither)"
 abbrev pub detailOf : Refusal → ℕ
@@ -39,6 +43,7 @@ detailOf (Damaged p) = p .0
 detailOf TooTall = 0
 detailOf NoRoom = 0
 detailOf BadBound = 0
+detailOf (NotHeld i) = i
 
 -- the four words
 pub record Words : Type 0 where
@@ -59,6 +64,11 @@ answerWords given (answer.Refused r) = refusedWords (given .0) r
 -- a call that is given no root has 0 there, and so has one with nothing to say
 abbrev pub plain : ℕ → Words
 plain number = record { number = number; root = 0; pages = 0; detail = 0 }
+
+-- "0 where the tree holds all its datoms"
+abbrev pub heldWords : PageId → Held → Words
+heldWords given held.All = plain 0
+heldWords given (held.Refused r) = refusedWords (given .0) r
 
 abbrev pub fetchWords : Fetch → Words
 fetchWords fetch.Given = plain 0

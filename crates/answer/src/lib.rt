@@ -34,6 +34,7 @@ pub enum Refusal {
     TooTall,
     NoRoom,
     BadBound,
+    NotHeld(usize),
 }
 
 impl Refusal {
@@ -51,6 +52,7 @@ impl Refusal {
             Refusal::TooTall => 8,
             Refusal::NoRoom => 9,
             Refusal::BadBound => 10,
+            Refusal::NotHeld(_) => 16,
         }
     }
 
@@ -62,6 +64,7 @@ impl Refusal {
             Refusal::BadDatom(i) => i as u64,
             Refusal::OutOfOrder(i) => i as u64,
             Refusal::Repeated(i) => i as u64,
+            Refusal::NotHeld(i) => i as u64,
             Refusal::Damaged(p) => p.0,
             Refusal::BadStore => 0,
             Refusal::TooMany => 0,
@@ -76,6 +79,12 @@ impl Refusal {
 // Of an insert or an initialise.
 pub enum Answer {
     Done { root: PageId, pages: u64 },
+    Refused(Refusal),
+}
+
+// Of the call that asks whether a tree holds a batch: it holds all of it, or why not.
+pub enum Held {
+    All,
     Refused(Refusal),
 }
 

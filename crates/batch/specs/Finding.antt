@@ -25,8 +25,8 @@ abbrev pub findingOf : Finding → rules.Finding
 findingOf Clear = rules.clear
 findingOf (Found r) = rules.found r
 
--- two findings that meet one promise are equal: form_fault, order_fault and twin_fault, lookup's lookup_all, entry's insert_fault and
--- initialise_fault promise nothing else of their answer
+-- two findings that meet one promise are equal: form_fault, order_fault and twin_fault, lookup's lookup_all and held_all, entry's
+-- insert_fault and initialise_fault promise nothing else of their answer
 pub finding-same : (f g : Finding) {r : rules.Finding} → findingOf f ≡ r → findingOf g ≡ r → f ≡ g
 finding-same Clear Clear e h = refl
 finding-same Clear (Found q) e h = absurd (apart (cc))

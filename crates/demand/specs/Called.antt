@@ -16,7 +16,7 @@ use Rattle.store.specs.Page.{isNone}
 use Rattle.store.specs.Laws.{apart, Known}
 use Rattle.index.specs.Order.{eavt}
 use Rattle.answer.specs.declared.Refusal.{Refusal}
-use Rattle.answer.specs.declared.Refusal.the-variants.{BadStore, TooMany, BadDatom, OutOfOrder, NoPage, Repeated, Damaged, TooTall, NoRoom, BadBound}
+use Rattle.answer.specs.declared.Refusal.the-variants.{BadStore, TooMany, BadDatom, OutOfOrder, NoPage, Repeated, Damaged, TooTall, NoRoom, BadBound, NotHeld}
 use Rattle.answer.specs.declared.Answer.{Answer}
 use Rattle.answer.specs.declared.Answer.the-variants.{Done, Refused}
 use Rattle.answer.specs.Table.{numberOf, answerWords}
@@ -87,6 +87,7 @@ refused-number (Damaged p) e = omega arith
 refused-number TooTall e = omega arith
 refused-number NoRoom e = omega arith
 refused-number BadBound e = omega arith
+refused-number (NotHeld i) e = omega arith
 
 module _ (size : ℕ) (known : In size sizes) where
   ready : (m : Moment) → History eavt size m → InOrder (m .extent) (m .store)

@@ -1,10 +1,10 @@
 -- Demand 3 of the code, for a caller in C or C++: what it is handed back are numbers and bytes, and it goes on by them. Calls that are
 -- known by the promises of the C entries alone are calls of a history; so the listings that it steps through, and the numbers that its
--- batches are answered with, are those of demand 3.
+-- batches are answered with, are those of demand 3; and a batch that it asks for is held exactly if all of it led there.
 use Prim.Native.Nat.{ℕ, zero, suc, _+_, _^_, _<_}
 use mathlib.Core.Bool.{true, false, cond}
 use mathlib.Core.List.{List, [], _∷_}
-use mathlib.Core.Logic.{_↔_}
+use mathlib.Core.Logic.{_⊎_, _↔_}
 use mathlib.Core.Path.{_≡_}
 use lib.Dec.{eqb}
 use lib.ListN.{length}
@@ -13,16 +13,17 @@ use Rattle.store.specs.Page.{page}
 use Rattle.datom.specs.declared.Datom.{Datom}
 use Rattle.datom.specs.Datom.{datomAt, datomBytes}
 use Rattle.index.specs.Order.{eavt}
-use Rattle.answer.specs.Table.{checkWords}
+use Rattle.answer.specs.Table.{checkWords, heldWords}
 use Rattle.rules.specs.Store.{badScratch}
 use Rattle.rules.specs.Insert.{batchOf}
 use Rattle.rules.specs.Check.{checkTree}
+use Rattle.rules.specs.Held.{heldBytes}
 use Rattle.rules.specs.Entry.{Reply, insertReply, initialiseReply}
 use Rattle.rules.specs.Lists.{In}
 use Rattle.florinwick.specs.Words.{Replied, AreaReplied}
 use Rattle.florinwick.specs.Listing.{startIn, stepIn, Begins, Steps}
 use Rattle.history.specs.Statement.{Known, Moment, Call, inserts, initialises, givenRoot, givenBatch, Lent, Fair, beginning, gathered, Between, WellFormed}
-use Rattle.history.specs.More.{FirstShared}
+use Rattle.history.specs.More.{FirstShared, FirstNot}
 use Rattle.history.specs.Base.{sizes}
 use Rattle.demand.specs.Runs.{SameBelow, Runs}
 
@@ -82,6 +83,11 @@ CallerHandsOut m k lower upper ds =
     (r ≡ 0)
     × ((at : ℕ → Moment) → ((i : ℕ) → Runs CallerMove m₁ (at i)) → (n : ℕ) (w : ℕ → StepBytes) → StepsTaken at n c₁ w → length ds < n → Heard ds w)
 
+-- a batch that `florinwick_held` was asked for, by its promise: it returned r and wrote its answer into an area of 32 bytes
+pub record HeldCall (m : Moment) (k : Known) (b : List ℕ) (r : ℕ) (a a₁ : List ℕ) : Type 0 where
+  pub answers : length a ≡ 32
+  pub replied : AreaReplied r a a₁ (heldWords (k .root) (heldBytes eavt (m .extent) (m .store) (k .root) b))
+
 -- what a caller of the C interface is promised of a root
 pub record CallerPromise (m : Moment) (k : Known) : Type 0 where
   pub listed :
@@ -98,6 +104,13 @@ pub record CallerPromise (m : Moment) (k : Known) : Type 0 where
       (b : List ℕ) → Lent (m .store) b → WellFormed eavt b → (scratch : ℕ) → badScratch (m .extent) scratch ≡ false →
       (r : ℕ) (s a a₁ : List ℕ) → length a ≡ 32 → Replied r s a₁ (replyTo m (inserts k b scratch) a) → r ≡ 6 →
       FirstShared (eavt .cmp) (gathered (k .batches)) (batchOf b) (wordAt a₁ 24) × (s ≡ m .store)
+  -- held exactly if every datom is among those that led to the root: 0, and else NotHeld, 16, with the first that is not in word 3
+  pub asked :
+      (b : List ℕ) → WellFormed eavt b → (r : ℕ) (a a₁ : List ℕ) → HeldCall m k b r a a₁ →
+      ((r ≡ 0) ↔ ((d : Datom) → In d (batchOf b) → In d (gathered (k .batches))))
+      × ((r ≡ 0) ⊎ ((r ≡ 16) × FirstNot (λ d. In d (gathered (k .batches))) (batchOf b) (wordAt a₁ 24)))
+  -- so a batch that was accepted is held, at the root that it led to and at every root that grew from that one
+  pub keeps : (b : List ℕ) → In b (k .batches) → WellFormed eavt b → (r : ℕ) (a a₁ : List ℕ) → HeldCall m k b r a a₁ → r ≡ 0
   -- and Sound is 0
   pub sound :
       (r : ℕ) (a a₁ : List ℕ) → length a ≡ 32 →

@@ -16,6 +16,7 @@ use Rattle.answer.specs.declared.Refusal.{Refusal}
 use Rattle.answer.specs.declared.Refusal.the-variants.{Repeated}
 use Rattle.answer.specs.declared.Answer.{Answer}
 use Rattle.answer.specs.declared.Answer.the-variants.{Refused}
+use Rattle.answer.specs.declared.Held.{Held}
 use Rattle.answer.specs.declared.Check.{Check}
 use Rattle.answer.specs.declared.Check.the-variants.{Sound}
 use Rattle.answer.specs.declared.Started.{Started}
@@ -25,12 +26,15 @@ use Rattle.rules.specs.Store.{badScratch, envOf}
 use Rattle.rules.specs.Insert.{Outcome, batchOf, insert, initialise, insertBytes, initialiseBytes}
 use Rattle.rules.specs.Listing.{startList, whole}
 use Rattle.rules.specs.Check.{checkTree}
+use Rattle.rules.specs.Held.{heldBytes}
 use Rattle.rules.specs.Lists.{In}
 use Rattle.rules.specs.Within.{Late, Writes, insert-writes, initialise-writes, insert-bytes-writes, initialise-bytes-writes, early-unchanged}
 use Rattle.entry.specs.Reply.{Replies}
 use Rattle.history.specs.Statement.{Known, Moment, Call, inserts, beginning, Lent, Fair, left, outcomeOf, Next, Later, now, next, History, gathered, Between, StepsAlong, handed, WellFormed, Shared}
 use Rattle.history.specs.Statement as history
+use Rattle.history.specs.More.{Asked}
 use Rattle.history.specs.Order.{same-self}
+use Rattle.history.specs.Asked.{asked-map}
 use Rattle.history.specs.Batch.{insert-records, initialise-records}
 use Rattle.demand.specs.Runs.{SameBelow, Runs, start, then}
 use Rattle.history.specs.Base.{sizes, base, base-beyond, shared-same}
@@ -70,17 +74,32 @@ pub record CodePromise (m : Moment) (k : Known) : Type 0 where
       (b : List ℕ) → Lent (m .store) b → WellFormed eavt b → (scratch : ℕ) → badScratch (m .extent) scratch ≡ false →
       (a : Answer) (s : List ℕ) → Gave m (inserts k b scratch) a s →
       ((i : ℕ) × (a ≡ Refused (Repeated i))) ↔ ((d : Datom) × In d (batchOf b) × In d (gathered (k .batches)))
+  -- and by `held::held`: held exactly if every datom is among those that led to the root, and else the first that is not
+  pub asked :
+      (b : List ℕ) → WellFormed eavt b → (a : Held) → a ≡ heldBytes eavt (m .extent) (m .store) (k .root) b →
+      Asked (λ d. In d (gathered (k .batches))) (batchOf b) a
   -- and by `invariants::check`
   pub sound : (a : Check) → a ≡ checkTree eavt (m .extent) (m .store) (k .root) → a ≡ Sound
 
 -- where an equal datom is the same one, "shares a datom" is meant literally
+pub same-datom :
+    (u : List Datom) → ((y : Datom) → In y u → eavt .stored y ≡ true) → (d : Datom) → eavt .stored d ≡ true → Shared (eavt .cmp) u d ↔ In d u
+same-datom u f d g = (shared-same u d f g, λ i. (d, i, same-self (eavt .cmp) eavt-preorder d))
+
 pub literal :
     (u b : List Datom) → ((y : Datom) → In y u → eavt .stored y ≡ true) → ((y : Datom) → In y b → eavt .stored y ≡ true) →
     ((d : Datom) × In d b × Shared (eavt .cmp) u d) ↔ ((d : Datom) × In d b × In d u)
 literal u b f g = (
-  λ w. (w .0, w .1, shared-same u (w .0) f (g (w .0) (w .1)) (w .2)),
-  λ w. (w .0, w .1, (w .0, w .2, same-self (eavt .cmp) eavt-preorder (w .0))),
+  λ w. (w .0, w .1, same-datom u f (w .0) (g (w .0) (w .1)) .0 (w .2)),
+  λ w. (w .0, w .1, same-datom u f (w .0) (g (w .0) (w .1)) .1 (w .2)),
 )
+
+-- what a root of a history is asked for, literally
+pub asked-in :
+    (size : ℕ) → In size sizes → (m : Moment) → History eavt size m → (k : Known) → In k (m .roots) → (b : List ℕ) → WellFormed eavt b →
+    Asked (λ d. In d (gathered (k .batches))) (batchOf b) (heldBytes eavt (m .extent) (m .store) (k .root) b)
+asked-in size i m h k j b w =
+    asked-map (λ d v. same-datom (gathered (k .batches)) (base size i m h k j .stored) d (w .form d v)) (base-beyond size i m h k j .asked b w)
 
 -- the theorem: what the code did, from no pages and no root on, is as promised
 abbrev pub CodeDemand3 : Type 0
@@ -98,6 +117,7 @@ code size i s m c k j =
       stays = λ m₁ l. P .stays m₁ (runs-later l);
       answered = λ b lent w scratch e a s₁ R.
           rw (R .answer) (Iff·trans (P .answered b lent w scratch e) (literal (gathered (k .batches)) (batchOf b) (P .stored) (w .form)));
+      asked = λ b w a e. rw e (asked-in size i m h k j b w);
       sound = λ a e. e ∙ base-beyond size i m h k j .sound;
     }
 

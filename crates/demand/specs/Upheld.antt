@@ -1,9 +1,9 @@
 -- Demand 3 of the code as a C program meets it, proved: Caller's CallerDemand3. Rests on Called, Listed and Code.
-use Prim.Native.Nat.{ℕ, _<_}
+use Prim.Native.Nat.{ℕ, _≤_, _<_}
 use native.Mathlib.Omega.{arith}
 use mathlib.Core.Bool.{true, false}
 use mathlib.Core.List.{List, _∷_}
-use mathlib.Core.Logic.{_↔_, Iff·trans}
+use mathlib.Core.Logic.{_⊎_, inl, inr, _↔_, Iff·trans}
 use mathlib.Core.Path.{_≡_, refl, sym, _∙_, ap}
 use borrow.Author.Tests.{eq-eqb}
 use lib.ListN.{length, length-append}
@@ -15,28 +15,33 @@ use Rattle.datom.specs.declared.Datom.{Datom}
 use Rattle.datom.specs.Datom.{datomAt, datomsBytes, WordSized}
 use Rattle.index.specs.Order.{eavt}
 use Rattle.answer.specs.declared.Refusal.{Refusal}
-use Rattle.answer.specs.declared.Refusal.the-variants.{BadStore, TooMany, BadDatom, OutOfOrder, NoPage, Repeated, Damaged, TooTall, NoRoom, BadBound}
+use Rattle.answer.specs.declared.Refusal.the-variants.{BadStore, TooMany, BadDatom, OutOfOrder, NoPage, Repeated, Damaged, TooTall, NoRoom, BadBound, NotHeld}
 use Rattle.answer.specs.declared.Answer.{Answer}
 use Rattle.answer.specs.declared.Answer.the-variants.{Done, Refused}
+use Rattle.answer.specs.declared.Held.{Held}
+use Rattle.answer.specs.declared.Held.the-variants as held
 use Rattle.answer.specs.declared.Started.{Started}
 use Rattle.answer.specs.declared.Start.the-variants.{Begun}
-use Rattle.answer.specs.Table.{answerWords}
+use Rattle.answer.specs.Table.{answerWords, heldWords}
 use Rattle.rules.specs.Store.{badStore, badScratch}
 use Rattle.rules.specs.Insert.{batchOf, insert}
 use Rattle.rules.specs.Listing.{startList}
+use Rattle.rules.specs.Held.{heldBytes}
 use Rattle.rules.specs.Entry.{wordBytes, reply, insertReply}
 use Rattle.rules.specs.Lists.{In}
 use Rattle.rules.specs.Within.{early-unchanged}
 use Rattle.florinwick.specs.Cursor.{cursorBytes}
 use Rattle.florinwick.specs.Listing.{startIn, cursorStarted, Begins, bounds-given}
 use Rattle.history.specs.Statement.{Known, Moment, inserts, Lent, WellFormed, outcomeOf, Later, now, History, gathered, HandsOut}
-use Rattle.history.specs.More.{FirstShared}
+use Rattle.history.specs.More.{FirstShared, FirstNot, Asked}
 use Rattle.history.specs.Batch.{insert-records}
 use Rattle.history.specs.Listing.{later-later}
+use Rattle.history.specs.Asked.{not-in}
+use Rattle.history.specs.Again.{gathered-in}
 use Rattle.history.specs.Base.{sizes, base, base-beyond}
 use Rattle.demand.specs.Area.{detail-word}
-use Rattle.demand.specs.Code.{literal}
-use Rattle.demand.specs.Caller.{CallerHandsOut, CallerDemand3}
+use Rattle.demand.specs.Code.{literal, asked-in}
+use Rattle.demand.specs.Caller.{CallerHandsOut, HeldCall, CallerDemand3}
 use Rattle.demand.specs.Called.{AnswerLeft, left-by, writes, runs-on}
 use Rattle.demand.specs.Listed.{following, following-steps, heard}
 
@@ -52,6 +57,7 @@ six-refused (Damaged p) e = absurd (omega arith)
 six-refused TooTall e = absurd (omega arith)
 six-refused NoRoom e = absurd (omega arith)
 six-refused BadBound e = absurd (omega arith)
+six-refused (NotHeld i) e = absurd (omega arith)
 
 six : (root : PageId) (a : Answer) → (answerWords root a .number ≡ 6) ↔ ((i : ℕ) × (a ≡ Refused (Repeated i)))
 six root (Done r n) = (λ e. absurd (omega arith), λ w. absurd (apart (cc (w .1))))
@@ -122,6 +128,36 @@ module _
           L .store ∙ early-unchanged eavt (m .extent) (m .store) _ (writes m (inserts k b scratch)) (Repeated (z .0)) (z .1) (λ late. omega (arith, late .0)),
         )
 
+-- the numbers of a batch that is asked for
+module _ (Among : Datom → Type 0) (root : PageId) (b : List ℕ) (few : length (batchOf b) ≤ 128) (r : ℕ) (a : List ℕ) where
+  abbrev AskedTold : Type 0
+  AskedTold = ((r ≡ 0) ↔ ((d : Datom) → In d (batchOf b) → Among d)) × ((r ≡ 0) ⊎ ((r ≡ 16) × FirstNot Among (batchOf b) (wordAt a 24)))
+
+  not-held-told : (i : ℕ) → r ≡ 16 → a ≡ wordBytes (heldWords root (held.Refused (NotHeld i))) → FirstNot Among (batchOf b) i → AskedTold
+  not-held-told i number area F =
+      let words = heldWords root (held.Refused (NotHeld i)) in
+      let short : i < 128 = omega (arith, F .index, length-append (F .before) (F .datom ∷ F .rest), ap length (F .batch), few) in (
+        (λ z. absurd (omega arith), λ q. absurd (F .not (q (F .datom) (not-in F)))),
+        inr (number, rw (area, detail-word words (omega arith)) F),
+      )
+
+  asked-told : (h : Held) → Asked Among (batchOf b) h → r ≡ heldWords root h .number → a ≡ wordBytes (heldWords root h) → AskedTold
+  asked-told held.All A number area = ((λ z. A .exactly .0 refl, λ q. number), inl number)
+  asked-told (held.Refused q) A number area = elim (A .otherwise) [
+    | inl e ↦ absurd (apart (cc e))
+    | inr w ↦
+        let k : q ≡ NotHeld (w .0) = cc (w .1) in
+        not-held-told (w .0) (rw k at number) (rw k at area) (A .first (w .0) (w .1))
+  ]
+
+asked-call :
+    (size : ℕ) → In size sizes → (m : Moment) → History eavt size m → (k : Known) → In k (m .roots) → (b : List ℕ) (w : WellFormed eavt b) → (r : ℕ)
+    (a a₁ : List ℕ) → HeldCall m k b r a a₁ → AskedTold (λ d. In d (gathered (k .batches))) (k .root) b (w .few) r a₁
+asked-call size i m h k j b w r a a₁ H =
+    let z = eq-eqb (length a) 32 (H .answers) in
+    asked-told (λ d. In d (gathered (k .batches))) (k .root) b (w .few) r a₁ (heldBytes eavt (m .extent) (m .store) (k .root) b)
+    (asked-in size i m h k j b w) (rw z at (H .replied .returns)) (rw z at (H .replied .area))
+
 pub caller : CallerDemand3
 caller size i s m runs k j =
     let h : History eavt size m = (s, runs-on size i (s, now) runs) in
@@ -137,6 +173,8 @@ caller size i s m runs k j =
           (Iff·trans (P .answered b lent w scratch e) (literal (gathered (k .batches)) (batchOf b) (P .stored) (w .form))));
       receipt = λ b lent w scratch e r s₁ a a₁ n R.
           first-named size i m h k j b lent w scratch e s₁ a₁ r (left-by m (inserts k b scratch) r s₁ a a₁ n R);
+      asked = λ b w r a a₁ H. asked-call size i m h k j b w r a a₁ H;
+      keeps = λ b sent w r a a₁ H. asked-call size i m h k j b w r a a₁ H .0 .1 λ d v. gathered-in (k .batches) b sent d v;
       sound = λ r a a₁ n A. rw (eq-eqb (length a) 32 n, base-beyond size i m h k j .sound) at (A .returns);
     }
 

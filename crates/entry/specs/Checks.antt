@@ -128,10 +128,10 @@ module _ (x : Extent) (s : List ℕ) (L : ℕ) (b : List ℕ) where
     unfolding initialiseBytes
     initialise-counted t = rw (← datoms-given n e) (given-begun n e _ .0)
 
--- one finding after another is one finding
-both : (a b : Finding) (k : Outcome) → orElse refuse (orElse found a b) k ≡ orElse refuse a (orElse refuse b k)
-both (found r) b k = refl
-both clear b k = refl
+-- one finding after another is one finding, whatever a refusal is to give
+pub both : {A : Type 0} (give : Refusal → A) (a b : Finding) (k : A) → orElse give (orElse found a b) k ≡ orElse give a (orElse give b k)
+both give (found r) b k = refl
+both give clear b k = refl
 
 -- the ways through 3 and 4, and what comes after them
 module _ (t : DatomOrd) (ds : List Datom) where
@@ -165,7 +165,7 @@ module _ (t : DatomOrd) (ds : List Datom) where
     module _ (root : PageId) where
       counted-is : insertCounted t x s root ds ≡ orElse refuse (insertFault t ds) (orElse refuse (rootFault x root) (insertUnder t x s root ds))
       unfolding insertCounted insertFault
-      counted-is = sym (both (formFault (t .stored) 0 ds) _ _)
+      counted-is = sym (both refuse (formFault (t .stored) 0 ds) _ _)
 
       pub counted-found : (r : Refusal) → found r ≡ insertFault t ds → insertCounted t x s root ds ≡ refuse r
       counted-found r h = counted-is ∙ rw (← h)
@@ -186,7 +186,7 @@ module _ (t : DatomOrd) (ds : List Datom) where
 
     sorted-is : initialiseCounted t x s ds ≡ orElse refuse (initialiseFault t ds) (writeFresh (envOf t x s) (sort (t .cmp) ds))
     unfolding initialiseCounted initialiseFault
-    sorted-is = sym (both (formFault (t .stored) 0 ds) _ _)
+    sorted-is = sym (both refuse (formFault (t .stored) 0 ds) _ _)
 
     pub sorted-found : (r : Refusal) → found r ≡ initialiseFault t ds → initialiseCounted t x s ds ≡ refuse r
     sorted-found r h = sorted-is ∙ rw (← h)

@@ -6,16 +6,18 @@ pub mod words;
 
 use answer::Check;
 use answer::Fetch;
+use answer::Held;
 use store::Extent;
 use store::PageId;
 ghost use mathlib.Core.Path.{_≡_};
 ghost use lib.ListN.{length};
 ghost use Rattle.index.specs.Order.{eavt};
 ghost use Rattle.store.specs.Page.{page};
-ghost use Rattle.answer.specs.Table.{fetchWords, checkWords};
+ghost use Rattle.answer.specs.Table.{fetchWords, checkWords, heldWords};
 ghost use Rattle.rules.specs.Entry.{insertReply, initialiseReply};
 ghost use Rattle.rules.specs.Store.{fetchAnswer};
 ghost use Rattle.rules.specs.Check.{checkTree};
+ghost use Rattle.rules.specs.Held.{heldBytes};
 ghost use Rattle.florinwick.specs.Words.{Replied, AreaReplied, extentOf, needOf};
 
 // The number of a check that finds a fault.
@@ -123,5 +125,30 @@ pub extern "C" fn florinwick_check(
             UNSOUND
         }
         Check::Refused(refusal) => words::refuse(area, root, refusal),
+    }
+}
+
+// Whether the tree under a root holds all datoms of a batch: 0, or 16 with the index of the first that it does not hold.
+#[no_mangle]
+pub extern "C" fn florinwick_held(
+    store: &[u8],
+    size: u64,
+    count: u64,
+    root: u64,
+    batch: &[u8],
+    area: &mut [u8],
+) -> u64
+    ensures { λ r. ⌜ AreaReplied r (now (area .entry)) (now (area .exit)) (heldWords (page root) (heldBytes eavt (extentOf size count) (now (store .entry)) (page root) (now (batch .entry)))) ⌝ }
+{
+    if area.len() != words::AREA {
+        return 1;
+    }
+    let extent = Extent { size, count };
+    match held::held(store, extent, PageId(root), batch) {
+        Held::All => {
+            words::put_words(area, 0, 0, 0, 0);
+            0
+        }
+        Held::Refused(refusal) => words::refuse(area, root, refusal),
     }
 }

@@ -19,15 +19,16 @@ use Rattle.answer.specs.declared.Answer.the-variants.{Done}
 use Rattle.rules.specs.Store.{badScratch}
 use Rattle.rules.specs.Insert.{Outcome, refuse, batchOf}
 use Rattle.rules.specs.Lists.{In, in-left, in-right}
-use Rattle.history.specs.Statement.{inserts, givenRoot, givenBatch, outcomeOf, calls, next, gathered, WellFormed, Shared}
-use Rattle.history.specs.More.{FirstShared, Resending, AcceptedFormed}
+use Rattle.history.specs.Statement.{Known, Call, inserts, givenRoot, givenBatch, outcomeOf, calls, next, gathered, WellFormed, Shared}
+use Rattle.history.specs.More.{FirstShared, GrewFrom, Resending, StaysHeld, AcceptedFormed}
 use Rattle.history.specs.Order.{clash, same-self}
 use Rattle.history.specs.After.{store-same}
 use Rattle.history.specs.Calls.{Inserted, badly, early, met, stays, done}
 use Rattle.history.specs.Invariant.{inserted-at, inv}
 use Rattle.history.specs.Listing.{later-later}
+use Rattle.history.specs.Demand.{beyond}
 
-gathered-in : (bs : List (List ℕ)) (b : List ℕ) → In b bs → (d : Datom) → In d (batchOf b) → In d (gathered bs)
+pub gathered-in : (bs : List (List ℕ)) (b : List ℕ) → In b bs → (d : Datom) → In d (batchOf b) → In d (gathered bs)
 gathered-in (c ∷ bs) b (inl e) d i = in-left d (batchOf c) (gathered bs) (rw e at i)
 gathered-in (c ∷ bs) b (inr j) d i = in-right d (batchOf c) (gathered bs) (gathered-in bs b j d i)
 
@@ -68,15 +69,25 @@ some-datom b h e = head (batchOf b) (omega (arith, cells-length datomOf 32 (leng
     head (d ∷ ds) k = (d, inl refl)
 
 module _ (t : DatomOrd) (L : Preorder (t .cmp)) (size : ℕ) (known : capacity size ≡ 0 → ⊥) where
+  -- what a call took in is among the datoms that led to a root that grew from its root
+  still-there :
+      (c : Call) (root : PageId) (k₁ : Known) → GrewFrom (record { root = root; batches = givenBatch c ∷ givenRoot c .batches }) k₁ → (y : Datom) →
+      In y (batchOf (givenBatch c)) → In y (gathered (k₁ .batches))
+  still-there c root k₁ g =
+      gathered-in (k₁ .batches) (givenBatch c) (rw (g .1) (in-right (givenBatch c) (g .0) (givenBatch c ∷ givenRoot c .batches) (inl refl)))
+
+  pub stays-held : StaysHeld t size
+  stays-held m h c F root n e m₁ l k₁ i₁ g b w part =
+      beyond t L size known m₁ (h .0, later-later (next (h .1) (calls c F)) l) k₁ i₁ .asked b w .exactly .1 λ d j.
+      (d, still-there c root k₁ g d (part d j), same-self (t .cmp) L d)
+
   pub resending : Resending t size
-  resending m h c F root n e m₁ l k₁ i₁ g b lent w some part scratch ready =
+  resending m h c F root n e m₁ l k₁ i₁ g b w part lent some scratch ready =
       let I₁ = inv t L size known (later-later (next (h .1) (calls c F)) l) in
       let d = some-datom b some (w .multiple) in
-      let sent : In (givenBatch c) (k₁ .batches) =
-      rw (g .1) (in-right (givenBatch c) (g .0) (givenBatch c ∷ givenRoot c .batches) (inl refl)) in
       let o : outcomeOf t m₁ (inserts k₁ b scratch) ≡ refuse (Repeated 0) =
       shared-refused t L (m₁ .extent) (m₁ .store) scratch (gathered (k₁ .batches)) b (inserted-at t L size known I₁ k₁ i₁ b scratch lent) w ready
-      (d .0) (d .1) (λ y j. gathered-in (k₁ .batches) (givenBatch c) sent y (part y j)) in
+      (d .0) (d .1) (λ y j. still-there c root k₁ g y (part y j)) in
       (rw o, rw o (store-same (m₁ .extent) (m₁ .store)))
 
   pub accepted-formed : AcceptedFormed t size

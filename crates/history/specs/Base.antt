@@ -13,10 +13,10 @@ use Rattle.index.specs.Form.{eavt-may}
 use Rattle.rules.specs.Insert.{sort}
 use Rattle.rules.specs.Lists.{In}
 use Rattle.history.specs.Statement.{Known, Moment, History, gathered, HandsOut, Shared, Demand3}
-use Rattle.history.specs.More.{Beyond3, Resending, AcceptedFormed}
+use Rattle.history.specs.More.{Beyond3, Resending, StaysHeld, AcceptedFormed}
 use Rattle.history.specs.Sort.{within}
 use Rattle.history.specs.Demand.{demand, hands-out, beyond}
-use Rattle.history.specs.Again.{resending, accepted-formed}
+use Rattle.history.specs.Again.{resending, stays-held, accepted-formed}
 
 -- "Sizes 256, 568, 4096"
 abbrev pub sizes : List ℕ
@@ -43,6 +43,9 @@ base-beyond size i = beyond eavt eavt-preorder size (size-known size i)
 
 pub base-resending : (size : ℕ) → In size sizes → Resending eavt size
 base-resending size i = resending eavt eavt-preorder size (size-known size i)
+
+pub base-stays-held : (size : ℕ) → In size sizes → StaysHeld eavt size
+base-stays-held size i = stays-held eavt eavt-preorder size (size-known size i)
 
 pub base-accepted : (size : ℕ) → In size sizes → AcceptedFormed eavt size
 base-accepted size i = accepted-formed eavt eavt-preorder size (size-known size i)

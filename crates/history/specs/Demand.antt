@@ -28,6 +28,7 @@ use Rattle.history.specs.Held.{Excused}
 use Rattle.history.specs.Sort.{Fresh, within, sort-in, sort-rising, rising-once, within-in, within-rising}
 use Rattle.history.specs.Calls.{RootIs, root-known, Inserted, badly, early, met, stays, done}
 use Rattle.history.specs.Roots.{check-root}
+use Rattle.history.specs.Asked.{asked-ok}
 use Rattle.history.specs.Invariant.{KnownOk, inserted-at, inv}
 use Rattle.history.specs.Listing.{later-later, later-extends, ready, lists}
 
@@ -169,6 +170,9 @@ module _ (t : DatomOrd) (L : Preorder (t .cmp)) (size : ℕ) (known : capacity s
   beyond m h k i =
       record {
         answered = λ b lent w scratch e. answers m h k i b lent w scratch e .more;
+        asked = λ b w.
+            let I = inv t L size known (h .1) in
+            asked-ok t L (m .extent) (m .store) (gathered (k .batches)) (rw (I .sized) known) (I .fits) (k .root) (K m h k i .root) b w;
         cursors = cursors-fit m h k i;
         inOrder = ready t L size known (h .1);
         known = root-known t (m .extent) (m .store) (k .root) (K m h k i .root .holds);

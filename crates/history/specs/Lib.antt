@@ -30,6 +30,7 @@ pub mod Checks
 pub mod After
 pub mod Calls
 pub mod Roots
+pub mod Asked
 pub mod Invariant
 pub mod Listing
 pub mod Demand

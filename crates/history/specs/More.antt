@@ -1,18 +1,20 @@
 -- What is proved of a history beyond demand 3: which datom Repeated names and what else is answered, that words of 64 bits hold every
--- cursor, that the check finds no fault and every page can be read, and what becomes of a batch that is sent again. Rests on Statement;
--- Demand and Again prove it.
+-- cursor, that the check finds no fault and every page can be read, when a batch is held, and what becomes of one that is sent again.
+-- Rests on Statement; Demand, Asked and Again prove it.
 use Prim.Native.Nat.{ℕ, zero, suc, _^_, _<_, Ordering}
 use mathlib.Core.Bool.{true, false}
 use mathlib.Core.List.{List, _∷_, _++_}
-use mathlib.Core.Logic.{_⊎_}
+use mathlib.Core.Logic.{_⊎_, _↔_}
 use mathlib.Core.Path.{_≡_}
 use lib.ListN.{length}
 use Rattle.store.specs.declared.PageId.{PageId}
 use Rattle.datom.specs.declared.Datom.{Datom}
 use Rattle.index.specs.Order.{DatomOrd}
-use Rattle.answer.specs.declared.Refusal.the-variants.{Repeated, TooTall, NoRoom}
+use Rattle.answer.specs.declared.Refusal.the-variants.{Repeated, TooTall, NoRoom, NotHeld}
 use Rattle.answer.specs.declared.Answer.{Answer}
 use Rattle.answer.specs.declared.Answer.the-variants.{Done, Refused}
+use Rattle.answer.specs.declared.Held.{Held}
+use Rattle.answer.specs.declared.Held.the-variants as held
 use Rattle.answer.specs.declared.Started.{Started}
 use Rattle.answer.specs.declared.Stepped.{Stepped}
 use Rattle.answer.specs.declared.Check.the-variants.{Sound}
@@ -23,6 +25,7 @@ use Rattle.rules.specs.Store.{badStore, badScratch, badRoot, fetchPage}
 use Rattle.rules.specs.Insert.{batchOf}
 use Rattle.rules.specs.Listing.{startList}
 use Rattle.rules.specs.Check.{checkTree}
+use Rattle.rules.specs.Held.{heldBytes}
 use Rattle.rules.specs.Lists.{In}
 use Rattle.history.specs.Statement.{Known, Moment, Call, inserts, givenRoot, givenBatch, Lent, Fair, outcomeOf, after, Later, History, gathered, StepsAlong, WellFormed, Shared}
 
@@ -44,6 +47,23 @@ pub record Answered (cmp : Datom → Datom → Ordering) (u b : List Datom) (a :
       ((d : Datom) → In d b → Shared cmp u d → ⊥) →
       ((root : PageId) × (n : ℕ) × (a ≡ Done root n)) ⊎ ((a ≡ Refused TooTall) ⊎ (a ≡ Refused NoRoom))
 
+-- datom i of a batch is the first of it that is not as said
+pub record FirstNot (P : Datom → Type 0) (b : List Datom) (i : ℕ) : Type 0 where
+  pub before : List Datom
+  pub datom : Datom
+  pub rest : List Datom
+  pub batch : b ≡ before ++ (datom ∷ rest)
+  pub index : length before ≡ i
+  pub not : P datom → ⊥
+  pub held : (d : Datom) → In d before → P d
+
+-- a batch b that was asked for, answered a: held exactly if every datom is among those that led to the root, and else NotHeld names the first
+-- that is not
+pub record Asked (Among : Datom → Type 0) (b : List Datom) (a : Held) : Type 0 where
+  pub exactly : (a ≡ held.All) ↔ ((d : Datom) → In d b → Among d)
+  pub otherwise : (a ≡ held.All) ⊎ ((i : ℕ) × (a ≡ held.Refused (NotHeld i)))
+  pub first : (i : ℕ) → a ≡ held.Refused (NotHeld i) → FirstNot Among b i
+
 -- every cursor that n steps gave is one that words of 64 bits hold
 abbrev pub AllFit : ℕ → (ℕ → Stepped) → Type 0
 AllFit zero r = Unit {0}
@@ -60,6 +80,9 @@ pub record Beyond (t : DatomOrd) (m : Moment) (k : Known) : Type 0 where
   pub answered :
       (b : List ℕ) → Lent (m .store) b → WellFormed t b → (scratch : ℕ) → badScratch (m .extent) scratch ≡ false →
       Answered (t .cmp) (gathered (k .batches)) (batchOf b) (outcomeOf t m (inserts k b scratch) .answer)
+  pub asked :
+      (b : List ℕ) → WellFormed t b →
+      Asked (Shared (t .cmp) (gathered (k .batches))) (batchOf b) (heldBytes t (m .extent) (m .store) (k .root) b)
   pub cursors : (lo hi : Datom) → t .bound lo ≡ true → t .bound hi ≡ true → CursorsFit t m k lo hi
   -- neither 1, scratch apart, nor 5 is given
   pub inOrder : badStore (m .extent) (m .store) ≡ false
@@ -74,17 +97,23 @@ Beyond3 t size = (m : Moment) → History t size m → (k : Known) → In k (m .
 abbrev pub GrewFrom : Known → Known → Type 0
 GrewFrom k k₁ = (bs : List (List ℕ)) × (k₁ .batches ≡ bs ++ k .batches)
 
--- in the operator's words: what an accepted call took in, sent again whole or in part, at the root that it led to or at any that grew
--- from that one, is answered Repeated with index 0, and the store is byte for byte as before. Insert takes an ascending batch, so what
--- was handed to initialise in another order is sent again in order.
-abbrev pub Resending : DatomOrd → ℕ → Type 0
-Resending t size =
+-- what an accepted call took in, sent again whole or in part, at the root that it led to or at any that grew from that one, finds things
+-- as said. A batch ascends, so what was handed to initialise in another order is sent again in order.
+abbrev pub SentAgain : DatomOrd → ℕ → (Moment → Known → List ℕ → Type 0) → Type 0
+SentAgain t size Finds =
     (m : Moment) → History t size m → (c : Call) → Fair m c → (root : PageId) (n : ℕ) → outcomeOf t m c .answer ≡ Done root n →
     (m₁ : Moment) → Later t (after t m c) m₁ →
     (k₁ : Known) → In k₁ (m₁ .roots) → GrewFrom (record { root = root; batches = givenBatch c ∷ givenRoot c .batches }) k₁ →
-    (b : List ℕ) → Lent (m₁ .store) b → WellFormed t b → 0 < length b →
-    ((d : Datom) → In d (batchOf b) → In d (batchOf (givenBatch c))) →
-    (scratch : ℕ) → badScratch (m₁ .extent) scratch ≡ false →
+    (b : List ℕ) → WellFormed t b → ((d : Datom) → In d (batchOf b) → In d (batchOf (givenBatch c))) → Finds m₁ k₁ b
+
+-- in the operator's words: asked for, it is held
+abbrev pub StaysHeld : DatomOrd → ℕ → Type 0
+StaysHeld t size = SentAgain t size λ m₁ k₁ b. heldBytes t (m₁ .extent) (m₁ .store) (k₁ .root) b ≡ held.All
+
+-- and inserted it is answered Repeated with index 0, and the store is byte for byte as before
+abbrev pub Resending : DatomOrd → ℕ → Type 0
+Resending t size = SentAgain t size λ m₁ k₁ b.
+    Lent (m₁ .store) b → 0 < length b → (scratch : ℕ) → badScratch (m₁ .extent) scratch ≡ false →
     (outcomeOf t m₁ (inserts k₁ b scratch) .answer ≡ Refused (Repeated 0)) × (after t m₁ (inserts k₁ b scratch) .store ≡ m₁ .store)
 
 -- an accepted insert's batch is well formed, so it may be sent again as it is

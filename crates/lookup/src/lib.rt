@@ -1,5 +1,5 @@
 // The search for a batch that repeats a datom of the tree. Document 01: "Before writing, insert looks every batch datom up along its
-// path, in batch order."
+// path, in batch order." And for one that the tree does not hold all of.
 pub mod gap;
 
 use crate::gap::Gap;
@@ -25,6 +25,7 @@ ghost use Rattle.rules.specs.Page.{rising};
 ghost use Rattle.rules.specs.Node.{headSame};
 ghost use Rattle.rules.specs.Tree.{fine, fetchAt};
 ghost use Rattle.rules.specs.Lookup.{lookupAll};
+ghost use Rattle.rules.specs.Held.{heldAll};
 ghost use Rattle.rules.specs.Store.{badStore, fetchPage, envOf};
 ghost use Rattle.batch.specs.Finding.{findingOf};
 ghost use Rattle.memory_store.specs.Readable.{nodeAt};
@@ -182,6 +183,43 @@ pub fn lookup_all(
                 let gap = looked.gap;
                 path = looked.path;
                 i = gap::skip(gap, b, n, i + 1);
+            }
+            Look::Lost(page) => {
+                return Finding::Found(Refusal::Damaged(page));
+            }
+        }
+    }
+    Finding::Clear
+}
+
+// Whether each datom of the batch of n is met on its path from the root: the first that is not, or that comes to a page that cannot be
+// read. The root is of this level and count.
+pub fn held_all(
+    store: &[u8],
+    extent: Extent,
+    c: usize,
+    root: PageId,
+    level: usize,
+    count: usize,
+    b: &[u8],
+    n: usize,
+) -> Finding
+    requires { ⌜ (badStore extent (now store) ≡ false) × (c ≡ capacity (extent .size)) × (fetchPage eavt extent (now store) root ≡ fine (nodeAt extent (now store) root level count)) × (32 * n ≤ length (now b)) ⌝ }
+    ensures { λ r. ⌜ findingOf r ≡ heldAll (envOf eavt extent (now (store .entry))) level root (fetchPage eavt extent (now (store .entry)) root) 0 (datomsOf n (now (b .entry))) ⌝ }
+{
+    let mut path = Path::new();
+    let mut i = 0;
+    while i < n {
+        let d = datom::datom_at(b, 32 * i);
+        let looked = lookup_one(store, extent, c, root, level, count, path, d);
+        let look = looked.look;
+        match look {
+            Look::Met => {
+                path = looked.path;
+                i += 1;
+            }
+            Look::Absent => {
+                return Finding::Found(Refusal::NotHeld(i));
             }
             Look::Lost(page) => {
                 return Finding::Found(Refusal::Damaged(page));

@@ -9,10 +9,13 @@ use Rattle.store.specs.Words.{zeros}
 use Rattle.store.specs.Size.{capacity, scratchNeed}
 use Rattle.store.specs.Page.{page, none}
 use Rattle.datom.specs.declared.Datom.{Datom}
+use Rattle.datom.specs.Datom.{datomsBytes}
 use Rattle.index.specs.Order.{eavt}
-use Rattle.answer.specs.declared.Refusal.the-variants.{BadStore, TooMany, BadDatom, OutOfOrder, NoPage, Repeated, Damaged, TooTall, NoRoom, BadBound}
+use Rattle.answer.specs.declared.Refusal.the-variants.{BadStore, TooMany, BadDatom, OutOfOrder, NoPage, Repeated, Damaged, TooTall, NoRoom, BadBound, NotHeld}
 use Rattle.answer.specs.declared.Answer.{Answer}
 use Rattle.answer.specs.declared.Answer.the-variants.{Done, Refused}
+use Rattle.answer.specs.declared.Held.{Held}
+use Rattle.answer.specs.declared.Held.the-variants as held
 use Rattle.answer.specs.declared.Cursor.{Cursor}
 use Rattle.answer.specs.declared.Step.the-variants as step
 use Rattle.answer.specs.declared.Stepped.{Stepped}
@@ -24,12 +27,17 @@ use Rattle.rules.specs.Store.{badStore, envOf, storeAfter}
 use Rattle.rules.specs.Insert.{Outcome, leafOf, insert, initialise, insertBytes}
 use Rattle.rules.specs.Listing.{eight, Listed, whole, cut, startList, stepList, listing}
 use Rattle.rules.specs.Check.{checkTree}
+use Rattle.rules.specs.Held.{heldBytes}
 use Rattle.rules.specs.Table.{d, run, scratch, Place, went, calls}
 use Rattle.rules.specs.Open.{rules}
 
 -- a datom with entity and attribute 0
 abbrev valued : ℕ → Datom
 valued v = record { entity = record { 0 = 0 }; attribute = record { 0 = 0 }; value = record { 0 = v }; «transaction_operation» = record { 0 = 0 } }
+
+-- a datom above d(0) and below d(1)
+abbrev keyed : Datom
+keyed = record { entity = record { 0 = 0 }; attribute = record { 0 = 2 }; value = record { 0 = 0 }; «transaction_operation» = record { 0 = 3 } }
 
 -- an initialise of an empty store with room for n pages
 abbrev fresh : ℕ → List Datom → Outcome
@@ -47,6 +55,9 @@ listed p root lo hi = listing eavt (p .extent) (p .store) 20 (startList eavt (p 
 
 abbrev checked : Place → PageId → Check
 checked p root = checkTree eavt (p .extent) (p .store) root
+
+abbrev asked : Place → PageId → List Datom → Held
+asked p root ds = heldBytes eavt (p .extent) (p .store) root (datomsBytes ds)
 
 -- a byte of the store set
 abbrev poked : Place → ℕ → ℕ → Place
@@ -396,3 +407,53 @@ repeated-before-damaged = refl
 damaged-before-repeated : inserted (poked c 249 7) (page 2) (valued 0 ∷ d 6 ∷ []) ≡ Refused (Damaged (page 0))
 unfolding rules
 damaged-before-repeated = refl
+
+-- document 02, Ten: "if the tree holds all its datoms", "16 NotHeld(i) .. with datom i missing, the first such"
+holds-all : asked c (page 2) (run 0 7) ≡ held.All
+unfolding rules
+holds-all = refl
+
+holds-no-first : asked c (page 2) (valued 0 ∷ d 0 ∷ []) ≡ held.Refused (NotHeld 0)
+unfolding rules
+holds-no-first = refl
+
+holds-no-third : asked c (page 2) (d 0 ∷ d 3 ∷ d 7 ∷ d 8 ∷ []) ≡ held.Refused (NotHeld 2)
+unfolding rules
+holds-no-third = refl
+
+-- an insert of the same batch says Repeated: one datom is held, and it does not say that the others are
+repeated-not-held : inserted c (page 2) (d 0 ∷ d 3 ∷ d 7 ∷ d 8 ∷ []) ≡ Refused (Repeated 0)
+unfolding rules
+repeated-not-held = refl
+
+-- an empty batch is held at every root, and no page is read for it: page 2 has level 8
+empty-at-none : asked c none [] ≡ held.All
+unfolding rules
+empty-at-none = refl
+
+empty-reads-nothing : asked (poked c 760 8) (page 2) [] ≡ held.All
+unfolding rules
+empty-reads-nothing = refl
+
+-- root "none" holds nothing
+none-holds-nothing : asked c none (d 0 ∷ []) ≡ held.Refused (NotHeld 0)
+unfolding rules
+none-holds-nothing = refl
+
+-- "after 1, 2, 3, 4 and 5": 5 is given for an empty batch too
+root-before-empty : asked c (page 9) [] ≡ held.Refused NoPage
+unfolding rules
+root-before-empty = refl
+
+-- "and 7 as met": page 1 has a bad count, and then the root has another level
+absent-before-damaged : asked (poked c 505 7) (page 2) (d 0 ∷ keyed ∷ d 4 ∷ []) ≡ held.Refused (NotHeld 1)
+unfolding rules
+absent-before-damaged = refl
+
+damaged-before-absent : asked (poked c 505 7) (page 2) (d 0 ∷ d 4 ∷ d 9 ∷ []) ≡ held.Refused (Damaged (page 1))
+unfolding rules
+damaged-before-absent = refl
+
+root-damaged : asked (poked c 760 8) (page 2) (d 0 ∷ []) ≡ held.Refused (Damaged (page 2))
+unfolding rules
+root-damaged = refl

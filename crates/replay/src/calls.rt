@@ -68,7 +68,7 @@ fn after(
     at: usize,
     area: &[u8; 32],
     place: usize,
-    counts: &mut [u64; 12],
+    counts: &mut [u64; 13],
 ) -> Extent
     requires { ⌜ at ≤ 600 ⌝ }
 {
@@ -87,7 +87,7 @@ fn initialise(
     scratch: &mut [u8],
     extent: Extent,
     recorded: &[u8],
-    counts: &mut [u64; 12],
+    counts: &mut [u64; 13],
 ) -> Extent {
     let mut area = [0u8; 32];
     let n = record::word(recorded, 2) % 129;
@@ -105,12 +105,18 @@ fn initialise(
     )
 }
 
+// Whether the tree at a root holds all of a batch. The Rust has no such call: what it has put in is what is held.
+fn is_held(store: &[u8], extent: Extent, root: u64, batch: &[u8]) -> bool {
+    let mut area = [0u8; 32];
+    florinwick::florinwick_held(store, extent.size, extent.count, root, batch, &mut area) == 0
+}
+
 fn insert(
     store: &mut [u8],
     scratch: &mut [u8],
     extent: Extent,
     recorded: &[u8],
-    counts: &mut [u64; 12],
+    counts: &mut [u64; 13],
 ) -> Extent {
     let mut area = [0u8; 32];
     let root = record::word(recorded, 2);
@@ -126,7 +132,10 @@ fn insert(
         &mut area,
     );
     let at = 4 + 4 * (n as usize);
-    after(store, extent, recorded, at, &area, tally::INSERTED, counts)
+    let left = after(store, extent, recorded, at, &area, tally::INSERTED, counts);
+    let is_same = is_held(store, left, store::word(&area, 8), batch);
+    tally::settle(counts, is_same, tally::HELD);
+    left
 }
 
 // The next datom of a listing: 0, or 32 at its end.
@@ -183,7 +192,7 @@ fn is_listed(store: &[u8], extent: Extent, cursor: &mut [u8; 264], recorded: &[u
     next_datom(store, extent, cursor, &mut datom) == 32
 }
 
-fn list(store: &[u8], extent: Extent, recorded: &[u8], counts: &mut [u64; 12]) {
+fn list(store: &[u8], extent: Extent, recorded: &[u8], counts: &mut [u64; 13]) {
     let mut area = [0u8; 32];
     let mut cursor = [0u8; 264];
     let number = florinwick::list::florinwick_list_start(
@@ -207,7 +216,7 @@ fn list(store: &[u8], extent: Extent, recorded: &[u8], counts: &mut [u64; 12]) {
 }
 
 // Sound is 0 with 0 for its page, Unsound 33 with the page of the first fault.
-fn check(store: &[u8], extent: Extent, recorded: &[u8], counts: &mut [u64; 12]) {
+fn check(store: &[u8], extent: Extent, recorded: &[u8], counts: &mut [u64; 13]) {
     let mut area = [0u8; 32];
     let root = record::word(recorded, 2);
     let number = florinwick::florinwick_check(store, extent.size, extent.count, root, &mut area);
@@ -225,7 +234,7 @@ fn check(store: &[u8], extent: Extent, recorded: &[u8], counts: &mut [u64; 12]) 
 }
 
 // The page of a record goes into the store: damage, or its repair.
-fn poke(store: &mut [u8], extent: Extent, recorded: &[u8], counts: &mut [u64; 12]) {
+fn poke(store: &mut [u8], extent: Extent, recorded: &[u8], counts: &mut [u64; 13]) {
     let at = bytes_of(extent, record::word(recorded, 1));
     let page = record::part(recorded, 16, bytes_of(extent, 1));
     if (store.len() as u64) < at + (page.len() as u64) {
@@ -237,14 +246,14 @@ fn poke(store: &mut [u8], extent: Extent, recorded: &[u8], counts: &mut [u64; 12
 }
 
 // The page count and all pages at the end of a history.
-fn end(store: &[u8], extent: Extent, recorded: &[u8], counts: &mut [u64; 12]) {
+fn end(store: &[u8], extent: Extent, recorded: &[u8], counts: &mut [u64; 13]) {
     let all = record::part(store, 0, bytes_of(extent, extent.count));
     let is_same = extent.count == record::word(recorded, 1)
         && record::digest(0, all) == record::word(recorded, 2);
     tally::settle(counts, is_same, tally::ENDED);
 }
 
-fn begin(recorded: &[u8], counts: &mut [u64; 12]) -> Extent {
+fn begin(recorded: &[u8], counts: &mut [u64; 13]) -> Extent {
     tally::add(counts, tally::HISTORIES, 1);
     Extent {
         size: record::word(recorded, 1),
@@ -253,7 +262,7 @@ fn begin(recorded: &[u8], counts: &mut [u64; 12]) -> Extent {
 }
 
 // Calls that read only, and the bytes that come from outside.
-fn look(store: &mut [u8], extent: Extent, recorded: &[u8], counts: &mut [u64; 12]) {
+fn look(store: &mut [u8], extent: Extent, recorded: &[u8], counts: &mut [u64; 13]) {
     let kind = record::word(recorded, 0);
     if kind == LIST {
         list(store, extent, recorded, counts);
@@ -280,7 +289,7 @@ pub fn replay(
     scratch: &mut [u8],
     extent: Extent,
     recorded: &[u8],
-    counts: &mut [u64; 12],
+    counts: &mut [u64; 13],
 ) -> Extent {
     let kind = record::word(recorded, 0);
     if kind == BEGIN {

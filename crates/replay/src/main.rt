@@ -18,7 +18,7 @@ fn replay_next(
     scratch: &mut [u8],
     recorded: &mut [u8],
     extent: Extent,
-    counts: &mut [u64; 12],
+    counts: &mut [u64; 13],
 ) -> Turn {
     let n = record::next(recorded);
     if n == 0 {
@@ -39,7 +39,7 @@ fn replay_all(
     store: &mut [u8; 1048576],
     scratch: &mut [u8; 332352],
     recorded: &mut [u8; 65536],
-    counts: &mut [u64; 12],
+    counts: &mut [u64; 13],
 ) {
     let mut turns: u64 = 1000000;
     let mut turn = Turn {
@@ -57,7 +57,7 @@ fn main() {
     let mut store = [0u8; 1048576];
     let mut scratch = [0u8; 332352];
     let mut recorded = [0u8; 65536];
-    let mut counts = [0u64; 12];
+    let mut counts = [0u64; 13];
     replay_all(&mut store, &mut scratch, &mut recorded, &mut counts);
     tally::print(&counts);
     examples::run(&mut store, &mut scratch);

@@ -24,18 +24,20 @@ pub const BY_BOTH: usize = 10;
 
 pub const DIFFERENT: usize = 11;
 
+pub const HELD: usize = 12;
+
 // How many counts there are.
-pub const PLACES: usize = 12;
+pub const PLACES: usize = 13;
 
 // n more at a place.
-pub fn add(counts: &mut [u64; 12], place: usize, n: u64) {
+pub fn add(counts: &mut [u64; 13], place: usize, n: u64) {
     if place < PLACES {
         counts[place] = std::num::wrapping_add_u64(counts[place], n);
     }
 }
 
 // One more at this place if what was answered is what was recorded, and else one more that differs.
-pub fn settle(counts: &mut [u64; 12], is_same: bool, place: usize) {
+pub fn settle(counts: &mut [u64; 13], is_same: bool, place: usize) {
     if is_same {
         add(counts, place, 1);
     } else {
@@ -48,7 +50,7 @@ pub fn line(n: u64, what: &[u8]) {
     io::write_all(1, what);
 }
 
-pub fn print(counts: &[u64; 12]) {
+pub fn print(counts: &[u64; 13]) {
     line(counts[HISTORIES], b" histories begun\n");
     line(counts[ENDED], b" histories ended with the recorded store\n");
     line(counts[INITIALISED], b" initialise\n");
@@ -56,6 +58,10 @@ pub fn print(counts: &[u64; 12]) {
     line(
         counts[PAGES],
         b" pages of these, byte for byte or by digest\n",
+    );
+    line(
+        counts[HELD],
+        b" batches of insert, held at the root that they led to\n",
     );
     line(counts[LISTED], b" listings\n");
     line(counts[DATOMS], b" datoms of these\n");

@@ -8,6 +8,7 @@ pub mod Insert
 pub mod Entry
 pub mod Listing
 pub mod Check
+pub mod Held
 pub mod Table
 pub mod Open
 pub mod Starred

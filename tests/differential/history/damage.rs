@@ -112,7 +112,7 @@ impl History<'_> {
         self.read_damaged(at)
     }
 
-    /// Listings and made-up cursors over the damaged page, by the rules; then it is repaired.
+    /// Listings, made-up cursors and batches that are asked for over the damaged page, by the rules; then it is repaired.
     fn read_damaged(&mut self, at: usize) -> Result<(), Fault> {
         let root = self.trees[at].root;
         for _ in 0..3 {
@@ -121,6 +121,10 @@ impl History<'_> {
             self.reader().list(root, &lower, &upper, STEPS)?;
         }
         self.made_up_cursors()?;
+        for _ in 0..3 {
+            let batch = self.asked_batch(at);
+            self.ask_for(root, &batch)?;
+        }
         self.repair();
         Ok(())
     }

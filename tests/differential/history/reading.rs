@@ -1,8 +1,8 @@
 //! Listings and checks at the roots of a history, and steps from made-up cursors.
 
-use harness::{compare, Datom, Held, Oracle, Random, Verdict, Which, MAX_VALUE, NONE};
+use harness::{compare, Datom, Held, Oracle, Plan, Random, Verdict, Which, MAX_VALUE, NONE};
 
-use super::History;
+use super::{History, MOST};
 use crate::library::Lent;
 use crate::model::{Cursor, End, Model, Step};
 use crate::reader::{Fault, Reader};
@@ -17,6 +17,7 @@ const LOOKS: usize = 12;
 pub enum Reading {
     List(u64, Datom, Datom),
     Check(u64),
+    Held(u64, Vec<Datom>),
     Step(Cursor),
     Other(String),
 }
@@ -28,6 +29,7 @@ impl Reading {
         match self {
             Reading::List(root, lower, upper) => format!("list {} {} {}\n", root, text(lower), text(upper)),
             Reading::Check(root) => format!("check {}\n", root),
+            Reading::Held(root, batch) => format!("# whether {} holds {:?}\n", root, batch),
             Reading::Step(cursor) => format!("# a step with {:?}\n", cursor),
             Reading::Other(call) => format!("# {}\n", call),
         }
@@ -43,6 +45,7 @@ impl History<'_> {
         match self.random.below(16) {
             0 | 1 => self.list_between(),
             2 => self.check_some(),
+            11 | 12 => self.ask_some(),
             3 => self.fetch_some(),
             4 => self.made_up_cursors(),
             5 => self.wrong_readings(),
@@ -127,6 +130,50 @@ impl History<'_> {
             None => Ok(()),
             Some(page) => Err(format!("the check finds a fault at page {}", page)),
         }
+    }
+
+    /// A batch is held exactly if each of its datoms was put in on the way to the root; else the first that was not is named.
+    fn ask_some(&mut self) -> Result<(), Fault> {
+        let at = self.some_tree();
+        let batch = self.asked_batch(at);
+        let (root, held) = match self.random.one_in(20) {
+            true => (NONE, self.supply.nothing_held()),
+            false => (self.trees[at].root, self.trees[at].held.clone()),
+        };
+        let put_in = batch.iter().position(|&i| !held[i]).map_or((0, 0), |first| (16, first as u64));
+        let told = self.ask_for(root, &batch)?;
+        if told != put_in {
+            return Err(format!("a batch that is asked for is answered {:?}, and by what was put in it is {:?}", told, put_in));
+        }
+        Ok(())
+    }
+
+    pub(super) fn ask_for(&mut self, root: u64, batch: &[usize]) -> Result<(u64, u64), Fault> {
+        let datoms = self.supply.datoms(batch);
+        self.reading = Some(Reading::Held(root, datoms.clone()));
+        self.reader().held(root, &datoms)
+    }
+
+    /// A batch of this tree or another, or some of what the tree holds; now and then with datoms that it does not hold.
+    pub(super) fn asked_batch(&mut self, at: usize) -> Vec<usize> {
+        let from = self.some_tree();
+        let places: Vec<usize> = (0..self.trees[at].held.len()).filter(|&i| self.trees[at].held[i]).collect();
+        let mut batch = match self.random.below(3) {
+            0 => self.trees[from].batch.clone(),
+            1 => self.trees[at].batch.clone(),
+            _ if places.is_empty() => Vec::new(),
+            _ => (0..1 + self.random.below(MOST)).map(|_| self.random.pick(&places)).collect(),
+        };
+        if self.random.one_in(3) {
+            let size = 1 + self.random.below(3);
+            batch.extend(self.supply.batch(&self.trees[at].held, Plan::Scattered, size, &mut self.random));
+        }
+        batch.sort();
+        batch.dedup();
+        while batch.len() > MOST {
+            batch.remove(self.random.below(batch.len()));
+        }
+        batch
     }
 
     /// Pages below the count and past it.

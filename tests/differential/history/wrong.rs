@@ -1,9 +1,9 @@
-//! Calls that read with wrong sizes, counts, areas, bounds and roots, several at a time: the first number in document 01's order.
+//! Calls that read with wrong sizes, counts, areas, bounds, batches and roots, several at a time: the first number in document 01's order.
 
-use harness::{capacity, is_bound, Random, MAX_VALUE, NONE};
+use harness::{capacity, compare, is_bound, is_storable, Random, MAX_VALUE, NONE};
 
 use super::reading::Reading;
-use super::History;
+use super::{History, MOST};
 use crate::library::{bytes_of, datoms_of, Answer, Asked, Lent};
 use crate::model::{Cursor, CURSOR_BYTES};
 use crate::reader::{same, Fault};
@@ -13,6 +13,7 @@ struct Wrong<'a> {
     asked: Asked<'a>,
     root: u64,
     bounds: [Vec<u8>; 2],
+    batch: Vec<u8>,
     cursor: Vec<u8>,
     datom: usize,
 }
@@ -47,6 +48,24 @@ impl Wrong<'_> {
         }
     }
 
+    /// "after 1, 2, 3, 4 and 5", with the index of 3 and 4.
+    fn number_of_held(&self) -> (u64, u64) {
+        let datoms = datoms_of(&self.batch);
+        let malformed = datoms.iter().position(|datom| !is_storable(datom));
+        let unordered = datoms.windows(2).position(|pair| compare(&pair[0], &pair[1]).is_ge());
+        if self.is_bad_store() {
+            (1, 0)
+        } else if self.batch.len() % 32 != 0 || datoms.len() > MOST {
+            (2, 0)
+        } else if let Some(i) = malformed {
+            (3, i as u64)
+        } else if let Some(i) = unordered {
+            (4, i as u64 + 1)
+        } else {
+            (self.number_of_check(), 0)
+        }
+    }
+
     fn number_of_step(&self) -> u64 {
         (self.is_bad_store() || self.cursor.len() != CURSOR_BYTES || self.datom != 32) as u64
     }
@@ -58,9 +77,14 @@ impl Wrong<'_> {
     }
 
     /// Makes the calls that are to be refused, and says how many there were.
-    fn compare(&self, random: &mut Random) -> Result<[u64; 4], Fault> {
-        let numbers = [self.number_of_check(), self.number_of_fetch(), self.number_of_start(), self.number_of_step()];
-        let [check, fetch, start, step] = numbers;
+    fn compare(&self, random: &mut Random) -> Result<[u64; 5], Fault> {
+        let (held, index) = self.number_of_held();
+        let numbers = [self.number_of_check(), self.number_of_fetch(), self.number_of_start(), self.number_of_step(), held];
+        let [check, fetch, start, step, _] = numbers;
+        if held != 0 {
+            let refused = Answer { detail: index, ..self.refused(held, self.root) };
+            same("the answer to a batch that is asked for", &self.asked.held(self.root, &self.batch, random)?, &refused)?;
+        }
         if check != 0 {
             same("the check's answer", &self.asked.check(self.root, random)?, &self.refused(check, self.root))?;
         }
@@ -87,6 +111,8 @@ impl History<'_> {
     pub(super) fn wrong_readings(&mut self) -> Result<(), Fault> {
         let at = self.some_tree();
         let (lower, upper) = self.bounds(at);
+        let batch = self.asked_batch(at);
+        let batch = bytes_of(&self.supply.datoms(&batch));
         let (root, count, size) = (self.trees[at].root, self.patched.count(), self.shape.page_size as u64);
         let random = &mut self.random;
         let store = self.store.shown(random.below(32));
@@ -94,12 +120,13 @@ impl History<'_> {
             asked: Asked { store, page_size: size, page_count: count, area: 32 },
             root,
             bounds: [bytes_of(&[lower]), bytes_of(&[upper])],
+            batch,
             cursor: Cursor { height: random.word(), ..Cursor::default() }.bytes(),
             datom: 32,
         };
         for _ in 0..1 + random.below(3) {
             let side = random.below(2);
-            match random.below(8) {
+            match random.below(10) {
                 0 => wrong.asked.page_size = random.pick(&[0, 1, size - 1, size + 1, 512, 1 << 32, u64::MAX]),
                 1 => wrong.asked.page_count = random.pick(&[store.len() as u64 / size + 1, 1 << 56, 1 << 63, u64::MAX]),
                 2 => wrong.asked.area = random.pick(&[0, 1, 31, 33, 40]),
@@ -110,16 +137,34 @@ impl History<'_> {
                     let malformed = [1 << 62, 3 << 62, 0x8100_0000_0000_6161, 0x8800_0000_0000_0000, MAX_VALUE - 1];
                     wrong.bounds[side] = bytes_of(&[[lower[0], lower[1], random.pick(&malformed), lower[3]]]);
                 }
+                7 => spoil(&mut wrong.batch, random),
+                8 => wrong.batch.resize(random.pick(&[1, 31, 33, 32 * MOST + 32, 32 * MOST + 1]), 7),
                 _ => wrong.root = random.pick(&[count, count + 1, NONE - 1]),
             }
         }
         self.reading = Some(Reading::Other(format!(
-            "check, fetch, start and step with page size {}, count {}, root {}, bounds {:?}, areas of {}, {} and {} bytes",
-            wrong.asked.page_size, wrong.asked.page_count, wrong.root, wrong.bounds, wrong.cursor.len(), wrong.datom, wrong.asked.area,
+            "check, fetch, start, step and held with page size {}, count {}, root {}, bounds {:?}, batch {:?}, areas of {}, {} and {} bytes",
+            wrong.asked.page_size, wrong.asked.page_count, wrong.root, wrong.bounds, wrong.batch, wrong.cursor.len(), wrong.datom,
+            wrong.asked.area,
         )));
         for number in wrong.compare(random)? {
             self.tally.answers[number as usize] += (number != 0) as u64;
         }
         Ok(())
+    }
+}
+
+/// A datom of the batch gets a malformed value, or one is equal to an earlier one.
+fn spoil(batch: &mut [u8], random: &mut Random) {
+    let count = batch.len() / 32;
+    if count < 2 {
+        return;
+    }
+    let later = 1 + random.below(count - 1);
+    if random.one_in(2) {
+        batch[32 * later + 16..32 * later + 24].copy_from_slice(&MAX_VALUE.to_le_bytes());
+    } else {
+        let earlier = 32 * random.below(later);
+        batch.copy_within(earlier..earlier + 32, 32 * later);
     }
 }

@@ -1,0 +1,3 @@
+-- What the call that asks for a batch answers, against the rules.
+pub mod Ways
+pub mod Answers

@@ -1,16 +1,18 @@
-// A replicator that loses its line: a feed of fills, a failover, the last batch sent again, and the receipt that tells what became of it.
+// A replicator that loses its line: a feed of fills, a failover, what is in doubt sent again in batches that are cut elsewhere, and the
+// receipts that tell what became of each.
 //
 // The store lies in memory here; tools/florin keeps one in a file.
 #include "florinwick.hpp"
 
+#include <algorithm>
 #include <cstdio>
 #include <cstdlib>
 #include <vector>
 
 using florinwick::Answer;
-using florinwick::Batch;
 using florinwick::Datom;
 using florinwick::Number;
+using florinwick::Span;
 using florinwick::Value;
 
 namespace {
@@ -19,9 +21,9 @@ namespace {
 enum Attribute : std::uint64_t { kSymbol = 1, kPrice = 2, kQuantity = 3 };
 
 const std::uint64_t kPageSize = 4096;
-const std::size_t kFillsInBatch = 3;
 
 struct Fill {
+    std::uint64_t report;   // the venue's number of it
     std::uint64_t order;
     const char *symbol;
     std::uint64_t price;
@@ -30,39 +32,73 @@ struct Fill {
 
 // What the venue reported, in the order in which it did.
 const Fill kFeed[] = {
-    {7001, "FGBL", 13142, 10}, {7002, "FGBL", 13143, 5}, {7003, "FDAX", 18220, 1},
-    {7004, "FESX", 4988, 40},  {7005, "FGBL", 13141, 8}, {7006, "FDAX", 18221, 2},
-    {7007, "FGBM", 11804, 25}, {7008, "FESX", 4987, 30}, {7009, "FGBL", 13144, 3},
+    {1, 7001, "FGBL", 13142, 10}, {2, 7002, "FGBL", 13143, 5}, {3, 7003, "FDAX", 18220, 1},
+    {4, 7004, "FESX", 4988, 40},  {5, 7005, "FGBL", 13141, 8}, {6, 7006, "FDAX", 18221, 2},
+    {7, 7007, "FGBM", 11804, 25}, {8, 7008, "FESX", 4987, 30}, {9, 7009, "FGBL", 13144, 3},
 };
-const std::size_t kBatches = sizeof kFeed / sizeof kFeed[0] / kFillsInBatch;
 
-// The datoms of a batch rise by entity and attribute, as they are written here. False if a value or the batch is too large.
-bool fill_batch(std::size_t number, Batch &batch) {
-    const std::uint64_t transaction = 2 * (number + 1);
-    for (std::size_t i = 0; i < kFillsInBatch; ++i) {
-        const Fill &fill = kFeed[number * kFillsInBatch + i];
+// Three datoms for each fill; they rise by entity and attribute, as they are written here. The transaction is made of the venue's number
+// and of nothing that a replicator chooses: a fill that is sent again must be the same datoms, wherever its batch is cut.
+std::vector<Datom> datoms_of(Span<const Fill> fills) {
+    std::vector<Datom> datoms;
+    for (const Fill &fill : fills) {
         const auto symbol = Value::text(fill.symbol), price = Value::integer(fill.price), quantity = Value::integer(fill.quantity);
-        if (!symbol || !price || !quantity) return false;
-        if (!batch.add(Datom::asserted(fill.order, kSymbol, *symbol, transaction))) return false;
-        if (!batch.add(Datom::asserted(fill.order, kPrice, *price, transaction))) return false;
-        if (!batch.add(Datom::asserted(fill.order, kQuantity, *quantity, transaction))) return false;
+        if (!symbol || !price || !quantity) std::abort();
+        const std::uint64_t transaction = 2 * fill.report;   // even, so there is a datom
+        datoms.push_back(*Datom::asserted(fill.order, kSymbol, *symbol, transaction));
+        datoms.push_back(*Datom::asserted(fill.order, kPrice, *price, transaction));
+        datoms.push_back(*Datom::asserted(fill.order, kQuantity, *quantity, transaction));
+    }
+    return datoms;
+}
+
+bool is_done(const Answer &answer) {
+    if (answer.done()) {
+        std::printf("Done, root %llu, %llu pages written\n", static_cast<unsigned long long>(answer.root),
+                    static_cast<unsigned long long>(answer.pages));
+    } else {
+        std::printf("%s (%d), datom %llu; root %llu stays\n", answer.name(), static_cast<int>(answer.number),
+                    static_cast<unsigned long long>(answer.detail), static_cast<unsigned long long>(answer.root));
+    }
+    return answer.done();
+}
+
+// The datoms of a batch that the tree does not hold: each answer names the first of what is left. False if one is refused.
+bool find_rest(const florinwick::Reader &reader, std::uint64_t root, Span<const Datom> batch, std::vector<Datom> &rest) {
+    for (Answer answer = reader.held(root, batch); !answer.done(); answer = reader.held(root, batch)) {
+        if (answer.number != Number::NotHeld) return false;
+        rest.push_back(batch[answer.detail]);
+        batch = batch.from(answer.detail + 1);
     }
     return true;
 }
 
-// The one place where a batch is sent, the first time and every time again.
-Answer send(florinwick::Store &store, std::size_t number) {
-    Batch batch;
-    if (!fill_batch(number, batch)) std::abort();
+// The one place where a batch is sent, the first time and every time again. True once the tree holds every datom of it.
+bool send(florinwick::Store &store, Span<const Fill> fills) {
+    const std::vector<Datom> batch = datoms_of(fills);
+    std::printf("fills %llu to %llu: ", static_cast<unsigned long long>(fills[0].report),
+                static_cast<unsigned long long>(fills[fills.size() - 1].report));
     const Answer answer = store.insert(batch);
-    if (answer.done()) {
-        std::printf("batch %zu: Done, root %llu, %llu pages written\n", number, static_cast<unsigned long long>(answer.root),
-                    static_cast<unsigned long long>(answer.pages));
-    } else {
-        std::printf("batch %zu: %s (%d), datom %llu; root %llu stays\n", number, answer.name(), static_cast<int>(answer.number),
-                    static_cast<unsigned long long>(answer.detail), static_cast<unsigned long long>(answer.root));
+    if (is_done(answer)) return true;
+    if (answer.number != Number::Repeated) return false;
+
+    // Repeated says that the tree holds one datom of the batch. It does not say that it holds the others.
+    std::vector<Datom> rest;
+    if (!find_rest(store.reader(), store.root(), batch, rest)) return false;
+    if (rest.empty()) {
+        std::puts("  The tree holds all of it.");
+        return true;
     }
-    return answer;
+    std::printf("  The tree holds %zu of its %zu datoms. The rest: ", batch.size() - rest.size(), batch.size());
+    return is_done(store.insert(rest));
+}
+
+// A part of the feed in batches of so many fills.
+bool send_all(florinwick::Store &store, Span<const Fill> fills, std::size_t fills_in_batch) {
+    for (; !fills.empty(); fills = fills.from(std::min(fills_in_batch, fills.size()))) {
+        if (!send(store, fills.first(std::min(fills_in_batch, fills.size())))) return false;
+    }
+    return true;
 }
 
 // Sums the quantity of one symbol's orders, as the position clerk would. False if the listing was refused.
@@ -71,8 +107,8 @@ bool position_of(const florinwick::Reader &reader, std::uint64_t root, const cha
     position = 0;
     florinwick::Listing listing = reader.list(root);
     for (const Datom &datom : listing) {
-        if (datom.attribute == kSymbol) is_symbol = datom.value.word == Value::text(symbol)->word;
-        if (datom.attribute == kQuantity && is_symbol) position += datom.value.word;
+        if (datom.attribute == kSymbol) is_symbol = datom.value == Value::text(symbol);
+        if (datom.attribute == kQuantity && is_symbol) position += datom.value.as_integer().value_or(0);
     }
     // The loop ends at a refusal too. A sum over half a listing is no position.
     return listing.ended();
@@ -85,27 +121,31 @@ bool print_position(const florinwick::Reader &reader, std::uint64_t root, const 
     return true;
 }
 
+// Whether the tree has what the feed has: every fill, each once.
+bool has_all(const florinwick::Reader &reader, std::uint64_t root) {
+    const std::vector<Datom> all = datoms_of(kFeed);
+    florinwick::Listing listing = reader.list(root);
+    return std::equal(listing.begin(), listing.end(), all.begin(), all.end()) && listing.ended();
+}
+
 }  // namespace
 
 int main() {
     std::vector<std::uint8_t> bytes(64 * kPageSize);
     std::vector<std::uint8_t> scratch(florinwick::Store::scratch_need(kPageSize));
     florinwick::Store store(bytes, kPageSize, scratch);
+    const Span<const Fill> feed(kFeed);
 
-    std::puts("The first replicator sends two batches. The line breaks before it hears of the second.");
-    if (!send(store, 0) || !send(store, 1)) return 1;
+    std::puts("The first replicator sends three fills at a time. The line breaks before it hears of its second batch.");
+    if (!send_all(store, feed.first(6), 3)) return 1;
     const std::uint64_t root_at_failover = store.root();
 
-    std::puts("The second replicator takes over. It cannot know whether batch 1 arrived, so it sends it again.");
-    if (send(store, 1).number != Number::Repeated) return 1;
-    std::puts("Its first datom is there. Batches go in whole, so all of batch 1 is, and nothing was written twice. It goes on.");
-    for (std::size_t number = 2; number < kBatches; ++number) {
-        if (!send(store, number)) return 1;
-    }
+    std::puts("The second one knows of the first batch alone. It sends all that follows, two fills at a time.");
+    if (!send_all(store, feed.from(3), 2)) return 1;
 
     const florinwick::Reader reader = store.reader();
     if (!print_position(reader, root_at_failover, "at the failover") || !print_position(reader, store.root(), "now")) return 1;
-    if (!reader.check(store.root())) return 1;
-    std::puts("Every page is sound.");
+    if (!has_all(reader, store.root()) || !reader.check(store.root())) return 1;
+    std::puts("Every fill is there once, and every page is sound.");
     return 0;
 }

@@ -1,14 +1,16 @@
-// Florinwick for C++17: what florinwick.h offers, with names for the numbers, datoms as values and a listing for range-for.
+// Florinwick for C++17: what florinwick.h offers, with names for the numbers, datoms as values and a listing to loop over.
 //
 // Header only. It allocates nothing and throws nothing: every byte is lent by the caller, and every answer is looked at.
 //
 //     florinwick::Store store({bytes, length}, 4096, {scratch, scratch_length});
-//     florinwick::Batch batch;
-//     if (!batch.add(datom)) ..                                 // 128 are in it already
-//     florinwick::Answer answer = store.insert(batch);          // Done: root and page count of `store` have moved on
+//     std::vector<florinwick::Datom> fills = ..                 // ascending, at most 128; or a Batch, which allocates nothing
+//     florinwick::Answer answer = store.insert(fills);          // Done: root and page count of `store` have moved on
 //     florinwick::Listing listing = store.reader().list(store.root(), lower, upper);
 //     for (const florinwick::Datom &datom : listing) use(datom);
 //     if (!listing.ended()) complain(listing.answer());         // a refusal ends the loop too: ask which it was
+//
+// Repeated says that the tree holds one datom of the batch, the first of them at the index; it does not say that it holds the others.
+// `Reader::held` says that.
 #ifndef FLORINWICK_HPP
 #define FLORINWICK_HPP
 
@@ -16,11 +18,74 @@
 
 #include <cstddef>
 #include <cstdint>
+#include <initializer_list>
+#include <iterator>
 #include <optional>
 #include <string_view>
+#include <type_traits>
 #include <utility>
+#if __cplusplus >= 202002L
+#include <span>
+#endif
 
 namespace florinwick {
+
+// Of this header and florinwick.h, as "0.2.0". The archive is of the same one if both come from one install.
+inline constexpr std::string_view version = FLORINWICK_VERSION;
+
+template <class T>
+class Span;
+
+namespace detail {
+
+template <class T>
+inline constexpr bool is_byte = std::is_same_v<T, std::byte> || std::is_same_v<T, char> || std::is_same_v<T, unsigned char>;
+
+// The same type, or a byte by another name: any object may be seen as unsigned char.
+template <class From, class To>
+inline constexpr bool is_same_or_byte = std::is_same_v<From, To> || (std::is_same_v<To, std::uint8_t> && is_byte<From>);
+
+// Whether elements of type From may be seen as ones of type To. What may not be changed stays so.
+template <class From, class To>
+inline constexpr bool seen_as =
+    is_same_or_byte<std::remove_const_t<From>, std::remove_const_t<To>> && (std::is_const_v<To> || !std::is_const_v<From>);
+
+template <class Container>
+using pointer_of = decltype(std::declval<Container &>().data());
+
+// Anything with data() and size() whose elements may be seen as T.
+template <class Container, class T, class = void>
+inline constexpr bool has_elements = false;
+template <class Container, class T>
+inline constexpr bool has_elements<Container, T, std::void_t<pointer_of<Container>, decltype(std::declval<Container &>().size())>> =
+    std::is_pointer_v<pointer_of<Container>> && seen_as<std::remove_pointer_t<pointer_of<Container>>, T>;
+
+// Types that own nothing: what they show outlives them.
+template <class View>
+inline constexpr bool is_view = false;
+template <class T>
+inline constexpr bool is_view<Span<T>> = true;
+template <class Char>
+inline constexpr bool is_view<std::basic_string_view<Char>> = true;
+#if __cplusplus >= 202002L
+template <class T, std::size_t N>
+inline constexpr bool is_view<std::span<T, N>> = true;
+#endif
+
+// A variable or a view. Anything else that is given by value is gone at the end of the expression, with its elements.
+template <class Container>
+inline constexpr bool lasts = std::is_lvalue_reference_v<Container> || is_view<std::remove_cv_t<std::remove_reference_t<Container>>>;
+
+template <class T, class From>
+constexpr T *pointer_as(From *from) {
+    if constexpr (std::is_convertible_v<From *, T *>) {
+        return from;
+    } else {
+        return reinterpret_cast<T *>(from);
+    }
+}
+
+}  // namespace detail
 
 // A part of memory that somebody else owns. C++17 has no std::span.
 template <class T>
@@ -28,11 +93,17 @@ class Span {
 public:
     constexpr Span() = default;
     constexpr Span(T *data, std::size_t size) : data_(data), size_(size) {}
-    template <std::size_t N>
-    constexpr Span(T (&array)[N]) : data_(array), size_(N) {}
-    // Anything with data() and size(), as std::vector and std::array; also a Span of bytes that may be changed as one that may not.
-    template <class Container, class = decltype(static_cast<T *>(std::declval<Container &>().data()))>
-    constexpr Span(Container &&container) : data_(container.data()), size_(container.size()) {}
+    // No array of char: a literal has a byte more than it shows.
+    template <class Element, std::size_t N,
+              std::enable_if_t<detail::seen_as<Element, T> && !std::is_same_v<std::remove_const_t<Element>, char>, int> = 0>
+    constexpr Span(Element (&array)[N]) : data_(detail::pointer_as<T>(array)), size_(N) {}
+    // Anything with data() and size(), as std::vector and std::array; also a Span of what may be changed as one of what may not, and
+    // bytes of type char or std::byte.
+    template <class Container, std::enable_if_t<detail::has_elements<Container, T> && detail::lasts<Container>, int> = 0>
+    constexpr Span(Container &&container) : data_(detail::pointer_as<T>(container.data())), size_(container.size()) {}
+    // A Span of a temporary would outlive its elements. A batch that is given to a call may be one: BatchArgument.
+    template <class Container, std::enable_if_t<detail::has_elements<Container, T> && !detail::lasts<Container>, int> = 0>
+    Span(Container &&) = delete;
 
     constexpr T *data() const { return data_; }
     constexpr std::size_t size() const { return size_; }
@@ -55,9 +126,9 @@ namespace detail {
 
 // A slice of the library is never at null, also when it is empty.
 template <class T>
-T *lent(Span<T> bytes) {
-    static std::uint8_t nothing = 0;
-    return bytes.data() != nullptr ? bytes.data() : &nothing;
+T *lent(Span<T> slice) {
+    static std::remove_const_t<T> nothing{};
+    return slice.data() != nullptr ? slice.data() : &nothing;
 }
 
 }  // namespace detail
@@ -75,6 +146,28 @@ inline void put_word(std::uint8_t *at, std::uint64_t word) {
 // The page id that is none.
 constexpr std::uint64_t none = FLORINWICK_NONE;
 
+// The bytes of a string value, by themselves.
+class Text {
+public:
+    constexpr std::size_t size() const { return size_; }
+    // For as long as this Text is there, so of one that is kept: `as_text()->view()` is gone at the end of its expression.
+    constexpr std::string_view view() const & { return {bytes_, size_}; }
+    std::string_view view() const && = delete;
+    constexpr operator std::string_view() const & { return view(); }
+    operator std::string_view() const && = delete;
+
+    friend constexpr bool operator==(const Text &a, const Text &b) { return a.view() == b.view(); }
+    friend constexpr bool operator!=(const Text &a, const Text &b) { return a.view() != b.view(); }
+    friend constexpr bool operator==(const Text &a, std::string_view b) { return a.view() == b; }
+    friend constexpr bool operator!=(const Text &a, std::string_view b) { return a.view() != b; }
+
+private:
+    friend struct Value;
+    constexpr Text() = default;
+    char bytes_[7] = {};
+    std::uint8_t size_ = 0;
+};
+
 // The value word of a datom.
 struct Value {
     std::uint64_t word = 0;
@@ -82,12 +175,12 @@ struct Value {
     static constexpr std::uint64_t integer_end = std::uint64_t{1} << 62;
 
     // Nothing for an integer of 2^62 or more.
-    static constexpr std::optional<Value> integer(std::uint64_t number) {
+    [[nodiscard]] static constexpr std::optional<Value> integer(std::uint64_t number) {
         if (number >= integer_end) return std::nullopt;
         return Value{number};
     }
     // Nothing for more than seven bytes.
-    static constexpr std::optional<Value> text(std::string_view bytes) {
+    [[nodiscard]] static constexpr std::optional<Value> text(std::string_view bytes) {
         if (bytes.size() > 7) return std::nullopt;
         std::uint64_t word = std::uint64_t{2} << 62 | std::uint64_t{bytes.size()} << 56;
         for (std::size_t i = 0; i < bytes.size(); ++i) {
@@ -107,6 +200,42 @@ struct Value {
     }
     constexpr std::size_t text_size() const { return word >> 56 & 0x3f; }
     constexpr char text_byte(std::size_t at) const { return static_cast<char>(word >> (8 * at) & 0xff); }
+
+    // Nothing for another kind of value.
+    [[nodiscard]] constexpr std::optional<std::uint64_t> as_integer() const {
+        if (!is_integer()) return std::nullopt;
+        return word;
+    }
+    [[nodiscard]] constexpr std::optional<Text> as_text() const {
+        if (!is_text()) return std::nullopt;
+        Text text;
+        text.size_ = static_cast<std::uint8_t>(text_size());
+        for (std::size_t i = 0; i < text.size_; ++i) text.bytes_[i] = text_byte(i);
+        return text;
+    }
+
+    friend constexpr bool operator==(Value a, Value b) { return a.word == b.word; }
+    friend constexpr bool operator!=(Value a, Value b) { return a.word != b.word; }
+    // The tree's order: integers, then strings by their bytes, a prefix first, then max. A word that is no value, which no tree and
+    // no bound may have, comes behind the strings.
+    friend constexpr bool operator<(Value a, Value b) {
+        const int of_a = a.kind(), of_b = b.kind();
+        return of_a != of_b ? of_a < of_b : a.key() < b.key();
+    }
+    friend constexpr bool operator>(Value a, Value b) { return b < a; }
+    friend constexpr bool operator<=(Value a, Value b) { return !(b < a); }
+    friend constexpr bool operator>=(Value a, Value b) { return !(a < b); }
+
+private:
+    constexpr int kind() const { return is_integer() ? 0 : is_text() ? 1 : 2; }
+    // A number by which values of one kind compare; of a string its bytes, the first one highest, and behind them its length, which tells
+    // a string from one with zero bytes more.
+    constexpr std::uint64_t key() const {
+        if (!is_text()) return word;
+        std::uint64_t key = 0;
+        for (std::size_t i = 0; i < 7; ++i) key = key << 8 | (word >> (8 * i) & 0xff);
+        return key << 8 | text_size();
+    }
 };
 
 // A fact with the transaction that asserted or retracted it.
@@ -118,11 +247,16 @@ struct Datom {
 
     static constexpr std::size_t size = FLORINWICK_DATOM_BYTES;
 
-    static constexpr Datom asserted(std::uint64_t entity, std::uint64_t attribute, Value value, std::uint64_t transaction) {
-        return {entity, attribute, value, transaction | 1};
+    // Nothing for an odd transaction: its lowest bit is where assert and retract are told apart.
+    [[nodiscard]] static constexpr std::optional<Datom> asserted(std::uint64_t entity, std::uint64_t attribute, Value value,
+                                                                 std::uint64_t transaction) {
+        if (transaction & 1) return std::nullopt;
+        return Datom{entity, attribute, value, transaction | 1};
     }
-    static constexpr Datom retracted(std::uint64_t entity, std::uint64_t attribute, Value value, std::uint64_t transaction) {
-        return {entity, attribute, value, transaction & ~std::uint64_t{1}};
+    [[nodiscard]] static constexpr std::optional<Datom> retracted(std::uint64_t entity, std::uint64_t attribute, Value value,
+                                                                  std::uint64_t transaction) {
+        if (transaction & 1) return std::nullopt;
+        return Datom{entity, attribute, value, transaction};
     }
     // Bounds with nothing below and nothing above them.
     static constexpr Datom min() { return {}; }
@@ -138,12 +272,25 @@ struct Datom {
         put_word(at + 16, value.word);
         put_word(at + 24, transaction_operation);
     }
-    friend bool operator==(const Datom &a, const Datom &b) {
-        return a.entity == b.entity && a.attribute == b.attribute && a.value.word == b.value.word &&
+    friend constexpr bool operator==(const Datom &a, const Datom &b) {
+        return a.entity == b.entity && a.attribute == b.attribute && a.value == b.value &&
                a.transaction_operation == b.transaction_operation;
     }
-    friend bool operator!=(const Datom &a, const Datom &b) { return !(a == b); }
+    friend constexpr bool operator!=(const Datom &a, const Datom &b) { return !(a == b); }
+    // The tree's order, in which a batch rises and a listing goes.
+    friend constexpr bool operator<(const Datom &a, const Datom &b) {
+        if (a.entity != b.entity) return a.entity < b.entity;
+        if (a.attribute != b.attribute) return a.attribute < b.attribute;
+        if (a.value != b.value) return a.value < b.value;
+        return a.transaction_operation < b.transaction_operation;
+    }
+    friend constexpr bool operator>(const Datom &a, const Datom &b) { return b < a; }
+    friend constexpr bool operator<=(const Datom &a, const Datom &b) { return !(b < a); }
+    friend constexpr bool operator>=(const Datom &a, const Datom &b) { return !(a < b); }
 };
+
+// The record of florinwick.h, for callers that have it.
+using Record = florinwick_datom;
 
 // The bytes of a batch, 4096 of them, in the value itself. A caller that has the bytes already needs none.
 class Batch {
@@ -158,11 +305,94 @@ public:
     void clear() { count_ = 0; }
     std::size_t size() const { return count_; }
     Datom operator[](std::size_t at) const { return Datom::read(bytes_ + at * Datom::size); }
-    operator ByteView() const { return {bytes_, count_ * Datom::size}; }
+    operator ByteView() const & { return {bytes_, count_ * Datom::size}; }
+    operator ByteView() const && = delete;
 
 private:
     std::uint8_t bytes_[FLORINWICK_BATCH_MAX * Datom::size];
     std::size_t count_ = 0;
+};
+
+namespace detail {
+
+// A word as the library wants it lies in memory so already. Where that is not known they are laid anew, which is right on any machine.
+#if defined(__BYTE_ORDER__) && __BYTE_ORDER__ == __ORDER_LITTLE_ENDIAN__
+inline constexpr bool lies_as_bytes = true;
+#else
+inline constexpr bool lies_as_bytes = false;
+#endif
+
+// Four words and no gaps, in the library's order; so is a Record.
+static_assert(sizeof(Datom) == Datom::size && std::is_standard_layout_v<Datom> && std::is_trivially_copyable_v<Datom>);
+static_assert(offsetof(Datom, attribute) == 8 && offsetof(Datom, value) == 16 && offsetof(Datom, transaction_operation) == 24);
+static_assert(sizeof(Record) == Datom::size && offsetof(Record, transaction_operation) == 24 && alignof(Record) == alignof(Datom));
+
+inline Datom datom_of(const Datom &datom) { return datom; }
+inline Datom datom_of(const Record &record) { return {record.entity, record.attribute, Value{record.value}, record.transaction_operation}; }
+
+// The bytes of datoms or records where they lie: any object may be read as unsigned char.
+template <bool in_place>
+class Laid {
+public:
+    template <class Element>
+    ByteView of(Span<const Element> elements) {
+        return {reinterpret_cast<const std::uint8_t *>(elements.data()), elements.size() * sizeof(Element)};
+    }
+};
+
+// The same, laid anew. The library takes 128, and refuses any more as it refuses 129: the others need not be laid to be refused.
+template <>
+class Laid<false> {
+public:
+    template <class Element>
+    ByteView of(Span<const Element> elements) {
+        std::size_t count = 0;
+        for (; count < elements.size() && count <= FLORINWICK_BATCH_MAX; ++count) {
+            datom_of(elements[count]).write(bytes_ + count * Datom::size);
+        }
+        return {bytes_, count * Datom::size};
+    }
+
+private:
+    std::uint8_t bytes_[(FLORINWICK_BATCH_MAX + 1) * Datom::size];
+};
+
+}  // namespace detail
+
+// What a call takes as a batch: a Batch, datoms, records or bytes, wherever they lie. It is for the time of that call, so unlike a Span it
+// may be made of a temporary. How many there are is looked at by the library alone: TooMany.
+class BatchArgument {
+public:
+    BatchArgument() = default;
+    BatchArgument(const Batch &batch) : bytes_(batch) {}
+    BatchArgument(ByteView bytes) : bytes_(bytes) {}
+    BatchArgument(Span<const Datom> datoms) : bytes_(laid_.of(datoms)) {}
+    BatchArgument(Span<const Record> records) : bytes_(laid_.of(records)), records_(records) {}
+    BatchArgument(std::initializer_list<Datom> datoms) : BatchArgument(Span<const Datom>(datoms.begin(), datoms.size())) {}
+    template <class Element>
+    BatchArgument(const Element *elements, std::size_t count) : BatchArgument(Span<const Element>(elements, count)) {}
+    // No array of char, as for a Span.
+    template <class Element, std::size_t N, std::enable_if_t<!std::is_same_v<Element, char>, int> = 0>
+    BatchArgument(const Element (&array)[N]) : BatchArgument(Span<const Element>(array)) {}
+    template <class Container, std::enable_if_t<detail::has_elements<Container, const std::uint8_t>, int> = 0>
+    BatchArgument(Container &&container) : BatchArgument(ByteView(container)) {}
+    template <class Container, std::enable_if_t<detail::has_elements<Container, const Datom>, int> = 0>
+    BatchArgument(Container &&container) : BatchArgument(Span<const Datom>(container)) {}
+    template <class Container, std::enable_if_t<detail::has_elements<Container, const Record>, int> = 0>
+    BatchArgument(Container &&container) : BatchArgument(Span<const Record>(container)) {}
+
+    // A copy would look into the bytes of the first.
+    BatchArgument(const BatchArgument &) = delete;
+    BatchArgument &operator=(const BatchArgument &) = delete;
+
+    ByteView bytes() const { return bytes_; }
+    // Empty unless it was made of records.
+    Span<const Record> records() const { return records_; }
+
+private:
+    detail::Laid<detail::lies_as_bytes> laid_;
+    ByteView bytes_;
+    Span<const Record> records_;
 };
 
 enum class Number : std::uint64_t {
@@ -177,6 +407,7 @@ enum class Number : std::uint64_t {
     TooTall = FLORINWICK_TOO_TALL,
     NoRoom = FLORINWICK_NO_ROOM,
     BadBound = FLORINWICK_BAD_BOUND,
+    NotHeld = FLORINWICK_NOT_HELD,
     Ended = FLORINWICK_ENDED,
     Unsound = FLORINWICK_UNSOUND,
 };
@@ -194,6 +425,7 @@ constexpr const char *name_of(Number number) {
         case Number::TooTall: return "TooTall";
         case Number::NoRoom: return "NoRoom";
         case Number::BadBound: return "BadBound";
+        case Number::NotHeld: return "NotHeld";
         case Number::Ended: return "Ended";
         case Number::Unsound: return "Unsound";
     }
@@ -207,7 +439,8 @@ constexpr Carries carried_by(Number number) {
     switch (number) {
         case Number::BadDatom:
         case Number::OutOfOrder:
-        case Number::Repeated: return Carries::Index;
+        case Number::Repeated:
+        case Number::NotHeld: return Carries::Index;
         case Number::Damaged:
         case Number::Unsound: return Carries::Page;
         default: return Carries::Nothing;
@@ -230,26 +463,55 @@ struct [[nodiscard]] Answer {
     constexpr Carries carries() const { return carried_by(number); }
 };
 
-// A listing between two bounds, for one pass of a range-for. It may be copied: the copy goes on from the same place.
+// A listing between two bounds, for one pass. It may be copied: the copy goes on from the same place. It reads the bytes of its Reader, so
+// it is good for as long as that is.
 class Listing {
 public:
+    // A standard input iterator. An algorithm that comes to the end cannot know why: ask ended() after it, as after a loop.
     class Iterator {
     public:
-        const Datom &operator*() const { return listing_->datom_; }
-        const Datom *operator->() const { return &listing_->datom_; }
+        using iterator_category = std::input_iterator_tag;
+        using value_type = Datom;
+        using difference_type = std::ptrdiff_t;
+        using pointer = const Datom *;
+        using reference = const Datom &;
+
+        // The end.
+        Iterator() = default;
+
+        reference operator*() const { return listing_->datom_; }
+        pointer operator->() const { return &listing_->datom_; }
         Iterator &operator++() {
             listing_->step();
             return *this;
         }
-        // The one end there is: no datom is at hand, since the listing has ended or was refused.
-        struct End {};
-        bool operator!=(End) const { return listing_->answer_.done(); }
-        bool operator==(End) const { return !listing_->answer_.done(); }
+        // What `*i++` needs: the datom that was there, since the listing has gone on.
+        class Passed {
+        public:
+            const Datom &operator*() const { return datom_; }
+
+        private:
+            friend class Iterator;
+            explicit Passed(const Datom &datom) : datom_(datom) {}
+            Datom datom_;
+        };
+        Passed operator++(int) {
+            const Passed passed(**this);
+            ++*this;
+            return passed;
+        }
+        // Two that have no datom at hand are both at the end; else they are equal if they go through the same listing.
+        friend bool operator==(const Iterator &a, const Iterator &b) {
+            return a.has_datom() == b.has_datom() && (!a.has_datom() || a.listing_ == b.listing_);
+        }
+        friend bool operator!=(const Iterator &a, const Iterator &b) { return !(a == b); }
 
     private:
         friend class Listing;
         explicit Iterator(Listing *listing) : listing_(listing) {}
-        Listing *listing_;
+        // Not at the end, and not once the listing has ended or was refused.
+        bool has_datom() const { return listing_ != nullptr && listing_->answer_.done(); }
+        Listing *listing_ = nullptr;
     };
 
     // Reads the first datom; every ++ reads the next one.
@@ -257,7 +519,7 @@ public:
         if (answer_.done()) step();
         return Iterator(this);
     }
-    Iterator::End end() const { return {}; }
+    Iterator end() const { return {}; }
 
     // After the loop: true if every datom was listed, false if a refusal broke it off.
     bool ended() const { return answer_.number == Number::Ended; }
@@ -296,7 +558,9 @@ private:
     Answer answer_;
 };
 
-// The pages in use of a store, to be read at any root. It keeps seeing what was there when it was made.
+// The pages in use of a store, to be read at any root. Pages are only ever appended, so it goes on seeing what was there when it was made,
+// for as long as the lent bytes stay where they are. Who moves them, to lend more, makes new readers and listings: those made before look at
+// where the bytes were. It is three words; ask Store::reader() for one where it is needed rather than keep it.
 class Reader {
 public:
     Reader(ByteView store, std::uint64_t page_size, std::uint64_t page_count)
@@ -320,6 +584,14 @@ public:
     Answer check(std::uint64_t root) const {
         std::uint8_t words[FLORINWICK_ANSWER_BYTES];
         florinwick_check(detail::lent(store_), store_.size(), page_size_, page_count_, root, words, sizeof words);
+        return Answer::read(words);
+    }
+    // Done if the tree holds every datom of an ascending batch; else NotHeld with the index of the first that it does not hold.
+    Answer held(std::uint64_t root, const BatchArgument &batch) const {
+        std::uint8_t words[FLORINWICK_ANSWER_BYTES];
+        const ByteView bytes = batch.bytes();
+        florinwick_held(detail::lent(store_), store_.size(), page_size_, page_count_, root, detail::lent(bytes), bytes.size(), words,
+                        sizeof words);
         return Answer::read(words);
     }
     // From the first datom not below `lower` up to the last below `upper`. A refused start is seen after the loop, as a refused step is.
@@ -350,25 +622,33 @@ public:
     Reader reader() const { return Reader(ByteView(bytes_.data(), bytes_.size()), page_size_, page_count_); }
 
     // Ascending, at the newest root; whole or not at all.
-    Answer insert(ByteView batch) { return insert_at(root_, batch); }
+    Answer insert(const BatchArgument &batch) { return insert_at(root_, batch); }
 
     // At an older root, or at none. The newest root is then the one that this gives.
-    Answer insert_at(std::uint64_t root, ByteView batch) {
+    Answer insert_at(std::uint64_t root, const BatchArgument &batch) {
         std::uint8_t words[FLORINWICK_ANSWER_BYTES];
-        florinwick_insert(detail::lent(bytes_), bytes_.size(), page_size_, page_count_, root, detail::lent(batch), batch.size(),
-                          detail::lent(scratch_), scratch_.size(), words, sizeof words);
+        const ByteView bytes = batch.bytes();
+        const Span<const Record> records = batch.records();
+        if (records.empty()) {
+            florinwick_insert(detail::lent(bytes_), bytes_.size(), page_size_, page_count_, root, detail::lent(bytes), bytes.size(),
+                              detail::lent(scratch_), scratch_.size(), words, sizeof words);
+        } else {
+            florinwick_insert_records(detail::lent(bytes_), bytes_.size(), page_size_, page_count_, root, records.data(), records.size(),
+                                      detail::lent(scratch_), scratch_.size(), words, sizeof words);
+        }
         return moved_on(Answer::read(words));
     }
 
     // A new tree of a batch in any order.
-    Answer initialise(ByteView batch) {
+    Answer initialise(const BatchArgument &batch) {
         std::uint8_t words[FLORINWICK_ANSWER_BYTES];
-        florinwick_initialise(detail::lent(bytes_), bytes_.size(), page_size_, page_count_, detail::lent(batch), batch.size(),
+        const ByteView bytes = batch.bytes();
+        florinwick_initialise(detail::lent(bytes_), bytes_.size(), page_size_, page_count_, detail::lent(bytes), bytes.size(),
                               detail::lent(scratch_), scratch_.size(), words, sizeof words);
         return moved_on(Answer::read(words));
     }
 
-    // More room (after NoRoom): other bytes that begin with the pages in use.
+    // More room (after NoRoom): other bytes that begin with the pages in use. Readers and listings made before look at the bytes before.
     void lend(ByteArea bytes) { bytes_ = bytes; }
 
 private:

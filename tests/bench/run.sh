@@ -2,10 +2,18 @@
 # Times of the library against the Rust built for release, in turns over the same inputs; LMDB and SQLite beside them (README.md).
 #
 #   run.sh [ROUNDS] [LARGEST]   41 rounds and trees of up to 1,000,000 datoms if not said; build/bench/times.tsv
+#
+# Needs rt, rustc, and Debian's liblmdb-dev and libsqlite3-dev.
 set -euo pipefail
 
 cd "$(dirname "${BASH_SOURCE[0]}")/../.."
-rt staticlib florinwick > /dev/null
+# shellcheck source=../oracle/steps.sh
+source tests/oracle/steps.sh
+need_rt
+need_oracle
+need_library lmdb liblmdb-dev
+need_library sqlite3 libsqlite3-dev
+bash cmake/archive.sh florinwick
 bash tests/oracle/build.sh --release
 mkdir -p build/bench
 rustc --edition 2021 --crate-name bench -D warnings -C opt-level=3 -C codegen-units=1 -L build/oracle-release --extern noblit_patched \

@@ -1,11 +1,18 @@
-// The wrapper: values, spans, answers by name, a listing in a range-for that tells its end from a refusal.
+// The wrapper: values and their order, spans, batches of every kind, answers by name, listings that tell their end from a refusal.
 #include "florinwick.hpp"
 
+#include <algorithm>
 #include <array>
 #include <cstdio>
 #include <initializer_list>
+#include <iterator>
+#include <random>
 #include <string>
+#include <type_traits>
 #include <vector>
+#if __cplusplus >= 202002L
+#include <ranges>
+#endif
 
 using namespace florinwick;
 
@@ -20,7 +27,35 @@ void expect(int line, bool holds) {
 }
 #define EXPECT(holds) expect(__LINE__, (holds))
 
-Datom d(std::uint64_t k) { return Datom::asserted(k, 1, *Value::integer(k), 2); }
+Datom d(std::uint64_t k) { return *Datom::asserted(k, 1, *Value::integer(k), 2); }
+
+std::vector<Datom> run(std::uint64_t from, std::size_t count) {
+    std::vector<Datom> datoms;
+    for (std::uint64_t k = from; k < from + count; ++k) datoms.push_back(d(k));
+    return datoms;
+}
+
+std::vector<Record> records_of(const std::vector<Datom> &datoms) {
+    std::vector<Record> records;
+    for (const Datom &datom : datoms) {
+        records.push_back({datom.entity, datom.attribute, datom.value.word, datom.transaction_operation});
+    }
+    return records;
+}
+
+std::vector<std::uint8_t> bytes_of(const std::vector<Datom> &datoms) {
+    std::vector<std::uint8_t> bytes(datoms.size() * Datom::size);
+    for (std::size_t i = 0; i < datoms.size(); ++i) datoms[i].write(bytes.data() + i * Datom::size);
+    return bytes;
+}
+
+// A store with its memory, of 256-byte pages.
+struct Tree {
+    explicit Tree(std::size_t pages) : bytes(pages * 256) {}
+    std::vector<std::uint8_t> bytes;
+    std::vector<std::uint8_t> scratch = std::vector<std::uint8_t>(Store::scratch_need(256));
+    Store store{bytes, 256, scratch};
+};
 
 Batch batch_of(std::initializer_list<std::uint64_t> entities) {
     Batch batch;
@@ -43,6 +78,49 @@ void batches() {
     EXPECT(ByteView(ByteArea(vector).first(3)).data() == vector.data());
 }
 
+// Bytes by another name, and what may not be seen as bytes.
+void other_bytes() {
+    std::vector<std::byte> bytes(32);
+    std::string text = "bytes";
+    std::byte plain[8] = {};
+    EXPECT(static_cast<const void *>(ByteView(bytes).data()) == bytes.data() && ByteArea(bytes).size() == 32);
+    EXPECT(ByteView(text).size() == 5 && ByteView(std::string_view(text))[0] == 'b' && ByteView(plain).size() == 8);
+    ByteArea{text}[0] = 'B';
+    ByteArea{bytes}[1] = 7;
+    EXPECT(text == "Bytes" && bytes[1] == std::byte{7});
+    static_assert(!std::is_constructible_v<ByteArea, const std::vector<std::byte> &> && !std::is_constructible_v<ByteArea, std::string_view>);
+    static_assert(!std::is_constructible_v<ByteView, std::vector<std::uint16_t> &> && !std::is_constructible_v<ByteView, const char (&)[4]>);
+    struct Buffer {
+        void *data();
+        std::size_t size();
+    };
+    static_assert(!std::is_constructible_v<ByteView, Buffer &> && !std::is_constructible_v<ByteView, std::vector<Datom> &>);
+
+    // A store in std::byte is a store.
+    std::vector<std::byte> room(4 * 256), scratch(Store::scratch_need(256));
+    Store store(room, 256, scratch);
+    EXPECT(store.insert(run(0, 3)).done() && room[0] != std::byte{0xff} && store.reader().check(store.root()).done());
+}
+
+// Nothing that outlives a call can be made of a temporary that owns its bytes. What a call is given may be one.
+void temporaries() {
+    using Bytes = std::vector<std::uint8_t>;
+    static_assert(std::is_constructible_v<Store, Bytes &, std::uint64_t, Bytes &>);
+    static_assert(!std::is_constructible_v<Store, Bytes, std::uint64_t, Bytes &>);
+    static_assert(!std::is_constructible_v<Store, Bytes &, std::uint64_t, Bytes>);
+    static_assert(!std::is_constructible_v<Reader, Bytes, std::uint64_t, std::uint64_t>);
+    static_assert(!std::is_constructible_v<ByteView, Bytes> && !std::is_constructible_v<ByteView, std::array<std::uint8_t, 4>>);
+    static_assert(!std::is_constructible_v<ByteView, std::string> && !std::is_constructible_v<ByteView, Batch>);
+    static_assert(!std::is_constructible_v<Span<const Datom>, std::vector<Datom>>);
+    static_assert(std::is_constructible_v<ByteView, ByteArea> && std::is_constructible_v<ByteView, std::string_view>);
+    static_assert(std::is_constructible_v<BatchArgument, Bytes> && std::is_constructible_v<BatchArgument, std::vector<Datom>>);
+    static_assert(!std::is_copy_constructible_v<BatchArgument>);
+    static_assert(!std::is_convertible_v<Text, std::string_view> && std::is_convertible_v<Text &, std::string_view>);
+#if __cplusplus >= 202002L
+    static_assert(std::is_constructible_v<ByteView, std::span<const std::byte>>);
+#endif
+}
+
 void values() {
     EXPECT(Value::integer((std::uint64_t{1} << 62) - 1).has_value());
     EXPECT(!Value::integer(std::uint64_t{1} << 62));
@@ -53,14 +131,74 @@ void values() {
     EXPECT(Value::max().is_max() && !Value::max().is_text() && !Value::max().is_integer());
     EXPECT(!Value{0x8100000000000161u}.is_text() && !Value{0x8800000000000000u}.is_text() && !Value{0xc000000000000000u}.is_text());
     EXPECT(d(5).transaction() == 2 && d(5).is_assert());
-    EXPECT(!Datom::retracted(5, 1, Value{5}, 2).is_assert());
+    EXPECT(Datom::retracted(5, 1, Value{5}, 2) == (Datom{5, 1, Value{5}, 2}) && !Datom::retracted(5, 1, Value{5}, 2)->is_assert());
+    EXPECT(!Datom::asserted(5, 1, Value{5}, 7) && !Datom::retracted(5, 1, Value{5}, 7));
     EXPECT(d(5) == d(5) && d(5) != d(6));
+    EXPECT(version == FLORINWICK_VERSION && version.substr(0, version.find('.')) == std::to_string(FLORINWICK_VERSION_MAJOR));
+}
+
+// What is in a value, by its kind.
+void getters() {
+    EXPECT(Value{13142}.as_integer() == 13142u && !Value{13142}.as_text());
+    EXPECT(!Value::max().as_integer() && !Value::max().as_text() && !Value{0x8100000000000161u}.as_text());
+    const auto symbol = Value::text("FGBL")->as_text();
+    EXPECT(symbol && symbol->size() == 4 && symbol->view() == "FGBL" && *symbol == "FGBL" && *symbol != "FGBM");
+    EXPECT(*symbol == *Value::text("FGBL")->as_text() && *symbol != *Value::text("")->as_text() && *symbol == std::string("FGBL"));
+    EXPECT(std::string(*symbol) == "FGBL" && !Value::text("FGBL")->as_integer());
+    EXPECT(Value::text("")->as_text()->size() == 0 && *Value::text("1234567")->as_text() == "1234567");
+    const std::string_view zeros("\0a\0", 3);
+    EXPECT(*Value::text(zeros)->as_text() == zeros);
+}
+
+Value random_value(std::mt19937_64 &random) {
+    static const char bytes[] = {'\0', 'a', 'b', '\x7f', '\x80', '\xff'};
+    if (random() % 3 == 0) return *Value::integer(random() % 2 ? random() % 5 : random() >> 2);
+    std::string text(random() % 8, ' ');
+    for (char &byte : text) byte = bytes[random() % sizeof bytes];
+    return *Value::text(text);
+}
+
+// Few entities and attributes, so that every part of a datom decides somewhere.
+std::vector<Datom> random_datoms(std::size_t count) {
+    std::mt19937_64 random(1);
+    std::vector<Datom> datoms;
+    for (std::size_t i = 0; i < count; ++i) {
+        datoms.push_back({random() % 4, random() % 3, random_value(random), random() % 2 ? random() % 4 : random()});
+    }
+    std::sort(datoms.begin(), datoms.end());
+    datoms.erase(std::unique(datoms.begin(), datoms.end()), datoms.end());
+    return datoms;
+}
+
+// The order of the operators is the library's: it takes batches that rise by them, and lists as they sort.
+void order() {
+    EXPECT(*Value::text("ab") < *Value::text("b") && *Value::text("a") < *Value::text({"a\0", 2}));
+    EXPECT(*Value::text("") < *Value::text({"\0", 1}));
+    EXPECT(*Value::integer(Value::integer_end - 1) < *Value::text("") && *Value::text("\xff\xff\xff\xff\xff\xff\xff") < Value::max());
+    EXPECT(Value{1} <= Value{1} && Value{1} >= Value{1} && Value{2} > Value{1} && Value{1} != Value{2} && Value{3} == Value{3});
+    EXPECT(Datom::min() < d(0) && d(0) < Datom::max() && d(1) > d(0) && d(1) >= d(1) && d(1) <= d(1));
+    // A word that is no value stands behind all strings, whatever its bits.
+    EXPECT(*Value::text("\xff") < Value{0x8100000000000161u} && Value{0x8100000000000161u} < Value::max());
+    EXPECT(*Value::text("") < Value{Value::integer_end});
+
+    const std::vector<Datom> sorted = random_datoms(6000);
+    std::vector<Datom> shuffled = sorted;
+    std::shuffle(shuffled.begin(), shuffled.end(), std::mt19937_64(2));
+    Tree tree(20000);
+    for (std::size_t at = 0; at < shuffled.size(); at += 100) {
+        const Span<Datom> batch(shuffled.data() + at, std::min<std::size_t>(100, shuffled.size() - at));
+        std::sort(batch.begin(), batch.end());
+        EXPECT(tree.store.insert(batch).done());
+    }
+    Listing listing = tree.store.reader().list(tree.store.root());
+    EXPECT(sorted.size() > 5000 && std::equal(listing.begin(), listing.end(), sorted.begin(), sorted.end()) && listing.ended());
 }
 
 void answers() {
     EXPECT(std::string(name_of(Number::Repeated)) == "Repeated" && carried_by(Number::Repeated) == Carries::Index);
     EXPECT(std::string(name_of(Number::Unsound)) == "Unsound" && carried_by(Number::Unsound) == Carries::Page);
     EXPECT(carried_by(Number::NoRoom) == Carries::Nothing);
+    EXPECT(std::string(name_of(Number::NotHeld)) == "NotHeld" && carried_by(Number::NotHeld) == Carries::Index);
     EXPECT(std::string(name_of(static_cast<Number>(11))) == "unknown");
 }
 
@@ -130,12 +268,113 @@ void trees() {
     EXPECT(damaged.reader().check(4).number == Number::Unsound && damaged.reader().check(4).detail == 1);
 }
 
+// One batch in every form that a caller may have it in: the same answer and the same bytes.
+void forms_of_a_batch() {
+    const std::vector<Datom> datoms = run(0, 20);
+    const std::vector<std::uint8_t> bytes = bytes_of(datoms);
+    const std::vector<Record> records = records_of(datoms);
+    Tree expected(16);
+    EXPECT(expected.store.insert(ByteView(bytes)).done() && expected.store.page_count() > 1);
+    const auto as_expected = [&](const BatchArgument &batch) {
+        Tree tree(16);
+        return tree.store.insert(batch).done() && tree.store.root() == expected.store.root() && tree.bytes == expected.bytes;
+    };
+    EXPECT(as_expected(datoms) && as_expected(records) && as_expected(bytes) && as_expected({datoms.data(), datoms.size()}));
+    EXPECT(as_expected(run(0, 20)) && as_expected(records_of(datoms)) && as_expected(bytes_of(datoms)));
+    EXPECT(as_expected(std::string(bytes.begin(), bytes.end())) && as_expected({bytes.data(), bytes.size()}));
+    Tree made(16), listed(16);
+    EXPECT(made.store.initialise(std::vector<Datom>(datoms.rbegin(), datoms.rend())).done() && made.bytes == expected.bytes);
+    EXPECT(listed.store.insert({d(0), d(1)}).done() && listed.store.insert({}).done());
+    EXPECT(listed.store.insert({d(1)}).number == Number::Repeated);
+    EXPECT(listed.store.insert(std::vector<Datom>()).done() && listed.store.insert(std::vector<Record>()).done());
+    const Datom array[] = {d(2), d(3)};
+    std::byte array_of_bytes[Datom::size] = {};
+    EXPECT(listed.store.insert(array).done() && listed.store.insert(std::array<Datom, 2>{d(4), d(5)}).done());
+    EXPECT(listed.store.insert(array_of_bytes).done() && listed.store.insert(Span<const Datom>(array)).number == Number::Repeated);
+    static_assert(!std::is_constructible_v<BatchArgument, const char (&)[33]> && !std::is_constructible_v<BatchArgument, std::vector<int>>);
+
+    // How many are too many is said by the library, in its order of refusals.
+    const std::vector<Datom> largest = run(0, 128), too_many = run(0, 129), far_too_many = run(0, 1000);
+    Tree tree(128);
+    EXPECT(tree.store.insert(too_many).number == Number::TooMany && tree.store.insert(records_of(too_many)).number == Number::TooMany);
+    EXPECT(tree.store.insert(far_too_many).number == Number::TooMany && tree.store.initialise(far_too_many).number == Number::TooMany);
+    EXPECT(Store(tree.bytes, 257, tree.scratch).insert(far_too_many).number == Number::BadStore);
+    EXPECT(tree.store.insert(largest).done() && tree.store.insert(run(128, 128)).done());
+
+    // Laid anew, as on a machine with another order of bytes.
+    detail::Laid<true> where_they_lie;
+    detail::Laid<false> anew;
+    const ByteView laid = anew.of(Span<const Datom>(datoms));
+    EXPECT(std::equal(laid.begin(), laid.end(), bytes.begin(), bytes.end()));
+    const ByteView laid_records = anew.of(Span<const Record>(records));
+    EXPECT(std::equal(laid_records.begin(), laid_records.end(), bytes.begin(), bytes.end()));
+    const ByteView laid_far_too_many = anew.of(Span<const Datom>(far_too_many));
+    EXPECT(laid_far_too_many.size() == 129 * Datom::size && tree.store.insert(laid_far_too_many).number == Number::TooMany);
+    EXPECT(!detail::lies_as_bytes || where_they_lie.of(Span<const Datom>(datoms)).size() == bytes.size());
+}
+
+// Listings in the hands of the standard library.
+void iterators() {
+    using Iterator = Listing::Iterator;
+    static_assert(std::is_same_v<std::iterator_traits<Iterator>::iterator_category, std::input_iterator_tag>);
+    static_assert(std::is_same_v<decltype(std::declval<Listing &>().begin()), decltype(std::declval<Listing &>().end())>);
+    const std::vector<Datom> datoms = run(0, 20);
+    Tree tree(16);
+    EXPECT(tree.store.insert(datoms).done());
+    const auto list = [&] { return tree.store.reader().list(tree.store.root()); };
+
+    Listing listing = list();
+    EXPECT(std::vector<Datom>(listing.begin(), listing.end()) == datoms && listing.ended());
+    Listing counted = list();
+    EXPECT(std::distance(counted.begin(), counted.end()) == 20 && counted.begin() == counted.end());
+    Listing searched = list();
+    const Iterator found = std::find_if(searched.begin(), searched.end(), [](const Datom &datom) { return datom.entity == 7; });
+    EXPECT(found != searched.end() && *found == d(7) && found->entity == 7 && found == found && !searched.ended());
+    Iterator passing = found;
+    EXPECT(*passing++ == d(7) && *passing == d(8) && *++passing == d(9) && passing != Iterator() && Iterator() == searched.end());
+    Listing refused = tree.store.reader().list(99);
+    EXPECT(std::distance(refused.begin(), refused.end()) == 0 && refused.answer().number == Number::NoPage);
+#if __cplusplus >= 202002L
+    static_assert(std::input_iterator<Iterator> && std::sentinel_for<Iterator, Iterator> && std::ranges::input_range<Listing>);
+    Listing ranged = list();
+    std::uint64_t sum = 0;
+    for (const Datom &datom : ranged | std::views::filter([](const Datom &each) { return each.entity % 2 == 0; }) | std::views::take(3)) {
+        sum += datom.entity;
+    }
+    EXPECT(sum == 0 + 2 + 4);
+    EXPECT(std::ranges::count_if(list(), &Datom::is_assert) == 20 && std::ranges::is_sorted(run(0, 9)));
+#endif
+}
+
+// Which datoms of a batch the tree holds.
+void held() {
+    Tree tree(16);
+    EXPECT(tree.store.insert(run(0, 20)).done());
+    const Reader reader = tree.store.reader();
+    const std::uint64_t root = tree.store.root();
+    EXPECT(reader.held(root, run(3, 10)).done() && reader.held(root, {}).done() && reader.held(root, batch_of({0, 19})).done());
+    Answer answer = reader.held(root, run(15, 10));
+    EXPECT(answer.number == Number::NotHeld && answer.detail == 5 && answer.carries() == Carries::Index && !answer);
+    answer = reader.held(root, {d(3), d(21)});
+    EXPECT(answer.number == Number::NotHeld && answer.detail == 1 && reader.held(none, {d(3)}).number == Number::NotHeld);
+    EXPECT(reader.held(root, records_of(run(0, 20))).done() && reader.held(root, bytes_of(run(0, 20))).done());
+    EXPECT(reader.held(root, run(0, 129)).number == Number::TooMany && reader.held(99, {d(3)}).number == Number::NoPage);
+    EXPECT(reader.held(root, {d(4), d(3)}).number == Number::OutOfOrder);
+}
+
 }  // namespace
 
 int main() {
     values();
+    getters();
+    order();
     batches();
+    other_bytes();
+    temporaries();
     answers();
     trees();
+    forms_of_a_batch();
+    iterators();
+    held();
     return failures != 0;
 }

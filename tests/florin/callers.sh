@@ -1,5 +1,5 @@
 # shellcheck shell=bash disable=SC2154
-# The example, and programs in C and C++ that are built against the installed library.
+# The example, programs in C and C++ that are built against the installed library, and what the build promises to its users.
 
 "$out/cmake/replicator" > said; equal $? 0 'the example'
 same said "$here/replicator.txt" 'the example'
@@ -22,4 +22,11 @@ built 'gcc -std=c11' "$here/caller.c"
 built 'g++ -std=c++17 -x c++' "$here/caller.c" 
 built 'g++ -std=c++17' "$here/caller.cpp"
 built 'g++ -std=c++20' "$here/caller.cpp"
+built 'g++ -std=c++17 -fsanitize=address,undefined' "$here/caller.cpp"
 if command -v clang++ > /dev/null; then built 'clang++ -std=c++17' "$here/caller.cpp"; fi
+
+# What the archive asks of others: the two functions that the compiler's back end calls (README.md).
+equal "$(nm -u "$out/installed/lib/libflorinwick.a" | awk '$1 == "U" { print $2 }' | sort -u | xargs)" 'memcpy memset' 'undefined symbols'
+
+# shellcheck source=build.sh
+source "$here/build.sh"

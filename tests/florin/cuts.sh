@@ -99,6 +99,7 @@ kills=0 before=0 lost=0 wrong=0
 RANDOM=4
 while :; do
     tail -n +$((before > 0 ? before : 1)) long.txt > rest.txt
+    : > said   # the kill may come before the new process has opened it
     "$florin" insert killed.fw rest.txt --every 1 --resend > said 2> complained &
     pid=$!
     sleep "0.00$((RANDOM % 9 + 1))"
@@ -118,13 +119,13 @@ equal "$now" 60000 'the whole feed in the end'
 holds "killed $kills times" test "$kills" -gt 4
 echo "   killed $kills times at any time"
 
-# Create: no store, or a whole one.
-d 0 50 > first.txt
+# Create, backup and upgrade: no store, or a whole one.
+b 0 50 > first.txt; d 0 50 > first.listed
 for at in $(seq 1 40); do
     rm -f new.fw*
     killed_at "$at" create new.fw --from first.txt
     if [ -e new.fw ]; then
-        list new.fw > listed; same listed first.txt "create killed at call $at"
+        list new.fw > listed; same listed first.listed "create killed at call $at"
     elif [ $status -ne 0 ]; then
         pass
     else
@@ -133,3 +134,18 @@ for at in $(seq 1 40); do
     [ $status -eq 0 ] && break
 done
 equal "$status:$(ls new.fw*)" 0:new.fw 'create that is not killed'
+zcat "$here/format1.fw.gz" > one.fw
+"$florin" create source.fw --page-size 256 --from first.txt > /dev/null
+for words in 'backup source.fw' 'upgrade one.fw'; do
+    rm -f expected.fw
+    # shellcheck disable=SC2086
+    "$florin" $words expected.fw > /dev/null
+    for at in $(seq 1 60); do
+        rm -f new.fw*
+        # shellcheck disable=SC2086
+        killed_at "$at" $words new.fw
+        if [ -e new.fw ]; then same new.fw expected.fw "florin $words killed at call $at"; else pass; fi
+        [ $status -eq 0 ] && break
+    done
+    equal "$status:$(ls new.fw*)" 0:new.fw "florin $words that is not killed"
+done

@@ -1,7 +1,7 @@
 # shellcheck shell=bash disable=SC2154
 # Files that are no stores, or not any more, or cannot be read or written: a clear refusal, and they stay as they are.
 
-d 0 30 > first.txt; d 31 40 > second.txt
+b 0 30 > first.txt; b 31 40 > second.txt
 "$florin" create good.fw --page-size 256 --from first.txt > /dev/null
 "$florin" insert good.fw second.txt > /dev/null
 size=$(stat -c %s good.fw)
@@ -9,10 +9,12 @@ size=$(stat -c %s good.fw)
 # refuses STATUS PATTERN FILE: every command does.
 refuses() {
     local status=$1 pattern=$2 file=$3 words
-    for words in "insert $file second.txt" "list $file" "check $file" "roots $file" "page $file 0" "tree $file" "status $file"; do
+    for words in "insert $file second.txt" "list $file" "check $file" "roots $file" "page $file 0" "tree $file" "status $file" "count $file" \
+        "missing $file second.txt" "backup $file copied.fw"; do
         # shellcheck disable=SC2086
         unchanged "$file" expect "$status" "$pattern" $words
     done
+    [ ! -e copied.fw ] || fail "a backup was made of $file"
 }
 
 : > empty.fw
@@ -32,7 +34,7 @@ done
 # A file that is longer than its head says was cut while it grew: all of it is there.
 cp good.fw longer.fw; head -c 12345 /dev/zero >> longer.fw
 list longer.fw > listed; d 0 40 > expected; same listed expected 'a file that was cut while it grew'
-d 41 50 > third.txt
+b 41 50 > third.txt
 expect 0 'batch 1 is in' insert longer.fw third.txt
 list longer.fw > listed; d 0 50 > expected; same listed expected 'and is written to'
 expect 0 'Sound: all 3 roots' check longer.fw --all
@@ -68,7 +70,7 @@ list one.fw > listed; d 0 40 > expected; same listed expected 'and the batch sen
 cp good.fw both.fw; poke both.fw 30 77; poke both.fw 4126 77
 refuses 68 'BadHead \(68\): the head of both.fw is damaged: neither of its two slots is valid.*next: restore' both.fw
 # Any single byte of the newest head: it is not valid, and the older one is taken.
-for at in $(seq 0 71); do
+for at in $(seq 0 7 175) 1000 4000 4087 4088 4095; do
     cp good.fw one.fw
     byte=$(bytes good.fw $((slot * 4096 + at)) 1)
     poke one.fw $((slot * 4096 + at)) "$(printf %02x $((0x$byte ^ 0x40)))"
@@ -80,32 +82,112 @@ forged() {
     "$out/forge" forged.fw "$slot" "$1"
     refuses "$2" "$3" forged.fw
 }
-forged page_count=18446744073709551615 68 'BadHead \(68\).*it counts 18446744073709551615 pages, more than the file holds'
-forged page_count=72057594037927937 68 'it counts 72057594037927937 pages, more'
-forged page_count=1000 68 'it counts 1000 pages'
+forged page_count=18446744073709551615 68 'BadHead \(68\).*it counts 18,446,744,073,709,551,615 pages, more than the file holds'
+forged page_count=72057594037927937 68 'it counts 72,057,594,037,927,937 pages, more'
+forged page_count=1000 68 'it counts 1,000 pages'
 forged page_count=3 68 'its root is page [0-9]+ of 3'
-forged root=1000 68 'its root is page 1000'
-forged receipts=18446744073709551615 68 'it counts 18446744073709551615 receipts'
-forged receipts=1000 68 'it counts 1000 receipts'
+forged root0=1000 68 'its root is page 1000'
+forged receipts=18446744073709551615 68 'it counts 18,446,744,073,709,551,615 receipts'
+forged receipts=1000 68 'it counts 1,000 receipts'
+forged receipts=1 68 'receipts of forged.fw are not those that its head speaks of'
+forged chain=1 68 'receipts of forged.fw are not those'
 forged page_size=257 68 'its page size is 257'
 forged page_size=0 68 'its page size is 0'
-forged end=18446744073709551615 69 'CutShort.*its head says 18446744073709551615'
-forged end=8192 68 'more than the file holds'
-forged end=0 68 'more than the file holds'
-# Receipts: the list of roots is refused, and what needs none of it goes on.
-for at in 1 64 65 128; do
+forged extents=0 68 'more than the file holds'
+forged extents=2 68 'more than the file holds'
+forged extents=241 68 'a part of it cannot lie at'
+forged extents=18446744073709551615 68 'a part of it cannot lie at'
+forged offset0=4096 68 'a part of it cannot lie at byte 4096'
+forged offset0=8200 68 'a part of it cannot lie at byte 8200'
+forged offset0=18446744073709547520 68 'a part of it cannot lie at'
+forged offset1=8192 68 'two parts of it share byte 8192'
+forged length2=4611686018427387904 68 'a part of it cannot lie at'
+forged length2=1152921504606846976 69 'CutShort \(69\): forged.fw has [0-9,]+ bytes, and its head says 1,152,921,504,606,863,360'
+# What a newer florin may have put there.
+forged order=1 76 'OtherFormat \(76\): forged.fw was made by a newer florin: it has another order.*next: use that florin'
+forged parties=2 76 'it has two parties'
+forged allowance0=5 76 'it has two parties'
+forged root1=0 76 'it has two parties'
+forged heap_length=8 76 'it has long values'
+forged length0=4100 76 'it has a part of an unknown kind'
+# Receipts: any byte of them, and a head of one moment with receipts of another, as a copy may have them. Every command finds it; what needs
+# none of them goes on where that is said.
+receipts_at=8192
+for at in 0 63 127 128 200 255; do
     cp good.fw receipts.fw
-    byte=$(bytes good.fw $((size - at)) 1)
-    poke receipts.fw $((size - at)) "$(printf %02x $((0x$byte ^ 1)))"
-    unchanged receipts.fw expect 68 'BadHead \(68\): the list of roots in receipts.fw is damaged.*next: restore' roots receipts.fw
-    expect 68 'list of roots' list receipts.fw --root @1
-    expect 68 'list of roots' check receipts.fw --all
-    list receipts.fw > listed; d 0 40 > expected; same listed expected 'a damaged list of roots'
+    byte=$(bytes good.fw $((receipts_at + at)) 1)
+    poke receipts.fw $((receipts_at + at)) "$(printf %02x $((0x$byte ^ 1)))"
+    refuses 68 'BadHead \(68\): the receipts of receipts.fw are not those that its head speaks of.*next: restore .*--salvage' receipts.fw
+    expect 0 'note: the receipts of receipts.fw are not those' list receipts.fw --salvage
+    "$florin" list receipts.fw --salvage 2> /dev/null | plain > listed; d 0 40 > expected; same listed expected 'a damaged list of receipts'
+    expect 0 'Sound' check receipts.fw --salvage
 done
+cp good.fw older.fw; cp good.fw newer.fw; "$florin" insert newer.fw third.txt > /dev/null
+dd if=newer.fw of=older.fw bs=8192 count=1 conv=notrunc status=none
+refuses 68 'receipts of older.fw are not those' older.fw
+cp good.fw older.fw; tail -c +8193 newer.fw | dd of=older.fw bs=8192 seek=1 conv=notrunc status=none
+list older.fw > listed; d 0 40 > expected; same listed expected 'an older head with newer bytes is a store of its moment'
+expect 0 'Sound: all 2 roots' check older.fw --all
 
-cp good.fw receipts.fw; "$out/forge" receipts.fw "$slot" chain=1
-unchanged receipts.fw expect 68 'BadHead \(68\): the list of roots' roots receipts.fw
-expect 0 'Sound' check receipts.fw
+# Any bit of any byte that counts: it is found by check --all, or, in a head, told by a note. No command is at a loss for an answer.
+"$florin" create bits.fw --page-size 256 --room 20 > /dev/null
+(for i in $(seq 0 11); do b $((i * 3)) $((i * 3 + 2)); done) > bits.txt
+"$florin" insert bits.fw bits.txt --quiet > /dev/null
+count=$("$florin" stat bits.fw --json | sed 's/.*"pages":\([0-9]*\),"free.*/\1/')
+found=0 wrong=0
+RANDOM=15
+# flipped FROM LENGTH STATUSES TIMES: bits there, one at a time
+flipped() {
+    local at command status
+    for _ in $(seq 1 "$4"); do
+        at=$(($1 + (RANDOM * 32768 + RANDOM) % $2))
+        cp bits.fw flip.fw
+        poke flip.fw $at "$(printf %02x $((0x$(bytes bits.fw $at 1) ^ (1 << RANDOM % 8))))"
+        "$florin" check flip.fw --all > printed 2>&1; status=$?
+        case " $3 " in *" $status "*) found=$((found + 1)) ;; *) wrong=$((wrong + 1)); echo "byte $at: status $status" ;; esac
+        if [ $status -eq 0 ] && ! grep -q 'note: one of the two heads' printed; then wrong=$((wrong + 1)); echo "byte $at: no note"; fi
+        for command in list roots stat tree 'page flip.fw 3' 'dump' 'insert flip.fw third.txt'; do
+            [ "${command#* }" = "$command" ] && command="$command flip.fw"
+            # shellcheck disable=SC2086
+            "$florin" $command > /dev/null 2>&1; [ $? -lt 80 ] || { wrong=$((wrong + 1)); echo "byte $at: florin $command"; }
+        done
+    done
+}
+flipped 0 8192 '0' 40
+flipped 8192 $((12 * 128)) '68' 40
+flipped 12288 $((count * 8)) '75' 30
+flipped 16384 $((count * 256)) '33 75' 90
+equal "$found:$wrong" 200:0 'flipped bits that were found, and others'
+
+# A store of florin 0.1: refused with a word on what to do, and made into one of today's format.
+zcat "$here/format1.fw.gz" > one.fw
+refuses 76 'OtherFormat \(76\): one.fw was made by florin 0.1, in format 1.*next: florin upgrade one.fw NEW' one.fw
+unchanged one.fw expect 0 'made two.fw from one.fw: 4 batches, 8 pages, root 7' upgrade one.fw two.fw
+equal "$(bytes one.fw 8192 2048)" "$(bytes two.fw "$(pages_at two.fw)" 2048)" 'the pages of an upgraded store'
+"$florin" roots two.fw | awk '/^@/ { print $1, $2, $3, $4, $5, $8 }' > roots.txt
+printf '@1 2 none 7 3 -\n@2 3 2 5 1 -\n@3 6 3 1 3 -\n@4 7 2* 2 1 -\n' > expected
+same roots.txt expected 'the receipts of an upgraded store'
+for root in @1:6 @2:11 @3:12; do
+    list two.fw --root "${root%:*}" > listed; d 0 "${root#*:}" > expected; same listed expected "an upgraded store at root $root"
+done
+list two.fw > listed; (d 0 6; d 20 21) > expected; same listed expected 'an upgraded store'
+expect 0 'Sound: all 4 roots' check two.fw --all --walk
+expect 0 'batch 1 is in: 10 datoms' insert two.fw second.txt
+unchanged two.fw expect 70 'Exists' upgrade one.fw two.fw
+expect 67 'NotAStore \(67\): two.fw is no store of format 1' upgrade two.fw three.fw
+expect 67 'NotAStore' upgrade first.txt three.fw
+for length in 9000 8191 100; do
+    head -c $length one.fw > cut.fw; expect 68 'BadHead \(68\): cut.fw, a store of format 1, is damaged' upgrade cut.fw three.fw
+done
+size=$(stat -c %s one.fw)
+for at in 30:4126 $((size - 1)) $((size - 200)); do
+    cp one.fw bad.fw; poke bad.fw "${at%:*}" 77; [ "${at#*:}" = "$at" ] || poke bad.fw "${at#*:}" 77
+    expect 68 'BadHead \(68\): bad.fw, a store of format 1, is damaged' upgrade bad.fw three.fw
+done
+cp one.fw bad.fw; poke bad.fw $((8192 + 1 * 256 + 249)) c8
+expect 33 'Unsound \(33\): page 1, root 2 \(@1\)\. No store was made' upgrade bad.fw three.fw
+exec 9< one.fw; flock -x 9; expect 73 'Busy' upgrade one.fw three.fw; exec 9<&-
+equal "$(ls three.fw* 2> /dev/null)" '' 'files that a refused upgrade leaves'
 
 # A file that is cut short by another program while florin has it mapped.
 mkfifo feed.pipe 2> /dev/null
@@ -113,23 +195,36 @@ cp good.fw mapped.fw
 "$florin" insert mapped.fw < feed.pipe > told 2> complained &
 feed=$!
 exec 8> feed.pipe
-(d 100 101; echo ---) >&8
+b 100 101 >&8
 for _ in $(seq 1 200); do grep -q ' is in:' told && break; sleep 0.01; done
 truncate -s 8192 mapped.fw
-(d 102 103; echo ---) >&8
+b 102 103 >&8
 exec 8>&-
 wait $feed; equal "$?:$(grep -c 'System (74): the store cannot be read where it is mapped' complained)" 74:1 'a mapped file that is cut short'
 
 # Another writer.
 cp good.fw busy.fw
 exec 9< busy.fw; flock -x 9
-unchanged busy.fw expect 73 'Busy \(73\): another process writes to busy.fw.*next: wait' insert busy.fw third.txt
+unchanged busy.fw expect 73 'Busy \(73\): another process writes to busy.fw.*next: try again when it has ended, or let --wait' insert busy.fw third.txt
 expect 0 'Sound' check busy.fw
+before=$(date +%s%N)
+expect 73 'Busy' insert busy.fw third.txt --wait 0.3
+holds 'it waited' test $((($(date +%s%N) - before) / 1000000)) -ge 300
+(sleep 0.5) 9<&9 & waited=$!
 exec 9<&-
-expect 0 'is in' insert busy.fw third.txt
+expect 0 'is in' insert busy.fw third.txt --wait 20
+wait $waited
+expect 64 '--wait' insert busy.fw third.txt --wait soon
+# Eight writers at once, each with its own batches: all go in, each once.
+"$florin" create eight.fw --page-size 256 > /dev/null
+for writer in 1 2 3 4 5 6 7 8; do
+    for i in $(seq 0 9); do b $((writer * 1000 + i)) $((writer * 1000 + i)) > "writer.$writer.$i"; "$florin" insert eight.fw "writer.$writer.$i" --wait 60 > /dev/null 2> complained || fail "writer $writer: $(head -n 1 complained)"; done &
+done
+wait
+equal "$("$florin" count eight.fw):$("$florin" check eight.fw --all --walk | cut -d ';' -f 1)" '80 datoms:Sound: all 80 roots' 'eight writers'
 
 # Output that cannot be written is no success.
-for words in 'list good.fw' 'roots good.fw' 'tree good.fw' '--help' 'status good.fw' 'page good.fw 0' 'check good.fw' 'list good.fw --binary' 'tree good.fw --svg /dev/full' 'tree good.fw --svg -'; do
+for words in 'list good.fw' 'roots good.fw' 'tree good.fw' '--help' 'status good.fw' 'page good.fw 0' 'check good.fw' 'count good.fw' 'missing good.fw third.txt' '--version' 'list good.fw --help' 'list good.fw --binary' 'tree good.fw --svg /dev/full' 'tree good.fw --svg -'; do
     # shellcheck disable=SC2086
     "$florin" $words > /dev/full 2> complained
     equal "$?:$(grep -c 'NoSpace (71): cannot write' complained)" 71:1 "florin $words > /dev/full"
@@ -137,18 +232,30 @@ done
 cp good.fw full.fw
 "$florin" insert full.fw third.txt > /dev/full 2> complained; equal $? 71 'a receipt that cannot be written'
 
-# A limit on the size of files, as a full disk: nothing that was accepted is lost, and the file is as long as before.
+# A limit on the size of files, as a full disk: nothing that was accepted is lost, and the file is as long as before. It grows by what there
+# is room for: by half, or by less.
 "$florin" create limit.fw --page-size 4096 --room 2 > /dev/null
-(for i in $(seq 0 19); do d $((i * 100)) $((i * 100 + 99)); echo ---; done) > feed.txt
+(for i in $(seq 0 19); do b $((i * 100)) $((i * 100 + 99)); done) > feed.txt
+limited() { # limited BYTES: feeds limit.fw with no more bytes than these, and tells what is in
+    (ulimit -f $(($1 / 1024)); "$florin" insert limit.fw feed.txt --resend > told 2> limit.complained); status=$?
+    batches=$(grep -cE ' (is in|was in before):' told)
+    list limit.fw > listed; grep -v -e --- feed.txt | head -n $((batches * 100)) > expected; same listed expected "what is in at a limit of $1 bytes"
+}
 length=$(stat -c %s limit.fw)
-(ulimit -f $((length / 1024)); "$florin" insert limit.fw feed.txt > told 2> complained); status=$?
-equal "$status:$(grep -c 'NoSpace (71): cannot enlarge limit.fw: File too large' complained)" 71:1 'a limit on file sizes'
+limited "$length"
+equal "$status:$(grep -c 'NoSpace (71): cannot enlarge limit.fw: File too large' limit.complained)" 71:1 'a limit on file sizes'
 equal "$(stat -c %s limit.fw)" "$length" 'the length of the file that could not grow'
-batches=$(grep -c ' is in:' told)
 holds 'batches before the limit' test "$batches" -gt 0
-list limit.fw > listed; grep -v -e --- feed.txt | head -n $((batches * 100)) > expected; same listed expected 'what is in before the limit'
+before=$batches
+limited $((length + 8192)); holds 'two blocks more, one batch more' test "$batches" -gt "$before"
+before=$batches
+limited $((length + 40960)); holds 'ten blocks more, several batches more' test "$batches" -gt $((before + 2))
+equal "$(stat -c %s limit.fw)" $((length + 40960)) 'all that there was room for'
 expect 0 "$batches batch(es)? in before" insert limit.fw feed.txt --resend
 list limit.fw > listed; grep -v -e --- feed.txt > expected; same listed expected 'sent again when there is room'
+expect 0 'Sound: all 20 roots' check limit.fw --all --walk
+expect 0 'copied limit.fw' backup limit.fw compact.fw
+"$florin" list compact.fw > listed; "$florin" list limit.fw > expected; same listed expected 'a backup of a file that grew by small parts'
 (ulimit -f 4; "$florin" create none.fw > told 2> complained); status=$?
 equal "$status:$(ls -d none.fw* 2> /dev/null)" '71:' 'create at a limit leaves no file'
 
@@ -157,10 +264,9 @@ if [ "$(id -u)" -eq 0 ]; then
     mkdir disk
     if mount -t tmpfs -o size=128k tmpfs disk 2> /dev/null; then
         "$florin" create disk/s.fw --page-size 4096 --room 2 > /dev/null
-        length=$(stat -c %s disk/s.fw)
         "$florin" insert disk/s.fw feed.txt > told 2> complained; status=$?
         equal "$status:$(grep -c 'NoSpace (71): cannot enlarge disk/s.fw: No space left' complained)" 71:1 'a full file system'
-        equal "$(stat -c %s disk/s.fw)" "$length" 'the length of the file on a full file system'
+        holds 'the file took all that there was' test "$(stat -c %s disk/s.fw)" -gt 110000
         batches=$(grep -c ' is in:' told)
         list disk/s.fw > listed; grep -v -e --- feed.txt | head -n $((batches * 100)) > expected; same listed expected 'what is in on a full file system'
         expect 71 'NoSpace' create disk/t.fw --room 100

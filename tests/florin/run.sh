@@ -3,7 +3,7 @@
 #
 #   run.sh   makes libflorinwick.a (FLORINWICK_ARCHIVE takes another one), builds all with CMake, ends with "N passed, M failed"
 #
-# Needs cmake, g++, flock, script and xmllint; as root it also tries a full file system and a user without rights.
+# Needs cmake, g++, flock, man, script and xmllint; as root it also tries a full file system and a user without rights.
 set -uo pipefail
 
 here=$(cd "$(dirname "${BASH_SOURCE[0]}")" && pwd)
@@ -16,9 +16,9 @@ build() {
     mkdir -p "$out" &&
     cmake -S "$source_of_florin" -B "$out/cmake" -DFLORINWICK_ARCHIVE="${FLORINWICK_ARCHIVE:-}" -DCMAKE_INSTALL_PREFIX="$out/installed" \
         -DCMAKE_INSTALL_LIBDIR=lib > "$out/build.log" 2>&1 &&
-    cmake --build "$out/cmake" >> "$out/build.log" 2>&1 &&
+    cmake --build "$out/cmake" -j "$(nproc)" >> "$out/build.log" 2>&1 &&
     g++ -std=c++17 -O2 -Wall -Wextra -shared -fPIC -o "$out/cut.so" "$here/cut.cpp" -ldl &&
-    g++ -std=c++17 -O2 -Wall -Wextra -o "$out/forge" "$here/forge.cpp"
+    g++ -std=c++17 -O2 -Wall -Wextra -DXXH_INLINE_ALL -o "$out/forge" "$here/forge.cpp"
 }
 
 if ! build; then
@@ -29,14 +29,14 @@ fi
 florin=$out/cmake/florin
 # On a file system in memory a sync takes no time; what a sync must do is tested by cut.so, on any.
 work=$(mktemp -d "${FLORIN_TEST_WORK:-/dev/shm}/florin.XXXXXX")
-# files.sh mounts a file system in it.
-trap 'umount "$work/disk" 2> /dev/null; rm -rf "$work"' EXIT
-cd "$work" || exit 1
+# files.sh mounts a file system in its part of it.
+trap 'umount "$work/files/disk" 2> /dev/null; rm -rf "$work"' EXIT
 
 # shellcheck source=steps.sh
 source "$here/steps.sh"
-for part in ${FLORIN_TEST_PARTS:-commands refusals files cuts callers tour}; do
+for part in ${FLORIN_TEST_PARTS:-commands refusals files dumps cuts callers tour}; do
     echo "== $part"
+    mkdir "$work/$part" && cd "$work/$part" || exit 1
     # shellcheck source=/dev/null
     source "$here/$part.sh"
 done

@@ -69,6 +69,15 @@ shown() { "$florin" status "$1" 2>&1 | tail -n +2; }
 # d FROM TO: the datoms of document 01's examples as text.
 d() { seq "$1" "$2" | awk '{ print $1, 1, $1, 2, "assert" }'; }
 
+# b FROM TO: the same as a batch, with the line that ends it.
+b() { d "$@"; echo ---; }
+
+# Where the first page of a store is in its file.
+pages_at() { "$florin" page "$1" 0 | sed -n 's/^at byte \([0-9]*\) .*/\1/p'; }
+
+# A number as 8 bytes, little-endian.
+word() { printf "\\x$(printf %02x "$1")\\0\\0\\0\\0\\0\\0\\0"; }
+
 # Spaces to one, so that listings and inputs can be compared.
 plain() { awk '{ $1 = $1 } 1'; }
 

@@ -6,9 +6,11 @@ here=$(cd "$(dirname "${BASH_SOURCE[0]}")" && pwd)
 repo=$(cd "$here/../.." && pwd)
 cd "$repo"
 
+# shellcheck source=../needs.sh
+source tests/needs.sh
+need_rustc
 if [ ! -f target/staticlib/libprobe.a ] || [ ! -f build/oracle/libharness.rlib ]; then
-    echo "$0: no archive or no harness; run tests/leaves/run.sh first" >&2
-    exit 1
+    lacks 'no archive or no harness: tests/leaves/run.sh makes them'
 fi
 mkdir -p build/leaves
 rustc --edition 2021 --crate-name time -A dead_code -C opt-level=3 -C codegen-units=1 -L build/oracle --extern harness \

@@ -4,12 +4,12 @@
 #   build.sh             into build/oracle, with the Rust's debug assertions on
 #   build.sh --release   into build/oracle-release, with them off, for benchmarks
 #
-# noblit's source is taken from ../shared beside the repository, or from $FLORINWICK_SHARED.
+# noblit's source is taken from ../shared beside the repository, or from $FLORINWICK_SHARED. Where something is missing an oracle that is
+# there stays.
 set -euo pipefail
 
 here=$(cd "$(dirname "${BASH_SOURCE[0]}")" && pwd)
 repo=$(cd "$here/../.." && pwd)
-noblit=${FLORINWICK_SHARED:-$repo/../shared}/docs/src/noblit/src
 # shellcheck source=steps.sh
 source "$here/steps.sh"
 
@@ -38,11 +38,7 @@ copy_source() {
     cp "$here"/shims/*.rs "$copy/"
 }
 
-if [ ! -d "$noblit" ]; then
-    echo "$0: no noblit source at $noblit; set FLORINWICK_SHARED to the directory that holds docs/src/noblit" >&2
-    exit 1
-fi
-
+need_oracle
 rm -rf "$out"
 copy_source plain
 build_noblit plain

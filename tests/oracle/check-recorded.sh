@@ -9,10 +9,9 @@ oracle=$repo/build/oracle/oracle
 recorded=$repo/crates/replay/stdin
 anew=$repo/build/oracle/answers.bin
 
-if [ ! -x "$oracle" ]; then
-    echo "$0: no $oracle; run tests/oracle/build.sh first" >&2
-    exit 1
-fi
+# shellcheck source=../needs.sh
+source "$here/../needs.sh"
+[ -x "$oracle" ] || lacks "no $oracle: tests/oracle/build.sh makes it"
 
 "$oracle" selftest
 "$oracle" record "$anew"

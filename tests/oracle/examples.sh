@@ -9,10 +9,9 @@ oracle=$repo/build/oracle/oracle
 expected=$here/examples.txt
 found=$repo/build/oracle/examples.found
 
-if [ ! -x "$oracle" ]; then
-    echo "$0: no $oracle; run tests/oracle/build.sh first" >&2
-    exit 1
-fi
+# shellcheck source=../needs.sh
+source "$here/../needs.sh"
+[ -x "$oracle" ] || lacks "no $oracle: tests/oracle/build.sh makes it"
 
 # The lines of one example: its heading up to the next heading.
 example() {

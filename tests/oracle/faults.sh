@@ -11,10 +11,8 @@ flags=(-C opt-level=1 -C debug-assertions=on -C overflow-checks=on -C codegen-un
 # shellcheck source=steps.sh
 source "$here/steps.sh"
 
-if [ ! -x "$sound/oracle" ]; then
-    echo "$0: no $sound/oracle; run tests/oracle/build.sh first" >&2
-    exit 1
-fi
+need_rustc
+[ -x "$sound/oracle" ] || lacks "no $sound/oracle: tests/oracle/build.sh makes it"
 
 refused=0 missed=0
 while IFS='|' read -r file name script; do

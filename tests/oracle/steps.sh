@@ -1,5 +1,16 @@
 # shellcheck shell=bash disable=SC2154
-# The compilations, for scripts that set $here (this directory), $out and the array $flags.
+# The compilations, for scripts that set $here (this directory), $out and the array $flags; and what they need.
+
+# shellcheck source=../needs.sh
+source "$(dirname "${BASH_SOURCE[0]}")/../needs.sh"
+# From ../shared beside the repository, or from $FLORINWICK_SHARED.
+noblit=${FLORINWICK_SHARED:-$(cd "$(dirname "${BASH_SOURCE[0]}")/../.." && pwd)/../shared}/docs/src/noblit/src
+
+need_oracle() {
+    need_rustc
+    need patch 'Debian has it in patch'
+    [ -d "$noblit" ] || lacks "no noblit source at $noblit: set FLORINWICK_SHARED to the directory that holds docs/src/noblit (docs/ORACLE.md)"
+}
 
 # Noblit's own warnings are its authors' matter.
 build_noblit() {
@@ -22,7 +33,9 @@ build_driver() {
 # build/NAME. To be called in the repository.
 build_against() {
     local crate=$1 name=$2
-    rt staticlib "$crate" > /dev/null
+    need_rt
+    need_oracle
+    bash cmake/archive.sh "$crate"
     bash tests/oracle/build.sh
     mkdir -p "build/$name"
     rustc --edition 2021 --crate-name "$name" -D warnings -C opt-level=2 -C debug-assertions=on -C overflow-checks=on \

@@ -8,6 +8,7 @@ cd "$(dirname "${BASH_SOURCE[0]}")/../.."
 # shellcheck source=../oracle/steps.sh
 source tests/oracle/steps.sh
 
+need_cxx
 build_against florinwick records
 g++ -std=c++17 -Wall -Wextra -Wpedantic -Wconversion -Wshadow -Werror -Iinclude tests/records/caller.cpp \
     target/staticlib/libflorinwick.a -o build/records/caller

@@ -8,6 +8,17 @@ namespace florin {
 
 using florinwick::Datom;
 
+namespace {
+
+const char kBinaryForm[] = "A binary batch is its number of datoms, 8 bytes little-endian, then 32 bytes for each.";
+
+}  // namespace
+
+void Batch::add(const Datom &datom) {
+    bytes.resize(bytes.size() + Datom::size);
+    datom.write(bytes.data() + bytes.size() - Datom::size);
+}
+
 std::string Batch::place_of(std::uint64_t at) const {
     std::string place = "batch " + std::to_string(number);
     if (at < lines.size()) place += ", line " + std::to_string(lines[at]);
@@ -15,8 +26,27 @@ std::string Batch::place_of(std::uint64_t at) const {
     return place;
 }
 
-Batches::Batches(const std::string &path, Form form, std::uint64_t every)
-    : path_(path), form_(form), every_(every), file_(path == "-" ? stdin : std::fopen(path.c_str(), "rb")) {
+Json Batch::place_json(std::uint64_t at) const {
+    Json place = {{"batch", number}};
+    if (at < lines.size()) place.put("line", lines[at]);
+    if (at < datoms()) place.put("text", datom_text(datom(at)));
+    return place;
+}
+
+std::string batch_text(const Batch &batch, Form form) {
+    std::string text;
+    if (form == Form::Binary) {
+        std::uint8_t count[8];
+        florinwick::put_word(count, batch.datoms());
+        text.assign(count, count + sizeof count);
+        return text.append(batch.bytes.begin(), batch.bytes.end());
+    }
+    for (std::uint64_t i = 0; i < batch.datoms(); ++i) text += datom_text(batch.datom(i)) + "\n";
+    return text + "---\n";
+}
+
+Batches::Batches(const std::string &path, Form form, const Cut &cut)
+    : path_(path), form_(form), cut_(cut), file_(path == "-" ? stdin : std::fopen(path.c_str(), "rb")) {
     if (file_ == nullptr) throw system_trouble(errno, "read", path);
 }
 
@@ -25,17 +55,19 @@ Batches::~Batches() {
 }
 
 bool Batches::next(Batch &batch) {
-    if (ended_) return false;
     batch = Batch{};
-    batch.number = ++batches_;
-    closed_ = false;
-    if (form_ == Form::Text) {
-        read_text(batch);
-    } else {
-        read_binary(batch);
-    }
+    batch.number = batches_ + 1;
+    const bool found = form_ == Form::Text ? read_text(batch) : read_binary(batch);
     if (std::ferror(file_)) throw system_trouble(errno, "read", path_);
-    return batch.number == 1 || closed_ || !batch.bytes.empty();
+    if (found) ++batches_;
+    return found;
+}
+
+Trouble Batches::refused(const florinwick::Answer &answer, const Batch &batch) const {
+    const bool of_datom = answer.carries() == florinwick::Carries::Index;
+    Trouble trouble = refusal(answer, of_datom ? batch.place_of(answer.detail) : "batch " + std::to_string(batch.number));
+    trouble.more.put_all(batch.place_json(of_datom ? answer.detail : batch.datoms()));
+    return trouble;
 }
 
 bool Batches::read_line(std::string &line) {
@@ -48,40 +80,70 @@ bool Batches::read_line(std::string &line) {
 }
 
 Trouble Batches::bad_line(const std::string &message) const {
-    const std::string where = (path_ == "-" ? "standard input" : path_) + ", line " + std::to_string(line_);
-    return {kBadText, "BadText", where + ": " + message + ". Nothing of its batch was written.",
-            "correct the line; florin --help shows the form. Batches before it are in: send from this one on."};
+    return {kBadText, "BadText", name() + ", line " + std::to_string(line_) + ": " + message + ". Nothing of its batch was written.",
+            "correct the line; florin insert --help shows the form. Batches before it are in: send from this one on.",
+            {{"batch", batches_ + 1}, {"line", line_}}};
 }
 
-void Batches::read_text(Batch &batch) {
+Trouble Batches::not_closed(const Batch &batch) const {
+    const std::uint64_t first = batch.lines.empty() ? line_ : batch.lines[0];
+    return {kNotClosed, "NotClosed",
+            name() + " ends within batch " + std::to_string(batch.number) + ", which begins in line " + std::to_string(first) + ": " +
+                counted(batch.datoms(), "datom") + " and no line --- behind them. Nothing of it was written.",
+            "if the input was cut off, send this batch again, whole; if it is whole, end it with a line ---, or say --last-batch-open.",
+            {{"batch", batch.number}, {"line", first}, {"datoms", batch.datoms()}}};
+}
+
+bool Batches::read_text(Batch &batch) {
     std::string line;
     while (batch.datoms() < most()) {
         if (!read_line(line)) {
-            ended_ = true;
-            return;
-        }
-        const std::vector<std::string> words = words_of_line(line);
-        if (words.empty()) continue;
-        if (words.size() == 1 && words[0] == "---") {
-            closed_ = true;
-            return;
+            if (batch.bytes.empty() || std::ferror(file_)) return false;
+            if (!cut_.last_may_be_open) throw not_closed(batch);
+            return true;
         }
         try {
-            const Datom datom = parse_datom(words);
-            batch.bytes.resize(batch.bytes.size() + Datom::size);
-            datom.write(batch.bytes.data() + batch.bytes.size() - Datom::size);
-            batch.lines.push_back(line_);
+            const std::vector<std::string> words = words_of_line(line);
+            if (words.size() == 1 && words[0] == "---") {
+                if (!batch.bytes.empty()) return true;
+            } else if (!words.empty()) {
+                batch.add(parse_datom(words));
+                batch.lines.push_back(line_);
+            }
         } catch (const BadText &bad) {
             throw bad_line(bad.message);
         }
     }
+    return true;
 }
 
-void Batches::read_binary(Batch &batch) {
-    batch.bytes.resize(most() * Datom::size);
+Trouble Batches::cut_binary(std::uint64_t batch, const std::string &how) const {
+    return {kNotClosed, "NotClosed", name() + " ends within batch " + std::to_string(batch) + ": " + how + ". Nothing of it was written.",
+            std::string("if the input was cut off, send this batch again, whole. ") + kBinaryForm, {{"batch", batch}}};
+}
+
+bool Batches::read_binary(Batch &batch) {
+    std::uint64_t declared = 0;
+    while (declared == 0) {
+        std::uint8_t word[8];
+        const std::size_t got = std::fread(word, 1, sizeof word, file_);
+        if (got == 0 || std::ferror(file_)) return false;
+        if (got < sizeof word) throw cut_binary(batch.number, "its number of datoms has " + counted(got, "byte") + " of 8");
+        declared = florinwick::get_word(word);
+    }
+    if (declared > FLORINWICK_BATCH_MAX) {
+        throw Trouble{static_cast<int>(florinwick::Number::TooMany), "TooMany",
+                      "batch " + std::to_string(batch.number) + " says that it has " + grouped(declared) +
+                          " datoms. A batch has at most 128. Nothing of it was written.",
+                      std::string("cut it into batches. ") + kBinaryForm, {{"batch", batch.number}}};
+    }
+    batch.bytes.resize(declared * Datom::size);
     const std::size_t got = std::fread(batch.bytes.data(), 1, batch.bytes.size(), file_);
-    ended_ = got < batch.bytes.size();
-    batch.bytes.resize(got);
+    if (got < batch.bytes.size() && !std::ferror(file_)) {
+        throw cut_binary(batch.number, "of the " + counted(declared, "datom") + " that it says, " + counted(got, "byte") + " are there, not " +
+                                           grouped(batch.bytes.size()));
+    }
+    return true;
 }
 
 }  // namespace florin

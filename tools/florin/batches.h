@@ -1,4 +1,9 @@
 // Batches of datoms out of a file or the standard input, one at a time, so that a feed is inserted as it comes.
+//
+// A batch is handed out only once its end was seen, since a feed may be cut off anywhere:
+//   text      a line --- ends it, or the N-th datom where the input is cut into batches of N
+//   binary    it begins with its number of datoms, 8 bytes little-endian; then 32 bytes for each
+// An input that ends within a batch is NotClosed. A batch without a datom is none, and is passed over.
 #ifndef FLORIN_BATCHES_H
 #define FLORIN_BATCHES_H
 
@@ -20,37 +25,50 @@ struct Batch {
 
     std::uint64_t datoms() const { return bytes.size() / florinwick::Datom::size; }
     florinwick::Datom datom(std::uint64_t at) const { return florinwick::Datom::read(bytes.data() + at * florinwick::Datom::size); }
+    void add(const florinwick::Datom &datom);
     // How a refusal names one of its datoms: batch, line and the datom itself.
     std::string place_of(std::uint64_t at) const;
+    Json place_json(std::uint64_t at) const;
 };
+
+// In the form in which Batches reads it.
+std::string batch_text(const Batch &batch, Form form);
 
 class Batches {
 public:
-    // "-" is the standard input. `every` cuts the input after so many datoms; 0 does not.
-    Batches(const std::string &path, Form form, std::uint64_t every);
+    struct Cut {
+        std::uint64_t every = 0;       // a batch has so many datoms; 0 leaves it to the lines
+        bool last_may_be_open = false; // the end of the input ends a batch too
+    };
+
+    // "-" is the standard input.
+    Batches(const std::string &path, Form form, const Cut &cut);
     ~Batches();
     Batches(const Batches &) = delete;
     Batches &operator=(const Batches &) = delete;
 
-    // The next batch. There is always a first one, be it empty. False at the end. Throws Trouble at a line that is no datom.
+    // The next batch, of one datom at least. False at the end. Throws Trouble at a line that is no datom, and at an end within a batch.
     bool next(Batch &batch);
+    // For what rests on a batch being as it was read: a refusal of it, with its place.
+    Trouble refused(const florinwick::Answer &answer, const Batch &batch) const;
 
 private:
     // One more than the library takes, and none behind it: a batch too large is refused by the library and fills no memory.
-    std::uint64_t most() const { return every_ != 0 ? every_ : FLORINWICK_BATCH_MAX + 1; }
-    void read_text(Batch &batch);
-    void read_binary(Batch &batch);
+    std::uint64_t most() const { return cut_.every != 0 ? cut_.every : FLORINWICK_BATCH_MAX + 1; }
+    bool read_text(Batch &batch);
+    bool read_binary(Batch &batch);
     bool read_line(std::string &line);
+    std::string name() const { return path_ == "-" ? "the standard input" : path_; }
     Trouble bad_line(const std::string &message) const;
+    Trouble not_closed(const Batch &batch) const;
+    Trouble cut_binary(std::uint64_t batch, const std::string &how) const;
 
     std::string path_;
     Form form_;
-    std::uint64_t every_;
+    Cut cut_;
     std::FILE *file_;
     std::uint64_t batches_ = 0;
     std::uint64_t line_ = 0;
-    bool ended_ = false;
-    bool closed_ = false;   // the batch was ended by a line ---, so that it counts even if it is empty
 };
 
 }  // namespace florin

@@ -21,7 +21,7 @@ int hex_digit(char c) {
     return -1;
 }
 
-// The end of a quoted word that begins at `at`: behind its closing quote, or the end of the line.
+// The end of a quoted word that begins at `at`: behind its closing quote.
 std::size_t end_of_quoted(const std::string &line, std::size_t at) {
     for (std::size_t i = at + 1; i < line.size(); ++i) {
         if (line[i] == '\\') {
@@ -30,7 +30,7 @@ std::size_t end_of_quoted(const std::string &line, std::size_t at) {
             return i + 1;
         }
     }
-    return line.size();
+    throw BadText{"the string " + line.substr(at) + " has no closing quote"};
 }
 
 std::size_t end_of_word(const std::string &line, std::size_t at) {
@@ -41,7 +41,6 @@ std::size_t end_of_word(const std::string &line, std::size_t at) {
 
 // Between the quotes: any byte, with \" and \\ for these two and \xNN for a byte by its number.
 std::string unquoted(const std::string &word) {
-    if (word.size() < 2 || word.back() != '"') throw BadText{"the string " + word + " has no closing quote"};
     std::string bytes;
     for (std::size_t i = 1; i + 1 < word.size(); ++i) {
         if (word[i] != '\\') {
@@ -175,10 +174,15 @@ std::string quoted(Value value) {
 
 }  // namespace
 
-std::string counted(std::uint64_t number, const char *thing) {
+std::string grouped(std::uint64_t number) {
     std::string digits = std::to_string(number);
     for (std::size_t at = digits.size(); at > 3; at -= 3) digits.insert(at - 3, ",");
-    return digits + " " + thing + (number == 1 ? "" : "s");
+    return digits;
+}
+
+std::string counted(std::uint64_t number, const std::string &thing) {
+    const bool hisses = thing.size() > 1 && thing.compare(thing.size() - 2, 2, "ch") == 0;
+    return grouped(number) + " " + thing + (number == 1 ? "" : hisses ? "es" : "s");
 }
 
 std::string value_text(Value value) {
@@ -188,6 +192,39 @@ std::string value_text(Value value) {
     char raw[24];
     std::snprintf(raw, sizeof raw, "0x%016llx", static_cast<unsigned long long>(value.word));
     return raw;
+}
+
+namespace {
+
+Json value_json(Value value) {
+    if (value.is_integer()) return value.word;
+    if (!value.is_text()) return value_text(value);
+    std::string text, hex;
+    bool printable = true;
+    for (std::size_t i = 0; i < value.text_size(); ++i) {
+        const char c = value.text_byte(i);
+        char digits[4];
+        std::snprintf(digits, sizeof digits, "%02x", static_cast<unsigned>(static_cast<unsigned char>(c)));
+        text += c;
+        hex += digits;
+        printable = printable && c >= ' ' && c <= '~';
+    }
+    return printable ? Json(text) : Json{{"bytes", hex}};
+}
+
+}  // namespace
+
+Json datom_json(const Datom &datom, std::uint64_t batch) {
+    Json object = {{"entity", datom.entity}, {"attribute", datom.attribute}, {"value", value_json(datom.value)}, {"transaction", datom.transaction()},
+                   {"operation", datom.is_assert() ? "assert" : "retract"}};
+    if (batch != 0) object.put("batch", batch);
+    return object;
+}
+
+std::string sum_text(std::uint64_t sum) {
+    char text[24];
+    std::snprintf(text, sizeof text, "%016llx", static_cast<unsigned long long>(sum));
+    return text;
 }
 
 std::string datom_text(const Datom &datom) {

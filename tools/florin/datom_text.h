@@ -3,6 +3,7 @@
 #define FLORIN_DATOM_TEXT_H
 
 #include "florinwick.hpp"
+#include "json.h"
 
 #include <string>
 #include <vector>
@@ -14,7 +15,7 @@ struct BadText {
     std::string message;
 };
 
-// The words of a line up to a comment. A string in quotes is one word, and keeps its quotes.
+// The words of a line up to a comment. A string in quotes is one word, and keeps its quotes. Throws BadText if its end is missing.
 std::vector<std::string> words_of_line(const std::string &line);
 
 // Of five words. Throws BadText.
@@ -26,11 +27,17 @@ florinwick::Datom parse_bound(const std::string &text);
 // A decimal number. Throws BadText, which calls it `what`.
 std::uint64_t parse_number(const std::string &word, const std::string &what);
 
-// "1 page", "1,024 pages"
-std::string counted(std::uint64_t number, const char *thing);
+// "1,024", as every count is told; numbers of pages, roots and batches are names, and have no commas.
+std::string grouped(std::uint64_t number);
+// "1 page", "1,024 pages", "2 batches"
+std::string counted(std::uint64_t number, const std::string &thing);
 
 std::string value_text(florinwick::Value value);
 std::string datom_text(const florinwick::Datom &datom);
+// A string with other bytes than those of printable ASCII is an object with its bytes in hexadecimal. With the batch, if it is not 0.
+Json datom_json(const florinwick::Datom &datom, std::uint64_t batch = 0);
+// A checksum, as xxh64sum prints it.
+std::string sum_text(std::uint64_t sum);
 
 }  // namespace florin
 

@@ -95,7 +95,8 @@ private:
 
 class Picture {
 public:
-    explicit Picture(const Subject &subject) : subject_(subject), shape_(Shape::of(subject)), layout_(subject, shape_), first_new_(first_new()) {}
+    explicit Picture(const Subject &subject)
+        : subject_(subject), shape_(Shape::of(subject.reader, subject.root)), layout_(subject, shape_), first_new_(first_new()) {}
 
     std::string draw() {
         const std::vector<Card> &cards = layout_.cards();
@@ -140,7 +141,7 @@ private:
     std::string summary() const {
         if (subject_.root == florinwick::none) return "No datoms yet.";
         if (layout_.cards().empty()) return "This page cannot be read: run florin check.";
-        std::string text = counted(shape_.datoms, "datom") + ", " + std::to_string(shape_.pending) + " of them pending, in " +
+        std::string text = counted(shape_.datoms(), "datom") + ", " + grouped(shape_.pending) + " of them pending, in " +
                            counted(shape_.all_pages(), "page") + " of " + std::to_string(subject_.reader.page_size()) + " bytes.";
         if (const std::uint64_t batch = subject_.batch_of(subject_.root)) {
             const Receipt &receipt = subject_.receipts[batch - 1];

@@ -6,21 +6,6 @@
 
 namespace florin {
 
-std::optional<PageView> Subject::page(std::uint64_t id) const {
-    const florinwick::ByteView bytes = reader.fetch(id);
-    if (bytes.empty()) return std::nullopt;
-    const PageView view(id, bytes);
-    if (!view.is_plausible()) return std::nullopt;
-    return view;
-}
-
-std::optional<PageView> Subject::child(const PageView &parent, unsigned at) const {
-    if (parent.child(at) >= parent.id()) return std::nullopt;
-    const std::optional<PageView> view = page(parent.child(at));
-    if (!view || view->level() + 1 != parent.level()) return std::nullopt;
-    return view;
-}
-
 std::uint64_t Subject::batch_of(std::uint64_t page) const {
     const auto after = [](std::uint64_t id, const Receipt &receipt) { return id < receipt.page_count; };
     const auto found = std::upper_bound(receipts.begin(), receipts.end(), page, after);
@@ -28,25 +13,6 @@ std::uint64_t Subject::batch_of(std::uint64_t page) const {
 }
 
 namespace {
-
-// In a damaged store one page may be a child many times over. A tree has no more pages than the store, and the walk ends there.
-void count_below(const Subject &subject, const PageView &page, Shape &shape) {
-    if (shape.all_pages() >= subject.reader.page_count()) {
-        shape.lost += 1;
-        return;
-    }
-    shape.pages[page.level()] += 1;
-    shape.datoms += page.count();
-    for (unsigned i = 0; i < page.count(); ++i) shape.pending += page.is_pending(i);
-    for (unsigned i = 0; i <= page.count(); ++i) {
-        if (!page.has_child(i)) continue;
-        if (const auto child = subject.child(page, i)) {
-            count_below(subject, *child, shape);
-        } else {
-            shape.lost += 1;
-        }
-    }
-}
 
 const char *kind_of(const PageView &page, unsigned at) {
     if (page.level() == 0) return "";
@@ -95,19 +61,6 @@ private:
 
 }  // namespace
 
-Shape Shape::of(const Subject &subject) {
-    Shape shape;
-    shape.pages.resize(FLORINWICK_LEVELS);
-    if (const auto root = subject.page(subject.root)) count_below(subject, *root, shape);
-    return shape;
-}
-
-std::uint64_t Shape::all_pages() const {
-    std::uint64_t all = 0;
-    for (std::uint64_t pages_of_level : pages) all += pages_of_level;
-    return all;
-}
-
 void draw_page(std::FILE *out, const PageView &page) {
     if (!page.is_plausible()) {
         std::fprintf(out, "page %s: level %u, %u of %u datoms; no page can have these\n", page_text(page.id()).c_str(), page.level(),
@@ -128,9 +81,9 @@ void draw_text(std::FILE *out, const Subject &subject) {
                      subject.root == florinwick::none ? "has no datoms" : "cannot be read: run florin check");
         return;
     }
-    const Shape shape = Shape::of(subject);
-    std::fprintf(out, "root %s: %s, %llu of them pending, in %s\n", page_text(subject.root).c_str(), counted(shape.datoms, "datom").c_str(),
-                 static_cast<unsigned long long>(shape.pending), counted(shape.all_pages(), "page").c_str());
+    const Shape shape = Shape::of(subject.reader, subject.root);
+    std::fprintf(out, "root %s: %s, %s of them pending, in %s\n", page_text(subject.root).c_str(), counted(shape.datoms(), "datom").c_str(),
+                 grouped(shape.pending).c_str(), counted(shape.all_pages(), "page").c_str());
     std::fprintf(out, "%s\n", line_of(*root).c_str());
     Outline(out, subject).below(*root, "", subject.levels);
 }

@@ -15,7 +15,8 @@ public:
     PageView(std::uint64_t id, florinwick::ByteView bytes) : id_(id), bytes_(bytes) {}
 
     std::uint64_t id() const { return id_; }
-    unsigned capacity() const { return static_cast<unsigned>((bytes_.size() - 16) / 40); }
+    static unsigned capacity_of(std::uint64_t page_size) { return static_cast<unsigned>((page_size - 16) / 40); }
+    unsigned capacity() const { return capacity_of(bytes_.size()); }
     unsigned level() const { return bytes_[40 * capacity() + 8]; }
     unsigned count() const { return bytes_[40 * capacity() + 9]; }
     // Level and count are such that the rest can be shown.

@@ -1,15 +1,16 @@
 #include "store_file.h"
 
+#include "checksum.h"
+#include "datom_text.h"
+
 #include <algorithm>
 #include <cerrno>
-#include <cstdlib>
+#include <chrono>
 #include <cstring>
 #include <ctime>
 
 #include <fcntl.h>
 #include <sys/file.h>
-#include <sys/mman.h>
-#include <sys/stat.h>
 #include <unistd.h>
 
 namespace florin {
@@ -17,133 +18,24 @@ namespace florin {
 using florinwick::Answer;
 using florinwick::ByteArea;
 using florinwick::ByteView;
-using florinwick::get_word;
+using florinwick::Datom;
 using florinwick::Number;
-using florinwick::put_word;
 
 namespace {
 
-const char kMark[] = "FLORINW1";       // eight bytes; the last is the version of the format
-const std::uint64_t kSlotBytes = 4096;  // a block of its own for each head
-const std::uint64_t kPagesAt = 2 * kSlotBytes;
-const std::uint64_t kHeadBytes = 72;    // the mark, seven words, the checksum
-const std::uint64_t kReceiptBytes = 64;
-const std::uint64_t kBlock = 4096;
 const std::uint64_t kLeastGrowth = 256 * 1024;
-const std::uint64_t kLargestFile = std::uint64_t{1} << 62;
-
-// FNV-1a over 64 bits. It finds a torn write or a stray edit; it is no guard against malice.
-std::uint64_t checksum(std::uint64_t sum, const std::uint8_t *bytes, std::size_t length) {
-    for (std::size_t i = 0; i < length; ++i) sum = (sum ^ bytes[i]) * 0x100000001b3u;
-    return sum;
-}
-const std::uint64_t kSumStart = 0xcbf29ce484222325u;
-
-std::uint64_t rounded_up(std::uint64_t bytes) { return (bytes + kBlock - 1) / kBlock * kBlock; }
-
-void encode_head(const Head &head, std::uint8_t *slot) {
-    std::memcpy(slot, kMark, 8);
-    const std::uint64_t words[] = {head.sequence, head.page_size, head.page_count, head.root, head.end, head.receipts, head.chain};
-    for (int i = 0; i < 7; ++i) put_word(slot + 8 + 8 * i, words[i]);
-    put_word(slot + kHeadBytes - 8, checksum(kSumStart, slot, kHeadBytes - 8));
-}
-
-bool has_mark(const std::uint8_t *slot) { return std::memcmp(slot, kMark, 8) == 0; }
-
-std::optional<Head> decode_head(const std::uint8_t *slot) {
-    if (!has_mark(slot)) return std::nullopt;
-    if (get_word(slot + kHeadBytes - 8) != checksum(kSumStart, slot, kHeadBytes - 8)) return std::nullopt;
-    Head head;
-    head.sequence = get_word(slot + 8);
-    head.page_size = get_word(slot + 16);
-    head.page_count = get_word(slot + 24);
-    head.root = get_word(slot + 32);
-    head.end = get_word(slot + 40);
-    head.receipts = get_word(slot + 48);
-    head.chain = get_word(slot + 56);
-    return head;
-}
-
-void encode_receipt(const Receipt &receipt, std::uint64_t chain_before, std::uint8_t *at) {
-    const std::uint64_t words[] = {receipt.from, receipt.root, receipt.pages, receipt.page_count, receipt.datoms, receipt.time, chain_before};
-    for (int i = 0; i < 7; ++i) put_word(at + 8 * i, words[i]);
-    put_word(at + 56, checksum(kSumStart, at, 56));
-}
-
-// The chain of checksums: each covers the one before, so a single receipt cannot be changed, left out or moved.
-std::uint64_t chain_of(const std::uint8_t *at) { return get_word(at + 56); }
-
-bool follows(const std::uint8_t *at, std::uint64_t chain_before) {
-    return get_word(at + 48) == chain_before && chain_of(at) == checksum(kSumStart, at, 56);
-}
-
-Receipt decode_receipt(const std::uint8_t *at) {
-    return {get_word(at), get_word(at + 8), get_word(at + 16), get_word(at + 24), get_word(at + 32), get_word(at + 40)};
-}
-
-// posix_fallocate gives the error instead of setting errno.
-int reserve(int file, std::uint64_t length) {
-    int error;
-    do error = posix_fallocate(file, 0, static_cast<off_t>(length));
-    while (error == EINTR);
-    return error;
-}
-
-void write_whole(int file, const std::uint8_t *bytes, std::size_t length, std::uint64_t at, const std::string &path) {
-    while (length > 0) {
-        const ssize_t written = pwrite(file, bytes, length, static_cast<off_t>(at));
-        if (written < 0 && errno == EINTR) continue;
-        if (written < 0) throw system_trouble(errno, "write the head of", path);
-        bytes += written;
-        length -= static_cast<std::size_t>(written);
-        at += static_cast<std::uint64_t>(written);
-    }
-}
-
-// As many bytes as the file has there, up to the length.
-std::size_t read_some(int file, std::uint8_t *bytes, std::size_t length, const std::string &path) {
-    std::size_t got = 0;
-    while (got < length) {
-        const ssize_t more = pread(file, bytes + got, length - got, static_cast<off_t>(got));
-        if (more < 0 && errno == EINTR) continue;
-        if (more < 0) throw system_trouble(errno, "read", path);
-        if (more == 0) break;
-        got += static_cast<std::size_t>(more);
-    }
-    return got;
-}
-
-std::uint64_t size_of(int file, const std::string &path) {
-    struct stat status;
-    if (fstat(file, &status) != 0) throw system_trouble(errno, "look at", path);
-    if (!S_ISREG(status.st_mode)) {
-        throw Trouble{kNotAStore, "NotAStore", path + " is no regular file.", "name a file that florin create has made."};
-    }
-    return static_cast<std::uint64_t>(status.st_size);
-}
-
-// A new name lasts only once its directory is on the disk.
-void sync_directory_of(const std::string &path) {
-    const std::size_t slash = path.rfind('/');
-    const std::string directory = slash == std::string::npos ? "." : slash == 0 ? "/" : path.substr(0, slash);
-    const int file = open(directory.c_str(), O_RDONLY | O_DIRECTORY | O_CLOEXEC);
-    if (file < 0) throw system_trouble(errno, "open", directory);
-    const int failed = fsync(file) != 0 ? errno : 0;
-    close(file);
-    if (failed != 0 && failed != EINVAL) throw system_trouble(failed, "sync", directory);
-}
 
 Trouble not_a_store(const std::string &path, const std::string &why) {
     return {kNotAStore, "NotAStore", path + " is no store of florin: " + why + ".", "name a file that florin create has made."};
 }
 
-Trouble exists(const std::string &path) {
-    return {kExists, "Exists", path + " stands there already. It was left as it is.", "name another file, or move that one away."};
+Trouble bad_head(const std::string &path, const std::string &why) {
+    return {kBadHead, "BadHead", "the head of " + path + " is damaged: " + why + ". The file was left as it is.", "restore the file from a backup."};
 }
 
-Trouble bad_head(const std::string &path, const std::string &why) {
-    return {kBadHead, "BadHead", "the head of " + path + " is damaged: " + why + ". The file was left as it is.", "restore the file from a copy."};
-}
+Trouble cut_short(const std::string &what) { return {kCutShort, "CutShort", what, "restore the file from a backup."}; }
+
+Trouble other_format(const std::string &what, const std::string &next) { return {kOtherFormat, "OtherFormat", what, next}; }
 
 // The two heads, as far as they are valid.
 struct Slots {
@@ -151,78 +43,120 @@ struct Slots {
 };
 
 Slots read_slots(int file, const std::string &path) {
-    std::uint8_t bytes[2 * kSlotBytes];
+    std::uint8_t bytes[kHeadsBytes];
     const std::size_t got = read_some(file, bytes, sizeof bytes, path);
     if (got == 0) throw not_a_store(path, "it is empty");
-    const bool marked = (got >= 8 && has_mark(bytes)) || (got >= kSlotBytes + 8 && has_mark(bytes + kSlotBytes));
-    if (!marked) throw not_a_store(path, "it does not begin as one");
-    if (got < sizeof bytes) throw Trouble{kCutShort, "CutShort", path + " ends within its head.", "restore the file from a copy."};
+    const auto marked = [&](const char *mark) {
+        return (got >= 8 && has_mark(bytes, mark)) || (got >= kSlotBytes + 8 && has_mark(bytes + kSlotBytes, mark));
+    };
+    if (marked(kMarkOfOne)) {
+        throw other_format(path + " was made by florin 0.1, in format 1. It was left as it is.",
+                           "florin upgrade " + path + " NEW makes a store of today's format from it.");
+    }
+    if (!marked(kMark)) throw not_a_store(path, "it does not begin as one");
+    if (got < sizeof bytes) throw cut_short(path + " ends within its head.");
     return {decode_head(bytes), decode_head(bytes + kSlotBytes)};
 }
 
-// Removes a file under its temporary name, whatever happens.
-struct Temporary {
-    std::string path;
-    ~Temporary() { unlink(path.c_str()); }
-};
-
 }  // namespace
 
+std::vector<std::uint8_t> sorted_batch(ByteView batch) {
+    std::vector<Datom> datoms;
+    for (std::size_t at = 0; at + Datom::size <= batch.size(); at += Datom::size) datoms.push_back(Datom::read(batch.data() + at));
+    std::sort(datoms.begin(), datoms.end());
+    std::vector<std::uint8_t> bytes(datoms.size() * Datom::size);
+    for (std::size_t i = 0; i < datoms.size(); ++i) datoms[i].write(bytes.data() + i * Datom::size);
+    return bytes;
+}
+
+// --- a new store
+
 Answer StoreFile::create(const std::string &path, std::uint64_t page_size, std::uint64_t room_pages, std::optional<ByteView> first) {
+    return build(path, page_size, room_pages, [&](StoreFile &store) { return first ? store.initialise(*first) : Answer{}; });
+}
+
+Answer StoreFile::build(const std::string &path, std::uint64_t page_size, std::uint64_t room_pages, const std::function<Answer(StoreFile &)> &fill) {
     if (florinwick_scratch_need(page_size) == 0) return florinwick::Store({}, page_size, {}).initialise({});
-    if (access(path.c_str(), F_OK) == 0) throw exists(path);
-    std::string temporary = path + ".XXXXXX";
-    const int file = mkostemp(temporary.data(), O_CLOEXEC);
-    if (file < 0) throw system_trouble(errno, "create", path);
-    const Temporary removed{temporary};
-    StoreFile store(path, file);
-    if (room_pages > (kLargestFile - kPagesAt - 2 * kBlock) / page_size) throw system_trouble(EFBIG, "create", path);
+    if (room_pages > (kLargestFile / 4) / page_size) throw system_trouble(EFBIG, "create", path);
+    NewFile file(path);
+    StoreFile store(path, file.file());
     store.head_.page_size = page_size;
-    store.head_.end = rounded_up(kPagesAt + room_pages * page_size + kReceiptBytes);
-    store.head_.chain = kSumStart;
-    if (const int error = reserve(file, store.head_.end)) throw system_trouble(error, "reserve room for", path);
-    store.map(PROT_READ | PROT_WRITE);
-    store.scratch_.resize(florinwick_scratch_need(page_size));
-    Answer answer;
-    if (first) answer = store.initialise(*first);
+    store.add_extents(rounded_up(room_pages * page_size), rounded_up(room_pages * kSumBytes), kBlock);
+    if (const int error = reserve(file.file(), store.head_.end())) throw system_trouble(error, "reserve room for", path);
+    store.map(true);
+    const Answer answer = fill(store);
     if (!answer.done()) return answer;
     // Into both slots, so that from now on a slot that is not valid tells of a cut.
     store.write_head();
     store.write_head();
-    const mode_t mask = umask(0);
-    umask(mask);
-    if (fchmod(file, 0666 & ~mask) != 0 || fsync(file) != 0) throw system_trouble(errno, "create", path);
-    if (link(temporary.c_str(), path.c_str()) != 0) throw errno == EEXIST ? exists(path) : system_trouble(errno, "create", path);
-    sync_directory_of(path);
+    file.keep();
     return answer;
 }
 
-StoreFile::StoreFile(const std::string &path, Access access) : path_(path) {
-    const bool writes = access == Access::Write;
+void write_store(const std::string &path, Head head, ByteView pages, ByteView sums, ByteView receipts) {
+    NewFile file(path);
+    head.extents.clear();
+    const std::pair<Kind, ByteView> parts[] = {{Kind::Receipts, receipts}, {Kind::Sums, sums}, {Kind::Pages, pages}};
+    for (const auto &part : parts) head.append(part.first, rounded_up(part.second.size()));
+    if (const int error = reserve(file.file(), head.end())) throw system_trouble(error, "reserve room for", path);
+    std::uint64_t at = kHeadsBytes;
+    for (const auto &part : parts) {
+        write_whole(file.file(), part.second.data(), part.second.size(), at, path);
+        at += rounded_up(part.second.size());
+    }
+    for (std::uint64_t slot = 0; slot < 2; ++slot) {
+        std::uint8_t bytes[kSlotBytes];
+        head.sequence += 1;
+        encode_head(head, bytes);
+        write_whole(file.file(), bytes, sizeof bytes, head.sequence % 2 * kSlotBytes, path);
+    }
+    file.keep();
+}
+
+void StoreFile::copy_to(const std::string &path) const {
+    for (std::uint64_t at = 0; at < head_.page_count; ++at) {
+        if (is_as_written(at)) continue;
+        throw Trouble{kAltered, "Altered", "page " + std::to_string(at) + " of " + path_ + " is not as it was written. No copy was made.",
+                      "run florin check --all, and restore the file from an older backup; cp copies the file as it is.", {{"page", at}}};
+    }
+    write_store(path, head_, pages(), {sums_.data(), static_cast<std::size_t>(kSumBytes * head_.page_count)},
+                {receipts_.data(), static_cast<std::size_t>(kReceiptBytes * head_.receipts)});
+}
+
+// --- opening
+
+StoreFile::StoreFile(const std::string &path, const Opening &opening) : path_(path) {
+    const bool writes = opening.access == Access::Write;
     file_ = open(path.c_str(), (writes ? O_RDWR : O_RDONLY) | O_CLOEXEC | O_NONBLOCK);
     if (file_ < 0) throw system_trouble(errno, "open", path);
     try {
         size_of(file_, path_);
-        if (writes) lock();
+        if (writes) lock(opening.wait);
         load_head();
-        map(writes ? PROT_READ | PROT_WRITE : PROT_READ);
+        map(writes);
+        test_receipts(opening.salvage && !writes);
     } catch (...) {
         close(file_);
         throw;
     }
-    if (writes) scratch_.resize(florinwick_scratch_need(head_.page_size));
 }
 
 StoreFile::~StoreFile() {
-    unmap();
-    close(file_);
+    if (owns_file_) close(file_);
 }
 
 // One process writes at a time. Readers need no lock: what a head counts as in use does not change.
-void StoreFile::lock() {
-    if (flock(file_, LOCK_EX | LOCK_NB) == 0) return;
-    if (errno != EWOULDBLOCK) throw system_trouble(errno, "lock", path_);
-    throw Trouble{kBusy, "Busy", "another process writes to " + path_ + ". Nothing was written.", "wait until it has ended, and try again."};
+void StoreFile::lock(double wait) {
+    const auto until = std::chrono::steady_clock::now() + std::chrono::duration<double>(wait);
+    while (flock(file_, LOCK_EX | LOCK_NB) != 0) {
+        if (errno == EINTR) continue;
+        if (errno != EWOULDBLOCK) throw system_trouble(errno, "lock", path_);
+        if (std::chrono::steady_clock::now() >= until) {
+            throw Trouble{kBusy, "Busy", "another process writes to " + path_ + ". Nothing was written.",
+                          "try again when it has ended, or let --wait SECONDS do that."};
+        }
+        usleep(10000);
+    }
 }
 
 void StoreFile::load_head() {
@@ -235,153 +169,196 @@ void StoreFile::load_head() {
     if (!slots.first && !slots.second) throw bad_head(path_, "neither of its two slots is valid");
     head_ = !slots.second || (slots.first && slots.first->sequence > slots.second->sequence) ? *slots.first : *slots.second;
     broken_slot_ = !(slots.first && slots.second);
-    test_head();
-}
-
-// The checksum was right, and yet the head may have been made by a program in error.
-void StoreFile::test_head() const {
+    // The checksum was right, and yet the head may have been made by another program.
+    if (const std::string news = news_of(head_); !news.empty()) {
+        throw other_format(path_ + " was made by a newer florin: it has " + news + ". It was left as it is.", "use that florin.");
+    }
     const std::uint64_t size = size_of(file_, path_);
-    if (florinwick_scratch_need(head_.page_size) == 0) throw bad_head(path_, "its page size is " + std::to_string(head_.page_size));
-    if (head_.end > size) {
-        throw Trouble{kCutShort, "CutShort",
-                      path_ + " has " + std::to_string(size) + " bytes, and its head says " + std::to_string(head_.end) + ".",
-                      "restore the file from a copy."};
-    }
-    if (head_.end < kPagesAt + kReceiptBytes || head_.receipts > (head_.end - kPagesAt) / kReceiptBytes - 1) {
-        throw bad_head(path_, "it counts " + std::to_string(head_.receipts) + " receipts, more than the file holds");
-    }
-    if (head_.page_count > room_beside(head_.receipts) / head_.page_size) {
-        throw bad_head(path_, "it counts " + std::to_string(head_.page_count) + " pages, more than the file holds");
-    }
-    if (head_.root != florinwick::none && head_.root >= head_.page_count) {
-        throw bad_head(path_, "its root is page " + std::to_string(head_.root) + " of " + std::to_string(head_.page_count));
-    }
+    if (const std::string fault = fault_of(head_, size); !fault.empty()) throw bad_head(path_, fault);
+    if (head_.end() > size) throw cut_short(path_ + " has " + grouped(size) + " bytes, and its head says " + grouped(head_.end()) + ".");
 }
 
-void StoreFile::map(int protection) {
-    void *at = mmap(nullptr, head_.end, protection, MAP_SHARED, file_, 0);
-    if (at == MAP_FAILED) throw system_trouble(errno, "map", path_);
-    base_ = static_cast<std::uint8_t *>(at);
-    mapped_ = head_.end;
+void StoreFile::map(bool may_write) {
+    pages_.map(file_, head_.extents, Kind::Pages, may_write, path_);
+    sums_.map(file_, head_.extents, Kind::Sums, may_write, path_);
+    receipts_.map(file_, head_.extents, Kind::Receipts, may_write, path_);
+    if (may_write) scratch_.resize(florinwick_scratch_need(head_.page_size));
 }
 
-void StoreFile::unmap() {
-    if (base_ != nullptr) munmap(base_, mapped_);
-    base_ = nullptr;
+// All of them, at every opening: a copy whose head is of one moment and whose receipts are of another is found by whoever opens it.
+void StoreFile::test_receipts(bool salvage) {
+    broken_receipts_ = !are_receipts_whole();
+    if (!broken_receipts_ || salvage) return;
+    throw Trouble{kBadHead, "BadHead", "the receipts of " + path_ + " are not those that its head speaks of. The file was left as it is.",
+                  "restore the file from a backup; with --salvage florin list, check, page and tree read its newest root."};
 }
 
-std::uint64_t StoreFile::offset_of(std::uint64_t page) const { return kPagesAt + page * head_.page_size; }
+bool StoreFile::are_receipts_whole() const {
+    std::uint64_t chain = 0;
+    Receipt last;
+    for (std::uint64_t i = 0; i < head_.receipts; ++i) {
+        const std::uint8_t *at = receipts_.data() + kReceiptBytes * i;
+        const Receipt receipt = decode_receipt(at);
+        if (!follows(at, chain) || !may_follow(receipt, last)) return false;
+        chain = chain_of(at);
+        last = receipt;
+    }
+    return chain == head_.chain && last.root == head_.root() && last.page_count == head_.page_count;
+}
 
-// The bytes for pages when there are so many receipts.
-std::uint64_t StoreFile::room_beside(std::uint64_t receipts) const { return head_.end - kPagesAt - kReceiptBytes * receipts; }
+// --- what there is
 
-ByteView StoreFile::pages() const { return {base_ + kPagesAt, static_cast<std::size_t>(room_beside(head_.receipts))}; }
+std::uint64_t StoreFile::file_size() const { return size_of(file_, path_); }
 
-// What the library may write to: it leaves a place for one more receipt. Where even the pages in use leave none, no page fits.
+std::uint64_t StoreFile::offset_of(std::uint64_t page) const {
+    std::uint64_t at = page * head_.page_size;
+    for (const Extent &extent : head_.extents) {
+        if (extent.kind != Kind::Pages) continue;
+        if (at < extent.length) return extent.offset + at;
+        at -= extent.length;
+    }
+    return head_.end();
+}
+
+ByteView StoreFile::page(std::uint64_t at) const { return {pages_.data() + at * head_.page_size, static_cast<std::size_t>(head_.page_size)}; }
+
+ByteView StoreFile::pages() const { return {pages_.data(), static_cast<std::size_t>(head_.page_count * head_.page_size)}; }
+
+std::vector<Receipt> StoreFile::receipts() const {
+    std::vector<Receipt> receipts;
+    if (broken_receipts_) return receipts;
+    for (std::uint64_t i = 0; i < head_.receipts; ++i) receipts.push_back(decode_receipt(receipts_.data() + kReceiptBytes * i));
+    return receipts;
+}
+
+bool StoreFile::is_as_written(std::uint64_t at) const { return florinwick::get_word(sums_at(at)) == page_checksum(at, page(at)); }
+
+bool StoreFile::has_sums_of(const Receipt &receipt) const {
+    if (receipt.pages > receipt.page_count || receipt.page_count > head_.page_count) return false;
+    return checksum(sums_at(receipt.page_count - receipt.pages), kSumBytes * receipt.pages) == receipt.pages_sum;
+}
+
+// --- writing
+
+// What the library may write to: pages that have a place for their checksums, if there is a place for the receipt.
 ByteArea StoreFile::lent() const {
-    const std::uint64_t in_use = head_.page_count * head_.page_size;
-    const std::uint64_t bytes = std::max(room_beside(head_.receipts + 1), in_use);
-    return {base_ + kPagesAt, static_cast<std::size_t>(bytes)};
+    const std::uint64_t room = std::min(pages_.size(), sums_.size() / kSumBytes * head_.page_size);
+    return {pages_.data(), static_cast<std::size_t>(has_place_for_receipt() ? room : head_.page_count * head_.page_size)};
 }
 
 std::uint64_t StoreFile::free_pages() const { return lent().size() / head_.page_size - head_.page_count; }
 
-Answer StoreFile::insert(std::uint64_t root, ByteView batch, bool may_grow) {
+bool StoreFile::has_place_for_receipt() const { return receipts_.size() / kReceiptBytes > head_.receipts; }
+
+Answer StoreFile::insert(std::uint64_t root, ByteView batch, const Terms &terms) {
     const auto call = [&](florinwick::Store &tree) { return tree.insert_at(root, batch); };
-    return write_tree(call, root, batch, may_grow);
+    return write_tree(call, root, batch, terms);
 }
 
 Answer StoreFile::initialise(ByteView batch) {
     const auto call = [&](florinwick::Store &tree) { return tree.initialise(batch); };
-    return write_tree(call, florinwick::none, batch, true);
+    return write_tree(call, florinwick::none, batch, Terms{});
 }
 
 template <class Call>
-Answer StoreFile::write_tree(Call call, std::uint64_t from, ByteView batch, bool may_grow) {
-    florinwick::Store tree(lent(), head_.page_size, scratch_, head_.page_count, head_.root);
+Answer StoreFile::write_tree(Call call, std::uint64_t from, ByteView batch, const Terms &terms) {
+    florinwick::Store tree(lent(), head_.page_size, ByteArea(scratch_), head_.page_count, head_.root());
     Answer answer = call(tree);
-    while (answer.number == Number::NoRoom && may_grow) {
+    while (answer.number == Number::NoRoom && terms.may_grow) {
         grow();
         tree.lend(lent());
         answer = call(tree);
     }
     // An empty batch at root none writes no page, and there is nothing to keep.
-    if (answer.done() && answer.pages > 0) commit(answer, from, batch.size() / florinwick::Datom::size);
+    if (answer.done() && answer.pages > 0) commit(answer, from, batch, terms);
     return answer;
 }
 
-void StoreFile::commit(const Answer &answer, std::uint64_t from, std::uint64_t datoms) {
-    const std::uint64_t first_new = offset_of(head_.page_count);
-    head_.page_count += answer.pages;
-    head_.root = answer.root;
-    put_receipt({from, answer.root, answer.pages, head_.page_count, datoms, static_cast<std::uint64_t>(std::time(nullptr))});
-    // From the new pages up to the receipts at the end in one go; what lies between them is clean.
-    sync_part(first_new, head_.end);
+void StoreFile::commit(const Answer &answer, std::uint64_t from, ByteView batch, const Terms &terms) {
+    const std::vector<std::uint8_t> datoms = sorted_batch(batch);
+    Receipt receipt;
+    receipt.from = from;
+    receipt.root = answer.root;
+    receipt.pages = answer.pages;
+    receipt.page_count = head_.page_count + answer.pages;
+    receipt.datoms = datoms.size() / Datom::size;
+    receipt.time = terms.time ? *terms.time : static_cast<std::uint64_t>(std::time(nullptr));
+    receipt.flags = terms.flags;
+    receipt.datoms_sum = checksum(datoms.data(), datoms.size());
+    receipt.pages_sum = put_sums(head_.page_count, answer.pages);
+    put_receipt(receipt);
+    head_.page_count = receipt.page_count;
+    head_.roots[0] = receipt.root;
+    settle();
     write_head();
 }
 
-void StoreFile::put_receipt(const Receipt &receipt) {
-    head_.receipts += 1;
-    const std::uint64_t at = head_.end - kReceiptBytes * head_.receipts;
-    encode_receipt(receipt, head_.chain, base_ + at);
-    head_.chain = chain_of(base_ + at);
+// Of pages past the count; gives the checksum of them all.
+std::uint64_t StoreFile::put_sums(std::uint64_t first, std::uint64_t count) {
+    for (std::uint64_t at = first; at < first + count; ++at) florinwick::put_word(sums_.data() + kSumBytes * at, page_checksum(at, page(at)));
+    return checksum(sums_at(first), kSumBytes * count);
 }
 
-void StoreFile::sync_part(std::uint64_t from, std::uint64_t to) {
-    const std::uint64_t start = from / kBlock * kBlock;
-    if (to > from && msync(base_ + start, to - start, MS_SYNC) != 0) throw system_trouble(errno, "sync the pages of", path_);
+void StoreFile::put_receipt(const Receipt &receipt) {
+    std::uint8_t *at = receipts_.data() + kReceiptBytes * head_.receipts;
+    encode_receipt(receipt, head_.chain, at);
+    head_.chain = chain_of(at);
+    head_.receipts += 1;
 }
 
 // What the head speaks of has been synced before.
 void StoreFile::write_head() {
     head_.sequence += 1;
-    std::uint8_t slot[kSlotBytes] = {};
+    std::uint8_t slot[kSlotBytes];
     encode_head(head_, slot);
     write_whole(file_, slot, sizeof slot, head_.sequence % 2 * kSlotBytes, path_);
-    if (fdatasync(file_) != 0) throw system_trouble(errno, "sync the head of", path_);
+    settle();
 }
 
+// A file that is being built has no name, so nobody meets it half written: NewFile syncs it as a whole.
+void StoreFile::settle() {
+    if (owns_file_) sync(file_, path_);
+}
+
+// What there is too little of, by half; where the disk has not so much, by less: what the batch needs may be a page.
 void StoreFile::grow() {
-    const std::uint64_t size = size_of(file_, path_), old_end = head_.end, receipts = kReceiptBytes * head_.receipts;
-    // By half, and by so much that the receipts at their new place do not touch the old ones.
-    const std::uint64_t more = std::max({old_end / 2, receipts + head_.page_size, kLeastGrowth});
-    if (more > kLargestFile - old_end) throw system_trouble(EFBIG, "enlarge", path_);
-    const std::uint64_t new_end = rounded_up(old_end + more);
-    if (const int error = reserve(file_, new_end)) {
-        // What was reserved in part goes back; the head does not speak of it.
-        if (ftruncate(file_, static_cast<off_t>(size)) != 0) throw system_trouble(errno, "enlarge", path_);
-        throw system_trouble(error, "enlarge", path_);
+    if (head_.extents.size() + 2 > kMostExtents) {
+        throw Trouble{kNoSpace, "NoSpace", path_ + " has grown too often by small parts. Root and pages are as they were.",
+                      "florin backup makes a copy of it in few parts; go on with that."};
     }
-    unmap();
-    head_.end = new_end;
-    map(PROT_READ | PROT_WRITE);
-    std::memcpy(base_ + new_end - receipts, base_ + old_end - receipts, receipts);
-    sync_part(new_end - receipts, new_end);
-    // The new length is part of what the head will speak of.
-    if (fsync(file_) != 0) throw system_trouble(errno, "sync", path_);
-    write_head();
+    const bool pages = has_place_for_receipt();
+    const std::uint64_t least = rounded_up(pages ? head_.page_size : kReceiptBytes), half = rounded_up((pages ? pages_ : receipts_).size() / 2);
+    int error = 0;
+    for (std::uint64_t more : {std::max(half, pages ? kLeastGrowth : least), 64 * least, 16 * least, 4 * least, least}) {
+        error = extend(pages ? more : 0, pages ? 0 : more);
+        if (error == 0) return;
+    }
+    throw system_trouble(error, "enlarge", path_);
 }
 
-std::optional<std::vector<Receipt>> StoreFile::chained_receipts() const {
-    std::vector<Receipt> receipts;
-    std::uint64_t chain = kSumStart;
-    for (std::uint64_t i = 1; i <= head_.receipts; ++i) {
-        const std::uint8_t *at = base_ + head_.end - kReceiptBytes * i;
-        if (!follows(at, chain)) return std::nullopt;
-        chain = chain_of(at);
-        receipts.push_back(decode_receipt(at));
+// The error where the disk, or a limit, has not so much; the file is then as it was.
+int StoreFile::extend(std::uint64_t more_pages, std::uint64_t more_receipts) {
+    const std::uint64_t size = size_of(file_, path_);
+    const Head before = head_;
+    const std::uint64_t capacity = (pages_.size() + more_pages) / head_.page_size * kSumBytes;
+    add_extents(more_pages, capacity > sums_.size() ? rounded_up(capacity - sums_.size()) : 0, more_receipts);
+    const int error = head_.end() > kLargestFile ? EFBIG : reserve(file_, head_.end());
+    if (error == 0) {
+        map(true);
+        return 0;
     }
-    if (chain != head_.chain) return std::nullopt;
-    return receipts;
+    head_ = before;
+    // What was reserved in part goes back; no head speaks of it.
+    if (ftruncate(file_, static_cast<off_t>(size)) != 0) throw system_trouble(errno, "enlarge", path_);
+    if (error != ENOSPC && error != EFBIG && error != EDQUOT) throw system_trouble(error, "enlarge", path_);
+    return error;
 }
 
-// A writer that lets the file grow moves the receipts and may then write over the old ones: then there is a newer head.
-std::vector<Receipt> StoreFile::receipts() const {
-    if (const auto receipts = chained_receipts()) return *receipts;
-    const StoreFile again(path_, Access::Read);
-    if (again.head_.sequence != head_.sequence) return again.receipts();
-    throw Trouble{kBadHead, "BadHead", "the list of roots in " + path_ + " is damaged. The file was left as it is.",
-                  "restore the file from a copy; florin list and florin check still read the newest root."};
+// Pages last, so that a file which has to grow by little grows by more of the same extent.
+void StoreFile::add_extents(std::uint64_t pages, std::uint64_t sums, std::uint64_t receipts) {
+    head_.append(Kind::Receipts, receipts);
+    head_.append(Kind::Sums, sums);
+    head_.append(Kind::Pages, pages);
 }
 
 }  // namespace florin

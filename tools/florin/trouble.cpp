@@ -16,7 +16,8 @@ Trouble system_trouble(int error, const std::string &doing, const std::string &p
         case ENOSPC:
         case EDQUOT:
         case EFBIG:
-            return {kNoSpace, "NoSpace", what, "make room on the disk, or raise the limit on file sizes, and try again; all that was accepted is kept."};
+            return {kNoSpace, "NoSpace", what,
+                    "make room on the disk, or raise the limit on file sizes, and try again; all that was accepted is kept."};
         case EACCES:
         case EPERM:
         case EROFS:
@@ -29,6 +30,8 @@ Trouble system_trouble(int error, const std::string &doing, const std::string &p
             return {kSystem, "System", what, "look at the disk and the system's log, then run florin check."};
     }
 }
+
+Trouble usage_trouble(const std::string &what) { return {kUsage, "Usage", what + ".", ""}; }
 
 std::string page_text(std::uint64_t page) {
     return page == florinwick::none ? "none" : std::to_string(page);
@@ -46,8 +49,7 @@ Words words_of(Number number) {
         case Number::BadStore:
             return {"The page size is not 256, 568 or 4096, or the pages do not fit into the store.", "choose one of these page sizes."};
         case Number::TooMany:
-            return {"A batch has at most 128 datoms of 32 bytes each. Nothing was written.",
-                    "cut it into batches: a line --- between them, or --every 128."};
+            return {"A batch has at most 128 datoms. Nothing was written.", "cut it into batches: a line --- after each, or --every 128."};
         case Number::BadDatom:
             return {"Its value is neither an integer below 2^62 nor a string of at most 7 bytes. Nothing was written.",
                     "correct that datom and send the batch again."};
@@ -57,10 +59,11 @@ Words words_of(Number number) {
         case Number::NoPage:
             return {"The store has no such page.", "take a root from florin roots."};
         case Number::Repeated:
-            return {"The tree holds it already. Nothing of the batch was written.", "take out of the batch what the tree holds, and send the rest."};
+            return {"The tree holds it already. Nothing of the batch was written.",
+                    "send what florin missing prints: the part of the input that the tree does not hold."};
         case Number::Damaged:
             return {"The page is missing, unreadable or of the wrong level. Root and pages are as they were.",
-                    "run florin check; older roots that do not reach the page can still be listed. Restore the file from a copy."};
+                    "run florin check; older roots that do not reach the page can still be listed. Restore the file from a backup."};
         case Number::TooTall:
             return {"The tree would get more than 8 levels. Root and pages are as they were.",
                     "create a store with larger pages and insert the listing of this one into it."};
@@ -70,7 +73,7 @@ Words words_of(Number number) {
             return {"The value of a bound is neither an integer below 2^62, nor a string of at most 7 bytes, nor max.", "correct --from or --to."};
         case Number::Unsound:
             return {"The check met its first fault in that page.",
-                    "restore the file from a copy; florin check --all says which roots are sound."};
+                    "restore the file from a backup; florin check --all says which roots are sound."};
         default:
             return {"This answer is not known.", "build florin anew with the library that it is linked to."};
     }
@@ -85,17 +88,61 @@ std::string carried(const Answer &answer) {
     return "";
 }
 
+Json carried_json(const Answer &answer) {
+    switch (answer.carries()) {
+        case Carries::Index: return {{"datom", answer.detail}};
+        case Carries::Page: return {{"page", page_json(answer.detail)}};
+        case Carries::Nothing: break;
+    }
+    return {};
+}
+
 }  // namespace
 
 Trouble refusal(const Answer &answer, const std::string &place) {
     const Words words = words_of(answer.number);
     const std::string where = carried(answer) + (place.empty() ? "" : ", " + place);
     const std::string name = answer.name();
-    return {static_cast<int>(answer.number), name, (where.empty() ? "" : where.substr(2) + ".\n  ") + words.what, words.next};
+    return {static_cast<int>(answer.number), name, (where.empty() ? "" : where.substr(2) + ".\n  ") + words.what, words.next, carried_json(answer)};
 }
 
-void print(const Trouble &trouble) {
+std::string statuses_text() {
+    return "Exit status: 0 done. The library's numbers: BadStore 1, TooMany 2, BadDatom 3, OutOfOrder 4,\n"
+           "NoPage 5, Repeated 6, Damaged 7, TooTall 8, NoRoom 9, BadBound 10, Unsound 33. Of florin: Usage 64,\n"
+           "BadText 65, NoInput 66, NotAStore 67, BadHead 68, CutShort 69, Exists 70, NoSpace 71, NotPermitted 72,\n"
+           "Busy 73, System 74, Altered 75, OtherFormat 76, NotClosed 77, NotARoot 78.\n";
+}
+
+namespace {
+
+// A message of several lines is one line in JSON.
+std::string joined(const std::string &lines) {
+    std::string text;
+    for (char c : lines) {
+        if (c != '\n') {
+            text += c;
+        } else {
+            while (!text.empty() && text.back() == ' ') text.pop_back();
+        }
+    }
+    for (std::size_t at = 0; (at = text.find("  ", at)) != std::string::npos;) text.erase(at, 1);
+    return text;
+}
+
+void print_json(const Trouble &trouble) {
+    Json object = {{"error", trouble.name}, {"status", trouble.status}};
+    object.put_all(trouble.more);
+    object.put("message", joined(trouble.what));
+    if (!trouble.next.empty()) object.put("next", trouble.next);
+    const std::string line = object.text() + "\n";
+    std::fwrite(line.data(), 1, line.size(), stderr);
+}
+
+}  // namespace
+
+void print(const Trouble &trouble, bool json) {
     std::fflush(stdout);
+    if (json) return print_json(trouble);
     std::fprintf(stderr, "florin: %s (%d): %s\n", trouble.name.c_str(), trouble.status, trouble.what.c_str());
     if (!trouble.next.empty()) std::fprintf(stderr, "  next: %s\n", trouble.next.c_str());
 }

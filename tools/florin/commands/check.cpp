@@ -1,0 +1,132 @@
+#include "commands/command.h"
+#include "commands/options.h"
+#include "datom_text.h"
+#include "progress.h"
+#include "walk.h"
+
+#include <algorithm>
+
+namespace florin {
+
+using florinwick::Answer;
+
+namespace {
+
+struct Given {
+    StoreToRead store;
+    RootOption root;
+    bool all = false, walk = false;
+};
+
+// The batch that wrote a page, as florin roots names it; "" if that is not known.
+std::string writer_of(const std::vector<Receipt> &receipts, std::uint64_t page) {
+    for (std::size_t i = 0; i < receipts.size(); ++i) {
+        if (page < receipts[i].page_count) return ", written by batch @" + std::to_string(i + 1);
+    }
+    return "";
+}
+
+Trouble altered(const StoreFile &store, std::uint64_t page, std::uint64_t root) {
+    return {kAltered, "Altered",
+            "page " + std::to_string(page) + ", root " + page_text(root) + writer_of(store.receipts(), page) +
+                ".\n  Its checksum is not the one that was kept when it was written.",
+            "restore the file from a backup; florin check --all says which roots do not reach the page.",
+            {{"page", page}, {"root", page_json(root)}}};
+}
+
+// Pages whose kept checksums are not those that the receipt of their batch speaks of: they tell nothing of the page.
+std::vector<bool> unvouched_pages(const StoreFile &store) {
+    std::vector<bool> unvouched(store.head().page_count);
+    for (const Receipt &receipt : store.receipts()) {
+        if (store.has_sums_of(receipt)) continue;
+        for (std::uint64_t i = 1; i <= receipt.pages; ++i) unvouched[receipt.page_count - i] = true;
+    }
+    return unvouched;
+}
+
+// The library's rules first, then the checksums of the pages that the tree has.
+std::optional<Trouble> fault_of(const StoreFile &store, std::uint64_t root, const std::vector<bool> &unvouched) {
+    const Answer answer = store.reader().check(root);
+    if (!answer.done()) {
+        Trouble trouble = refusal(answer, "root " + page_text(root));
+        trouble.more.put("root", page_json(root));
+        return trouble;
+    }
+    const std::vector<std::uint64_t> pages = pages_under(store.reader(), root);
+    for (std::uint64_t page : pages) {
+        if (!store.is_as_written(page)) return altered(store, page, root);
+    }
+    for (std::uint64_t page : pages) {
+        if (unvouched[page]) return altered(store, page, root);
+    }
+    return std::nullopt;
+}
+
+void check_one(const StoreFile &store, std::uint64_t root, Output &out) {
+    Progress progress;
+    progress.announce("checking root " + page_text(root));
+    const auto fault = fault_of(store, root, unvouched_pages(store));
+    progress.clear();
+    if (fault) throw *fault;
+    const std::uint64_t pages = pages_under(store.reader(), root).size();
+    out.tell("Sound: root " + page_text(root) + ", " + counted(pages, "page") + " as written",
+             {{"sound", true}, {"root", page_json(root)}, {"pages", pages}});
+}
+
+// A tree all of whose pages are as an accepted insert left them is sound: that is proved (crates/demand, `sound`). So each page is compared
+// once, and walked by the library are the newest root and those that reach an altered page; with --walk all.
+void check_all(const StoreFile &store, bool walk, Output &out) {
+    Progress progress;
+    progress.announce("comparing the pages with their checksums");
+    const std::vector<bool> unvouched = unvouched_pages(store);
+    std::vector<bool> bad = unvouched;
+    for (std::uint64_t page = 0; page < bad.size(); ++page) bad[page] = bad[page] || !store.is_as_written(page);
+    const std::vector<bool> reaches = reaching(store.reader(), bad);
+    const std::vector<Receipt> receipts = store.receipts();
+    std::optional<Trouble> first;
+    std::uint64_t number = 0, walked = 0;
+    for (const Receipt &receipt : receipts) {
+        progress.tell([&] { return "checking root " + std::to_string(number + 1) + " of " + std::to_string(receipts.size()); });
+        number += 1;
+        if (!walk && number < receipts.size() && !reaches[receipt.root]) continue;
+        walked += 1;
+        const auto fault = fault_of(store, receipt.root, unvouched);
+        if (!fault) continue;
+        progress.clear();
+        Json object = {{"receipt", number}, {"sound", false}, {"error", fault->name}};
+        object.put_all(fault->more);
+        const std::string page = fault->more["page"].text();
+        out.tell("@" + std::to_string(number) + " root " + page_text(receipt.root) + ": " + fault->name + ", page " + page, object);
+        if (!first) first = *fault;
+    }
+    progress.clear();
+    out.flush();
+    if (first) throw *first;
+    out.tell("Sound: all " + counted(receipts.size(), "root") + "; " + counted(bad.size(), "page") + " as written, " +
+                 counted(walked, "root") + " walked",
+             {{"sound", true}, {"roots", receipts.size()}, {"pages", bad.size()}, {"walked", walked}});
+}
+
+void check(const Given &given, Output &out) {
+    if (given.all && given.root.word) throw usage_trouble("--all and --root do not go together");
+    if (given.walk && !given.all) throw usage_trouble("--walk goes with --all");
+    const auto store = given.store.open();
+    if (given.all) return check_all(*store, given.walk, out);
+    check_one(*store, given.root.of(*store), out);
+}
+
+}  // namespace
+
+Run define_check(Words &words) {
+    const auto given = std::make_shared<Given>();
+    given->store.define_with_salvage(words);
+    given->root.define(words, "the tree of this root; the newest if not given");
+    words.flag("--all", given->all, "the trees of all roots");
+    words.flag("--walk", given->walk, "with --all: walk every root by itself");
+    words.footer("Of a tree: the rules of every page, the levels, the bounds between pages, and that every page has the checksum it was\n"
+               "written with. With --all every page in use is compared with its checksum once, and the library walks the newest root and\n"
+               "those that reach an altered page: the others are what accepted inserts left, and those are proved to be sound.\n");
+    return [given](Output &out) { check(*given, out); };
+}
+
+}  // namespace florin

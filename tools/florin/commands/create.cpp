@@ -1,0 +1,60 @@
+#include "commands/command.h"
+#include "commands/options.h"
+#include "datom_text.h"
+
+namespace florin {
+
+namespace {
+
+struct Given {
+    std::string path, from;
+    std::uint64_t page_size = 4096, room = 64;
+    FormOption form;
+    bool last_batch_open = false;
+};
+
+// The one batch of a file. Empty if there is no datom in it.
+Batch first_batch(const Given &given) {
+    Batches batches(given.from, given.form.form(), {0, given.last_batch_open});
+    Batch batch, another;
+    if (!batches.next(batch)) return {};
+    if (batches.next(another)) throw usage_trouble("--from takes one batch, and " + given.from + " has more; create the store, then insert them");
+    return batch;
+}
+
+void create(const Given &given, Output &out) {
+    if (given.form.binary && given.from.empty()) throw usage_trouble("--binary goes with --from");
+    const Batch batch = given.from.empty() ? Batch{} : first_batch(given);
+    const auto first = batch.bytes.empty() ? std::nullopt : std::optional<florinwick::ByteView>(batch.bytes);
+    const florinwick::Answer answer = StoreFile::create(given.path, given.page_size, given.room, first);
+    if (!answer.done()) {
+        const bool of_datom = answer.carries() == florinwick::Carries::Index;
+        throw refusal(answer, of_datom ? batch.place_of(answer.detail) : "");
+    }
+    std::string text = "created " + given.path + ", pages of " + std::to_string(given.page_size) + " bytes";
+    Json object = {{"created", given.path}, {"page_size", given.page_size}};
+    if (first) {
+        text += "; its first batch is in: " + counted(batch.datoms(), "datom") + ", " + counted(answer.pages, "page") + " written, root " +
+                page_text(answer.root);
+        object.put_all({{"datoms", batch.datoms()}, {"pages", answer.pages}, {"root", page_json(answer.root)}});
+    } else if (!given.from.empty()) {
+        text += "; " + given.from + " has no datoms, so no batch is in";
+    }
+    out.tell(text, object);
+}
+
+}  // namespace
+
+Run define_create(Words &words) {
+    const auto given = std::make_shared<Given>();
+    words.word("STORE", given->path, "the file to make; none may stand there");
+    words.number("--page-size", given->page_size, "BYTES", "256, 568 or 4096; 4096 if not given");
+    words.number("--room", given->room, "PAGES", "room for so many at first; the file grows by itself");
+    words.text("--from", given->from, "FILE", "its first batch, in any order");
+    given->form.define(words, "FILE is binary");
+    words.flag("--last-batch-open", given->last_batch_open, "the end of FILE ends the batch too");
+    words.footer(kDatomsHelp);
+    return [given](Output &out) { create(*given, out); };
+}
+
+}  // namespace florin

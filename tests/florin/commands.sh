@@ -251,6 +251,14 @@ expect 4 'OutOfOrder \(4\)' missing sent.fw unsorted.txt
 b 30 31 > two.txt; b 29 31 > three.txt
 expect 0 '^\{"batch":1,"state":"in","datoms":2,"pages":[0-9]+,"root":[0-9]+,"receipt":[0-9]+,"from":[0-9]+,"branch":false,"datoms_sum":"[0-9a-f]{16}"\} \{"batches":1,"datoms":2,"pages":[0-9]+,"in_before":0,"root":[0-9]+\} $' insert sent.fw two.txt --json
 unchanged sent.fw expect 6 '^\{"error":"Repeated","status":6,"datom":1,"batch":1,"line":2,"text":"30 1 30 2 assert","held":2,"datoms":3,"message":"datom 1, .*","next":".*"\} $' insert sent.fw three.txt --json
+unchanged sent.fw expect 0 '^\{"batch":1,"state":"in_before","datoms":2,"pages":0,"root":[0-9]+\} \{"batches":0,"datoms":0,"pages":0,"in_before":1,"root":[0-9]+\} $' insert sent.fw two.txt --json --resend
+unchanged sent.fw expect 0 '^\{"batches":0,"datoms":0,"pages":0,"in_before":0,"root":[0-9]+\} $' insert sent.fw empty.txt --json
+expect 0 '^\{"entity":29,.*,"operation":"assert","batch":1\} florin: 1 of 3' missing sent.fw three.txt --json
+expect 0 '^\{"datoms":[0-9]+,"root":[0-9]+\} $' count sent.fw --json
+expect 0 '^\{"copied":"sent.fw","to":"sent.copy","batches":[0-9]+,"pages":[0-9]+,"root":[0-9]+\} $' backup sent.fw sent.copy --json
+"$florin" dump sent.fw > sent.dump
+expect 0 '^\{"loaded":"sent.load","page_size":256,"batches":[0-9]+,"datoms":[0-9]+,"pages":[0-9]+,"root":[0-9]+\} $' load sent.load sent.dump --json
+expect 0 '^\{"sound":true,"roots":[0-9]+,"pages":[0-9]+,"walked":1\} $' check sent.fw --all --json
 expect 64 '^\{"error":"Usage","status":64,"message":"there is no command frob\.","next":"florin --help shows what can be said\."\} $' frob --json
 expect 77 '^\{"error":"NotClosed","status":77,"batch":1,"line":1,"datoms":4,' insert sent.fw open.txt --json
 expect 0 '^\{"entity":1,"attribute":1,"value":0,"transaction":2,"operation":"assert"\} .*"value":"","transaction":2,"operation":"retract".*"value":\{"bytes":"00"\}.*"value":"a#b"' list words.fw --json

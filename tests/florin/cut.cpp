@@ -4,8 +4,8 @@
 //   FLORIN_CUT_INTO=DIR  at each sync writes into DIR what a cut of the power just before its end may leave on the disk: what was synced,
 //                        and of all sectors written since any part. The name of each ends in how many batches had been told to be in
 //
-// The disk is taken at its worst: msync brings the bytes of its range there, fsync and fdatasync the whole file and its length; nothing
-// else is there for certain.
+// The disk is taken at its worst: fsync and fdatasync bring the whole file and its length there, and what was written through a map with
+// it; nothing else is there for certain.
 #include <algorithm>
 #include <cstdint>
 #include <cstdio>
@@ -29,7 +29,6 @@ const std::size_t kSector = 512;
 
 Bytes synced;                        // what is on the disk for certain
 int store = -1;                      // the file, once it is mapped to be written
-const std::uint8_t *map_base = nullptr;
 unsigned long calls = 0, images = 0;
 
 template <class Function>
@@ -99,24 +98,12 @@ void *mmap(void *address, size_t length, int protection, int flags, int file, of
     void *at = next<void *(*)(void *, size_t, int, int, int, off_t)>("mmap")(address, length, protection, flags, file, offset);
     if (file >= 0 && (flags & MAP_SHARED) && (protection & PROT_WRITE)) {
         counted();
-        map_base = static_cast<const std::uint8_t *>(at);
         if (store < 0) {
             store = file;
             synced = written();
         }
     }
     return at;
-}
-
-int msync(void *address, size_t length, int flags) {
-    counted();
-    cut();
-    const int failed = next<int (*)(void *, size_t, int)>("msync")(address, length, flags);
-    const Bytes now = written();
-    const std::size_t from = static_cast<std::size_t>(static_cast<const std::uint8_t *>(address) - map_base);
-    const std::size_t to = std::min({from + length, now.size(), synced.size()});
-    if (from < to) std::memcpy(synced.data() + from, now.data() + from, to - from);
-    return failed;
 }
 
 static int whole(const char *name, int file) {

@@ -58,7 +58,7 @@ END
 "$florin" create words.fw --page-size 256 --from words.txt > /dev/null
 again words.fw
 
-# Batches of all sizes, spread over a tree of several levels: an insert flushes page after page, and writes some of them twice.
+# Batches of all sizes, spread over a tree of several levels, so that an insert flushes page after page.
 seq 0 5999 | awk '{ print ($1 * 3571) % 6000, 1, $1, 2, "assert" }' > spread.txt
 awk '{ print | "sort -n" } ++n > size { close("sort -n"); print "---"; fflush(); n = 0; size = (size + 7) % 128 }' spread.txt > sizes.txt
 echo --- >> sizes.txt
@@ -114,6 +114,8 @@ edited 's/batch 5 from @4/batch 5 from @5/' 75 'no batch @5 is before it'
 edited 's/batch 5 from @4/batch 5 from 99/' 5 'NoPage \(5\): batch 5.*No store was made'
 edited 's/batch 5 from @4/batch 5 from @3/; s/^50 1 50/30 1 30/; s/sum .*/sum -/' 6 'Repeated \(6\): datom 0, batch 5, line [0-9]+: 30 1 30.*No store'
 edited 's/batch 5 /batch 6 /' 65 'batch 5 is due here, not 6'
+edited 's/batch 5 from/batch 5 "from/' 65 'line [0-9]+: the string .* has no closing quote'
+edited 's/time [0-9]*/time soon/' 65 'line 3: the time soon is no number'
 edited 's/batches 7/batches 6/' 65 'a line #@ end .. of a dump is due here'
 edited 's/batches 7/batches 8/' 65 'a line #@ batch .. of a dump is due here'
 edited 's/dump 1 /dump 2 /' 76 'OtherFormat \(76\): what.dump is a dump of form 2'
@@ -156,6 +158,7 @@ equal "$(ls -d damaged.dump* 2> /dev/null)" '' 'what a dump of a damaged store l
 holds 'bash takes the completion' bash -n florin.bash
 MANWIDTH=100 man --warnings -E UTF-8 -l florin.1 > page 2> warnings; equal "$?:$(cat warnings)" 0: 'the manual is shown without warnings'
 sed -i 's/‐/-/g; s/.\x08//g' page
+equal "$(grep -c 'NotClosed 77' page)" 1 'each part of the manual stands there once'
 "$florin" --help | sed -nE '/^Commands:/,/^$/s/^  ([a-z]+)[ ,].*/\1/p' > names
 holds "$(wc -l < names) commands" test "$(wc -l < names)" -gt 14
 # completed WORDS..: what stands for the last of them.

@@ -121,6 +121,8 @@ for at in 0 63 127 128 200 255; do
     expect 0 'note: the receipts of receipts.fw are not those' list receipts.fw --salvage
     "$florin" list receipts.fw --salvage 2> /dev/null | plain > listed; d 0 40 > expected; same listed expected 'a damaged list of receipts'
     expect 0 'Sound' check receipts.fw --salvage
+    expect 64 '--all needs the receipts, and they are damaged' check receipts.fw --salvage --all
+    expect 64 'receipts are damaged, so what @1 led to is not known' list receipts.fw --salvage --root @1
 done
 cp good.fw older.fw; cp good.fw newer.fw; "$florin" insert newer.fw third.txt > /dev/null
 dd if=newer.fw of=older.fw bs=8192 count=1 conv=notrunc status=none

@@ -138,7 +138,7 @@ seq 0 152915 | awk '{ print $1, 1, $1, 2, "assert" }' > tall.txt
 expect 8 'TooTall \(8\): batch 38229\. .*more than 8 levels.*next: create a store with larger pages' insert tall.fw tall.txt --every 4 --quiet
 expect 0 'pages +283,516 in use.*root +283515 +batches +38,228 .*height +8 levels' status tall.fw
 expect 0 'Sound' check tall.fw
-# All roots, each page once: 38,228 trees would take hours to walk.
+# All roots, each page once: 38,228 trees would take long to walk.
 expect 0 'Sound: all 38,228 roots; 283,516 pages as written, 1 root walked' check tall.fw --all
 list tall.fw > listed; head -n 152912 tall.txt > expected; same listed expected 'the tallest tree'
 expect 0 'drew' tree tall.fw --svg tall.svg

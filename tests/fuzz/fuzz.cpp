@@ -180,12 +180,12 @@ struct World {
             spoil(call);
         }
         Answer answer = make(call);
-        if (answer.number != 0) {
-            return;
-        }
-        if (is_spoilt) {
+        bool has_written = answer.number == 0 || (answer.number >= 7 && answer.number <= 9);
+        if (is_spoilt && has_written) {
             // It may have written over pages in use.
             is_sound = false;
+        }
+        if (is_spoilt || answer.number != 0) {
             return;
         }
         count += answer.pages;

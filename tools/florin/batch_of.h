@@ -5,7 +5,8 @@
 //   - Each datom of the batch stands in one of them. The tree of the new root is made of these pages and of pages of the tree before, and
 //     whatever stands in the latter is in the tree before, so no datom of the batch is there.
 //   - The other datoms in them come from the tree before, since an insert reads nothing else: that tree holds them, and they are left out.
-//   - A datom may stand in several of them, where a page that the insert wrote was written once more: it is taken once.
+//   - A datom that stands in several of them is taken once. So far none does, but nothing promises that an insert writes no page which it
+//     replaces before it ends.
 // The receipt has the number of the datoms and their checksum, so a mistake here is told and makes no wrong dump.
 #ifndef FLORIN_BATCH_OF_H
 #define FLORIN_BATCH_OF_H

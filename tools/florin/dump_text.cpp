@@ -52,7 +52,7 @@ DumpReader::DumpReader(const std::string &path) : path_(path), file_(path == "-"
     const std::vector<std::string> words = read_note({"dump", "page-size", "batches"});
     if (words[0] != kVersion) {
         throw Trouble{kOtherFormat, "OtherFormat",
-                      name() + " is a dump of form " + words[0] + ", which this florin does not read." + kNoStore, "use the one that made it."};
+                      name() + " is a dump of form " + words[0] + ", of a newer florin." + kNoStore, "use that florin."};
     }
     page_size_ = number(words[1], "page size");
     batches_ = number(words[2], "number of batches");
@@ -94,11 +94,16 @@ bool DumpReader::read_line() {
 }
 
 std::vector<std::string> DumpReader::read_note(const std::vector<std::string> &names) {
-    std::vector<std::string> words, behind;
+    const auto is_note = [this] { return line_.compare(0, 2, "#@") == 0; };
     do {
         if (!read_line()) throw cut_off();
-        if (line_.compare(0, 2, "#@") == 0) words = words_of_line(line_.substr(2));
-    } while (line_.empty() || (line_[0] == '#' && words.empty()));
+    } while (line_.empty() || (line_[0] == '#' && !is_note()));
+    std::vector<std::string> words, behind;
+    try {
+        if (is_note()) words = words_of_line(line_.substr(2));
+    } catch (const BadText &bad) {
+        throw bad_line(bad.message);
+    }
     bool right = words.size() == 2 * names.size();
     for (std::size_t i = 0; right && i < names.size(); ++i) {
         right = words[2 * i] == names[i];

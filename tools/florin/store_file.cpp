@@ -75,7 +75,8 @@ Answer StoreFile::create(const std::string &path, std::uint64_t page_size, std::
     return build(path, page_size, room_pages, [&](StoreFile &store) { return first ? store.initialise(*first) : Answer{}; });
 }
 
-Answer StoreFile::build(const std::string &path, std::uint64_t page_size, std::uint64_t room_pages, const std::function<Answer(StoreFile &)> &fill) {
+Answer StoreFile::build(const std::string &path, std::uint64_t page_size, std::uint64_t room_pages,
+                        const std::function<Answer(StoreFile &)> &fill) {
     if (florinwick_scratch_need(page_size) == 0) return florinwick::Store({}, page_size, {}).initialise({});
     if (room_pages > (kLargestFile / 4) / page_size) throw system_trouble(EFBIG, "create", path);
     NewFile file(path);

@@ -86,7 +86,7 @@ void check_all(const StoreFile &store, bool walk, Output &out) {
     std::optional<Trouble> first;
     std::uint64_t number = 0, walked = 0;
     for (const Receipt &receipt : receipts) {
-        progress.tell([&] { return "checking root " + std::to_string(number + 1) + " of " + std::to_string(receipts.size()); });
+        progress.tell([&] { return "checking root " + grouped(number + 1) + " of " + grouped(receipts.size()); });
         number += 1;
         if (!walk && number < receipts.size() && !reaches[receipt.root]) continue;
         walked += 1;
@@ -111,6 +111,9 @@ void check(const Given &given, Output &out) {
     if (given.all && given.root.word) throw usage_trouble("--all and --root do not go together");
     if (given.walk && !given.all) throw usage_trouble("--walk goes with --all");
     const auto store = given.store.open();
+    if (given.all && store->has_broken_receipts()) {
+        throw usage_trouble("--all needs the receipts, and they are damaged; without it the newest root is checked");
+    }
     if (given.all) return check_all(*store, given.walk, out);
     check_one(*store, given.root.of(*store), out);
 }

@@ -75,20 +75,20 @@ public:
     void end() {
         progress_.clear();
         const std::uint64_t taken = feed_.batches + feed_.passed;
-        if (taken == 0) {
-            out_.tell("nothing was given, and nothing was written; root " + page_text(root_), {{"batches", 0}, {"root", page_json(root_)}});
-            return;
-        }
-        if (taken < 2 && !given_.quiet && !out_.json()) return;
-        std::string text =
-            counted(feed_.batches, "batch") + " with " + counted(feed_.datoms, "datom") + ": " + counted(feed_.pages, "page") + " written";
-        if (feed_.passed > 0) text += ", " + counted(feed_.passed, "batch") + " in before";
-        out_.tell(text + ", root " + page_text(root_),
+        if (taken == 1 && !given_.quiet && !out_.json()) return;
+        out_.tell(taken == 0 ? "nothing was given, and nothing was written; root " + page_text(root_) : sum_of_feed(),
                   {{"batches", feed_.batches}, {"datoms", feed_.datoms}, {"pages", feed_.pages}, {"in_before", feed_.passed},
                    {"root", page_json(root_)}});
     }
 
 private:
+    std::string sum_of_feed() const {
+        std::string text =
+            counted(feed_.batches, "batch") + " with " + counted(feed_.datoms, "datom") + ": " + counted(feed_.pages, "page") + " written";
+        if (feed_.passed > 0) text += ", " + counted(feed_.passed, "batch") + " in before";
+        return text + ", root " + page_text(root_);
+    }
+
     void receive(const Batch &batch, const Answer &answer, bool back) {
         const std::uint64_t from = root_;
         root_ = answer.root;

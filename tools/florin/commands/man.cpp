@@ -90,10 +90,11 @@ std::string with_pointers(std::string footer) {
     return footer;
 }
 
-std::string section_of(const DescribedCommand &command) {
+// A command that has no footer of its own has that of florin.
+std::string section_of(const DescribedCommand &command, const DescribedCommand &florin) {
     std::string roff = ".SS florin " + escaped(usage_of(command)) + "\n" + escaped(command.line) + ".\n";
     for (const std::string &alias : command.aliases) roff += "Also " + bold("florin " + alias) + ".\n";
-    return roff + rows(command, false) + paragraphs(with_pointers(command.footer));
+    return roff + rows(command, false) + (command.footer == florin.footer ? "" : paragraphs(with_pointers(command.footer)));
 }
 
 std::string page_of(const Description &all) {
@@ -108,7 +109,7 @@ std::string page_of(const Description &all) {
     roff += ".SH DESCRIPTION\n" + paragraphs(what.substr(sentence + 2)) + paragraphs(footer.substr(0, footer.find(statuses)));
     roff += ".SH OPTIONS\n" + rows(all.florin, true);
     roff += ".SH COMMANDS\n";
-    for (const DescribedCommand &command : all.commands) roff += section_of(command);
+    for (const DescribedCommand &command : all.commands) roff += section_of(command, all.florin);
     for (const Shared &shared : kShared) roff += std::string(".SH ") + shared.title + "\n" + paragraphs(shared.text);
     return roff + ".SH EXIT STATUS\n" + paragraphs(statuses.substr(statuses.find(": ") + 2));
 }

@@ -75,6 +75,7 @@ std::uint64_t RootOption::of(const StoreFile &store) const {
     if (*word == "none") return florinwick::none;
     if (word->empty() || (*word)[0] != '@') return number_word(*word, "root");
     const std::uint64_t at = number_word(word->substr(1), "batch behind @");
+    if (store.has_broken_receipts()) throw usage_trouble("the receipts are damaged, so what " + *word + " led to is not known");
     const std::vector<Receipt> receipts = store.receipts();
     if (at < 1 || at > receipts.size()) {
         throw usage_trouble(receipts.empty() ? "no batch is in, so there is no " + *word

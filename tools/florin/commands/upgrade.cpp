@@ -21,7 +21,7 @@ void check_roots(const OldStore &old, const florinwick::Reader &reader) {
     std::uint64_t number = 0;
     for (const Receipt &receipt : old.receipts) {
         number += 1;
-        progress.tell([&] { return "checking root " + std::to_string(number) + " of " + std::to_string(old.receipts.size()); });
+        progress.tell([&] { return "checking root " + grouped(number) + " of " + grouped(old.receipts.size()); });
         const florinwick::Answer answer = reader.check(receipt.root);
         if (!answer.done()) throw refusal(answer, "root " + page_text(receipt.root) + " (@" + std::to_string(number) + "). No store was made");
     }

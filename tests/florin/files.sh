@@ -175,6 +175,10 @@ done
 list two.fw > listed; (d 0 6; d 20 21) > expected; same listed expected 'an upgraded store'
 expect 0 'Sound: all 4 roots' check two.fw --all --walk
 expect 0 'batch 1 is in: 10 datoms' insert two.fw second.txt
+# florin 0.1 took any page for a root: what is proved of histories says nothing of such a store, so all of its roots are walked.
+zcat "$here/format1-leaf.fw.gz" > leaf.fw
+expect 0 'made leafy.fw from leaf.fw: 2 batches' upgrade leaf.fw leafy.fw
+expect 0 'Sound: all 2 roots; 4 pages as written, 2 roots walked' check leafy.fw --all
 unchanged two.fw expect 70 'Exists' upgrade one.fw two.fw
 expect 67 'NotAStore \(67\): two.fw is no store of format 1' upgrade two.fw three.fw
 expect 67 'NotAStore' upgrade first.txt three.fw

@@ -276,7 +276,7 @@ fi
 # The checksum of a receipt is that of the datoms, as another program computes it.
 if command -v xxh64sum > /dev/null; then
     "$florin" list sent.fw --from 30 --to 32 --binary > two.bin
-    equal "$("$florin" roots sent.fw | awk 'END { print $NF }')" "$(xxh64sum two.bin | cut -d ' ' -f 1)" 'the checksum of a batch'
+    equal "$("$florin" roots sent.fw | awk 'END { print $NF }')" "$(xxh64sum two.bin 2> /dev/null | cut -d ' ' -f 1)" 'the checksum of a batch'
 else
     echo 'skipped: xxh64sum, of the package xxhash, is not there'
 fi

@@ -58,8 +58,7 @@ Slots read_slots(int file, const std::string &path) {
     return {decode_head(bytes), decode_head(bytes + kSlotBytes)};
 }
 
-}  // namespace
-
+// Ascending, as the checksum of a batch takes its datoms.
 std::vector<std::uint8_t> sorted_batch(ByteView batch) {
     std::vector<Datom> datoms;
     for (std::size_t at = 0; at + Datom::size <= batch.size(); at += Datom::size) datoms.push_back(Datom::read(batch.data() + at));
@@ -68,6 +67,8 @@ std::vector<std::uint8_t> sorted_batch(ByteView batch) {
     for (std::size_t i = 0; i < datoms.size(); ++i) datoms[i].write(bytes.data() + i * Datom::size);
     return bytes;
 }
+
+}  // namespace
 
 // --- a new store
 

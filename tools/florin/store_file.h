@@ -119,9 +119,6 @@ private:
 // A new store of these parts, with the head's numbers: what a copy of another file is made of.
 void write_store(const std::string &path, Head head, florinwick::ByteView pages, florinwick::ByteView sums, florinwick::ByteView receipts);
 
-// Ascending, as the checksum of a batch takes its datoms.
-std::vector<std::uint8_t> sorted_batch(florinwick::ByteView batch);
-
 }  // namespace florin
 
 #endif

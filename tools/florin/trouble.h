@@ -9,7 +9,7 @@
 
 namespace florin {
 
-// Exit statuses besides those of the library, which are its numbers: 1 to 16, and 33 for Unsound.
+// Exit statuses besides those of the library, which are its numbers: 1 to 10, and 33 for Unsound.
 enum Status {
     kDone = 0,
     kUsage = 64,         // wrong words on the command line

@@ -19,7 +19,7 @@
  * Every call but the first takes an answer area of 32 bytes, writes four little-endian words into it, and returns the first:
  *   word 0   the number below, 0 for Done
  *   word 1   the root; a refused call gives back the one it was given, initialise none; calls with no root to give have 0 here
- *   word 2   pages written; 0 if refused
+ *   word 2   pages written; 0 if refused; of list_start, list_step, held and insert_named at 7 and of check at 33 the fault's number
  *   word 3   the index or page that the number carries; 0 if it carries none
  * An answer area of any other length is answered by BadStore before all else, and stays as it was.
  *
@@ -33,11 +33,14 @@
 #ifndef FLORINWICK_H
 #define FLORINWICK_H
 
-/* The version of this interface: a call that is added raises the second number, and one that changes the first. */
+/*
+ * The version of this interface: a call that is added, or a word that comes to say something where it was always 0, raises the second
+ * number; one that changes otherwise the first.
+ */
 #define FLORINWICK_VERSION_MAJOR 0
-#define FLORINWICK_VERSION_MINOR 2
+#define FLORINWICK_VERSION_MINOR 3
 #define FLORINWICK_VERSION_PATCH 0
-#define FLORINWICK_VERSION "0.2.0"
+#define FLORINWICK_VERSION "0.3.0"
 
 #include <stddef.h>
 #include <stdint.h>
@@ -59,15 +62,34 @@ enum florinwick_number {
     FLORINWICK_NO_PAGE = 5,       /* the root is neither none nor below the page count */
     FLORINWICK_REPEATED = 6,      /* index: the first datom of the batch that the tree holds already; it does not say that the tree holds
                                      the others: ask florinwick_held */
-    FLORINWICK_DAMAGED = 7,       /* page: it is missing, unreadable or of the wrong level, or holds a datom equal to one that is merged
-                                     into it or listed beside it; for a step also an index past its count, and none where the height is
-                                     over 8 or no datom is left */
+    FLORINWICK_DAMAGED = 7,       /* page: it has the fault in word 2, where the call gives one: enum florinwick_fault */
     FLORINWICK_TOO_TALL = 8,      /* the next page to write would have level 8 */
     FLORINWICK_NO_ROOM = 9,       /* the next page to write does not fit into the store */
     FLORINWICK_BAD_BOUND = 10,    /* a bound of a listing is malformed */
     FLORINWICK_NOT_HELD = 16,     /* index: the first datom of the batch that the tree does not hold */
     FLORINWICK_ENDED = 32,        /* the listing has ended; no refusal */
-    FLORINWICK_UNSOUND = 33       /* page: the first fault that the check met; no refusal */
+    FLORINWICK_UNSOUND = 33       /* page: where the check met its first fault, which is in word 2; no refusal */
+};
+
+/*
+ * Which rule a page broke, or what else is wrong where it was read. A page is read before its level is asked, and of the reader's rules, 1
+ * to 7, the first broken one is given. A later version may give numbers over 14.
+ */
+enum florinwick_fault {
+    FLORINWICK_FAULT_LEVEL = 1,           /* its level is over 7 */
+    FLORINWICK_FAULT_COUNT = 2,           /* it counts more datoms than a page of its size holds */
+    FLORINWICK_FAULT_FORM = 3,            /* a datom in it is malformed, or has the value max */
+    FLORINWICK_FAULT_ORDER = 4,           /* its datoms do not rise */
+    FLORINWICK_FAULT_LEAF_CHILD = 5,      /* its level is 0, and one of its children is not none */
+    FLORINWICK_FAULT_LAST_CHILD = 6,      /* its level is above 0, and its last child is none */
+    FLORINWICK_FAULT_CHILD_ID = 7,        /* a child's id is not below its own */
+    FLORINWICK_FAULT_MISSING = 8,         /* there is no such page below the page count */
+    FLORINWICK_FAULT_WRONG_LEVEL = 9,     /* it can be read, and its level is not the one that its place in the tree asks for */
+    FLORINWICK_FAULT_EQUAL_DATOMS = 10,   /* it holds a datom that is merged into it, or listed beside it, from another page */
+    FLORINWICK_FAULT_OUT_OF_BOUNDS = 11,  /* a datom in it is not between the bounds that the pages above it set */
+    FLORINWICK_FAULT_PAST_COUNT = 12,     /* the cursor's index is past its count */
+    FLORINWICK_FAULT_TOO_HIGH = 13,       /* the cursor's height is over 8; the page is none */
+    FLORINWICK_FAULT_NOTHING_LEFT = 14    /* the cursor has not ended, and no datom is left under it; the page is none */
 };
 
 #define FLORINWICK_NONE UINT64_MAX   /* the page id and the root that mean "none" */
@@ -94,11 +116,20 @@ uint64_t florinwick_initialise(uint8_t *store, size_t store_len, uint64_t page_s
 
 /*
  * Inserts an ascending batch into the tree at a root, whole or not at all. At root none it begins a tree. An empty batch writes the
- * root page anew; at root none it writes nothing and the root stays none. Numbers: 1 to 9.
+ * root page anew; at root none it writes nothing and the root stays none. Where it answers 7 word 2 is 0: florinwick_insert_named
+ * gives the fault. Numbers: 1 to 9.
  */
 uint64_t florinwick_insert(uint8_t *store, size_t store_len, uint64_t page_size, uint64_t page_count, uint64_t root,
                            const uint8_t *batch, size_t batch_len, uint8_t *scratch, size_t scratch_len,
                            uint8_t *answer, size_t answer_len);
+
+/*
+ * The same insert, with the same answer and the same store after it, but where it answers 7 word 2 is the fault's number: 1 to 7, 9 or 10.
+ * Numbers: 1 to 9.
+ */
+uint64_t florinwick_insert_named(uint8_t *store, size_t store_len, uint64_t page_size, uint64_t page_count, uint64_t root,
+                                 const uint8_t *batch, size_t batch_len, uint8_t *scratch, size_t scratch_len,
+                                 uint8_t *answer, size_t answer_len);
 
 /* A datom as a record: its four words as the machine has them, which on a little-endian machine are the 32 bytes. */
 struct florinwick_datom {
@@ -110,7 +141,7 @@ struct florinwick_datom {
 
 /*
  * The same insert, of an array of records: `batch_count` of them, at the alignment of a uint64_t. It answers as florinwick_insert does
- * of their bytes, and leaves the store so. Numbers: 1 to 9.
+ * of their bytes, word 2 too, and leaves the store so. Numbers: 1 to 9.
  */
 uint64_t florinwick_insert_records(uint8_t *store, size_t store_len, uint64_t page_size, uint64_t page_count, uint64_t root,
                                    const struct florinwick_datom *batch, size_t batch_count, uint8_t *scratch, size_t scratch_len,
@@ -120,7 +151,7 @@ uint64_t florinwick_insert_records(uint8_t *store, size_t store_len, uint64_t pa
  * Whether the tree at a root holds all datoms of an ascending batch: 0, or 16 with the index of the first that it does not hold. A page
  * that a datom's path comes to and that cannot be read is 7, so 16 and 7 come in whichever order they are met. An empty batch is held at
  * every root, none too; at root none any other batch is 16 with index 0. A batch that was accepted is held at the root that it led to
- * and at every root that grew from that one. It takes no scratch. Numbers: 1 to 5, 7, 16.
+ * and at every root that grew from that one. It takes no scratch. Numbers: 1 to 5, 7, 16; faults at 7: 1 to 7, 9.
  */
 uint64_t florinwick_held(const uint8_t *store, size_t store_len, uint64_t page_size, uint64_t page_count, uint64_t root,
                          const uint8_t *batch, size_t batch_len, uint8_t *answer, size_t answer_len);
@@ -134,7 +165,7 @@ uint64_t florinwick_fetch(const uint8_t *store, size_t store_len, uint64_t page_
 
 /*
  * Walks the whole tree at a root and tests the rules of every page, the levels and the bounds between pages. 0 for Sound, 33 for
- * Unsound. Root none is sound. Numbers: 1, 5, 33; never 7.
+ * Unsound. Root none is sound. Numbers: 1, 5, 33; never 7. Faults at 33: 1 to 7, 9, 11.
  */
 uint64_t florinwick_check(const uint8_t *store, size_t store_len, uint64_t page_size, uint64_t page_count, uint64_t root,
                           uint8_t *answer, size_t answer_len);
@@ -142,7 +173,7 @@ uint64_t florinwick_check(const uint8_t *store, size_t store_len, uint64_t page_
 /*
  * Puts a cursor at the first datom that is not below `lower`; the listing ends before the first that is not below `upper`. Each bound
  * is a datom of 32 bytes; any other length is BadBound. A lower bound at or above the upper, and root none, give a listing that has
- * ended. A refused start leaves the cursor as it was. A cursor is 264 bytes, else BadStore. Numbers: 1, 10, 5, 7.
+ * ended. A refused start leaves the cursor as it was. A cursor is 264 bytes, else BadStore. Numbers: 1, 10, 5, 7; faults at 7: 1 to 7, 9.
  *
  * A cursor is a value: 33 little-endian words, the height, then by level 0 to 7 the indices and the pages where the listing stands,
  * and the indices and the pages where it ends. It may be copied, kept and used again, as long as the pages in use stay.
@@ -153,7 +184,8 @@ uint64_t florinwick_list_start(const uint8_t *store, size_t store_len, uint64_t 
 
 /*
  * Writes the next datom, of 32 bytes, and moves the cursor on: 0. At the end 32, and if refused its number; then cursor and datom stay
- * as they were. A datom area of another length is BadStore. Any cursor is answered, also one that no call made. Numbers: 1, 7, 32.
+ * as they were. A datom area of another length is BadStore. Any cursor is answered, also one that no call made. Numbers: 1, 7, 32;
+ * faults at 7: 1 to 10 and 12 to 14, of which 8, 12, 13 and 14 come of a cursor that no call made, or of a store that was changed since.
  */
 uint64_t florinwick_list_step(const uint8_t *store, size_t store_len, uint64_t page_size, uint64_t page_count,
                               uint8_t *cursor, size_t cursor_len, uint8_t *datom, size_t datom_len,

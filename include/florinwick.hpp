@@ -11,6 +11,9 @@
 //
 // Repeated says that the tree holds one datom of the batch, the first of them at the index; it does not say that it holds the others.
 // `Reader::held` says that.
+//
+// Damaged and Unsound name a page, and `Answer::fault` which rule it broke:
+//     if (answer.fault) complain(answer.detail, name(*answer.fault), text(*answer.fault));
 #ifndef FLORINWICK_HPP
 #define FLORINWICK_HPP
 
@@ -30,7 +33,7 @@
 
 namespace florinwick {
 
-// Of this header and florinwick.h, as "0.2.0". The archive is of the same one if both come from one install.
+// Of this header and florinwick.h, as "0.3.0". The archive is of the same one if both come from one install.
 inline constexpr std::string_view version = FLORINWICK_VERSION;
 
 template <class T>
@@ -386,7 +389,7 @@ public:
     BatchArgument &operator=(const BatchArgument &) = delete;
 
     ByteView bytes() const { return bytes_; }
-    // Empty unless it was made of records.
+    // Empty unless it was made of records. For who calls florinwick_insert_records: the calls of this header take the bytes.
     Span<const Record> records() const { return records_; }
 
 private:
@@ -447,15 +450,85 @@ constexpr Carries carried_by(Number number) {
     }
 }
 
+// Which rule the page of a Damaged or an Unsound broke.
+enum class Fault : std::uint64_t {
+    Level = FLORINWICK_FAULT_LEVEL,
+    Count = FLORINWICK_FAULT_COUNT,
+    Form = FLORINWICK_FAULT_FORM,
+    Order = FLORINWICK_FAULT_ORDER,
+    LeafChild = FLORINWICK_FAULT_LEAF_CHILD,
+    LastChild = FLORINWICK_FAULT_LAST_CHILD,
+    ChildId = FLORINWICK_FAULT_CHILD_ID,
+    Missing = FLORINWICK_FAULT_MISSING,
+    WrongLevel = FLORINWICK_FAULT_WRONG_LEVEL,
+    EqualDatoms = FLORINWICK_FAULT_EQUAL_DATOMS,
+    OutOfBounds = FLORINWICK_FAULT_OUT_OF_BOUNDS,
+    PastCount = FLORINWICK_FAULT_PAST_COUNT,
+    TooHigh = FLORINWICK_FAULT_TOO_HIGH,
+    NothingLeft = FLORINWICK_FAULT_NOTHING_LEFT,
+};
+
+// Nothing for a number that this header has no name for: 0, or one of an archive that is newer than it.
+[[nodiscard]] constexpr std::optional<Fault> fault_of(std::uint64_t number) {
+    if (number < FLORINWICK_FAULT_LEVEL || number > FLORINWICK_FAULT_NOTHING_LEFT) return std::nullopt;
+    return static_cast<Fault>(number);
+}
+
+constexpr std::string_view name(Fault fault) {
+    switch (fault) {
+        case Fault::Level: return "Level";
+        case Fault::Count: return "Count";
+        case Fault::Form: return "Form";
+        case Fault::Order: return "Order";
+        case Fault::LeafChild: return "LeafChild";
+        case Fault::LastChild: return "LastChild";
+        case Fault::ChildId: return "ChildId";
+        case Fault::Missing: return "Missing";
+        case Fault::WrongLevel: return "WrongLevel";
+        case Fault::EqualDatoms: return "EqualDatoms";
+        case Fault::OutOfBounds: return "OutOfBounds";
+        case Fault::PastCount: return "PastCount";
+        case Fault::TooHigh: return "TooHigh";
+        case Fault::NothingLeft: return "NothingLeft";
+    }
+    return "unknown";
+}
+
+// What the name means. "It" is the page.
+constexpr std::string_view text(Fault fault) {
+    switch (fault) {
+        case Fault::Level: return "its level is over 7";
+        case Fault::Count: return "it counts more datoms than a page of its size holds";
+        case Fault::Form: return "a datom in it is malformed, or has the value max";
+        case Fault::Order: return "its datoms do not rise";
+        case Fault::LeafChild: return "its level is 0, and it has a child";
+        case Fault::LastChild: return "its level is above 0, and it has no last child";
+        case Fault::ChildId: return "the number of one of its children is not below its own";
+        case Fault::Missing: return "the store has no such page";
+        case Fault::WrongLevel: return "its level is not the one that its place in the tree asks for";
+        case Fault::EqualDatoms: return "one of its datoms stands in another page of the tree too";
+        case Fault::OutOfBounds: return "a datom in it is not between the bounds that the pages above it set";
+        case Fault::PastCount: return "the cursor's index is past its count";
+        case Fault::TooHigh: return "the cursor's height is over 8";
+        case Fault::NothingLeft: return "the cursor has not ended, and no datom is left under it";
+    }
+    return "unknown";
+}
+
 // The four words of an answer. It must be looked at: a refused batch is not in.
 struct [[nodiscard]] Answer {
     Number number = Number::Done;
-    std::uint64_t root = none;    // the given one if refused
-    std::uint64_t pages = 0;      // written
-    std::uint64_t detail = 0;     // index or page
+    std::uint64_t root = none;           // the given one if refused
+    std::uint64_t pages = 0;             // written; 0 if refused
+    std::uint64_t detail = 0;            // index or page
+    std::optional<Fault> fault = {};     // of Damaged and Unsound alone; absent too where fault_of has no name for it
 
+    // Word 2 is the fault's number where word 0 is Damaged or Unsound. florinwick_insert, which names none, has 0 there.
     static Answer read(const std::uint8_t *words) {
-        return {static_cast<Number>(get_word(words)), get_word(words + 8), get_word(words + 16), get_word(words + 24)};
+        const Number number = static_cast<Number>(get_word(words));
+        const std::uint64_t root = get_word(words + 8), second = get_word(words + 16), detail = get_word(words + 24);
+        if (number == Number::Damaged || number == Number::Unsound) return {number, root, 0, detail, fault_of(second)};
+        return {number, root, second, detail};
     }
     constexpr bool done() const { return number == Number::Done; }
     constexpr explicit operator bool() const { return done(); }
@@ -624,18 +697,13 @@ public:
     // Ascending, at the newest root; whole or not at all.
     Answer insert(const BatchArgument &batch) { return insert_at(root_, batch); }
 
-    // At an older root, or at none. The newest root is then the one that this gives.
+    // At an older root, or at none. The newest root is then the one that this gives. Records go in by their bytes, as every other batch:
+    // florinwick_insert_records does the same and cannot name a fault.
     Answer insert_at(std::uint64_t root, const BatchArgument &batch) {
         std::uint8_t words[FLORINWICK_ANSWER_BYTES];
         const ByteView bytes = batch.bytes();
-        const Span<const Record> records = batch.records();
-        if (records.empty()) {
-            florinwick_insert(detail::lent(bytes_), bytes_.size(), page_size_, page_count_, root, detail::lent(bytes), bytes.size(),
-                              detail::lent(scratch_), scratch_.size(), words, sizeof words);
-        } else {
-            florinwick_insert_records(detail::lent(bytes_), bytes_.size(), page_size_, page_count_, root, records.data(), records.size(),
-                                      detail::lent(scratch_), scratch_.size(), words, sizeof words);
-        }
+        florinwick_insert_named(detail::lent(bytes_), bytes_.size(), page_size_, page_count_, root, detail::lent(bytes), bytes.size(),
+                                detail::lent(scratch_), scratch_.size(), words, sizeof words);
         return moved_on(Answer::read(words));
     }
 

@@ -14,6 +14,11 @@ extern "C" {
         batch: *const u8, batch_length: usize, scratch: *mut u8, scratch_length: usize,
         answer: *mut u8, answer_length: usize,
     ) -> u64;
+    pub fn florinwick_insert_named(
+        store: *mut u8, store_length: usize, page_size: u64, page_count: u64, root: u64,
+        batch: *const u8, batch_length: usize, scratch: *mut u8, scratch_length: usize,
+        answer: *mut u8, answer_length: usize,
+    ) -> u64;
     pub fn florinwick_held(
         store: *const u8, store_length: usize, page_size: u64, page_count: u64, root: u64,
         batch: *const u8, batch_length: usize, answer: *mut u8, answer_length: usize,

@@ -22,8 +22,9 @@ fi
 # The file of a fault, in its copy.
 file_of() {
     case $1 in
-        history | library | store | model | reader) echo "$out/differential/$1.rs" ;;
-        damage | wrong) echo "$out/differential/history/$1.rs" ;;
+        history | library | store | model | reader | names) echo "$out/differential/$1.rs" ;;
+        damage | wrong | breaking) echo "$out/differential/history/$1.rs" ;;
+        node) echo "$out/harness/node.rs" ;;
         *) rust_file "$1" ;;
     esac
 }
@@ -38,6 +39,7 @@ while IFS='|' read -r file name script; do
         htree | datom)
             build_noblit patched
             build_harness "$out/harness" ;;
+        node) build_harness "$out/harness" ;;
     esac
     rustc --edition 2021 --crate-name differential --cap-lints allow -o "$out/program" "${flags[@]}" -L "$out" --extern harness -L target/staticlib -l static=florinwick \
         "$out/differential/main.rs"

@@ -1,13 +1,15 @@
 //! One random history: a store, the trees in it, and every call made on it answered by both sides.
 
+mod breaking;
 mod damage;
 mod reading;
 mod wrong;
 
-use harness::{capacity, compare, Datom, Held, Kind, Node, Oracle, Order, Pages, Panic, Plan, Random, Supply, Which, MAX_VALUE, NONE};
+use harness::{compare, Datom, Held, Kind, Node, Oracle, Order, Pages, Panic, Plan, Random, Supply, Which, MAX_VALUE, NONE};
 
-use crate::library::{bytes_of, call, datoms_of, scratch_need, Answer, Call, Entry, Lent};
-use crate::reader::Fault;
+use crate::library::{bytes_of, call, call_named, datoms_of, scratch_need, Answer, Call, Entry, Lent};
+use crate::names::{Damaged, Naming};
+use crate::reader::{same, Difference};
 use crate::store::Store;
 use crate::tally::Tally;
 use damage::Damage;
@@ -17,6 +19,9 @@ use reading::Reading;
 const CANDIDATES: usize = 30;
 
 const MOST: usize = 128;
+
+/// One in so many inserts is made by the entry that names, too; of those that are Damaged each.
+const NAMED_BESIDE: usize = 3;
 
 /// How a history is made.
 #[derive(Clone, Copy, Debug)]
@@ -78,6 +83,12 @@ struct Last {
     beside: [u64; 6],
 }
 
+/// What a call that writes answered, and what the entry that names answered to the same insert, if it was made beside it.
+struct Told {
+    answer: Answer,
+    named: Option<Answer>,
+}
+
 impl<'a> History<'a> {
     pub fn new(shape: Shape, seed: u64, tally: &'a mut Tally) -> History<'a> {
         let mut random = Random::new(seed);
@@ -102,7 +113,7 @@ impl<'a> History<'a> {
     }
 
     /// Runs the history; a difference ends it.
-    pub fn run(&mut self) -> Result<(), Fault> {
+    pub fn run(&mut self) -> Result<(), Difference> {
         self.tally.histories += 1;
         for i in 0..self.shape.batches {
             if self.patched.bytes().len() > self.shape.room {
@@ -139,7 +150,7 @@ impl<'a> History<'a> {
     }
 
     /// A new tree in the store, by initialise or by an insert at none.
-    fn start(&mut self) -> Result<(), Fault> {
+    fn start(&mut self) -> Result<(), Difference> {
         let at_none = self.random.one_in(3);
         let entry = if at_none { Entry::Insert(NONE) } else { Entry::Initialise };
         for last in (0..self.candidates()).rev() {
@@ -159,7 +170,7 @@ impl<'a> History<'a> {
     }
 
     /// A batch at the newest root, or at an older one.
-    fn grow(&mut self) -> Result<(), Fault> {
+    fn grow(&mut self) -> Result<(), Difference> {
         let newest = self.trees.len() - 1;
         let at = if self.random.one_in(self.shape.branching) { self.random.below(newest + 1) } else { newest };
         let root = self.trees[at].root;
@@ -192,7 +203,7 @@ impl<'a> History<'a> {
     /// Has the Rust write a batch, then the library; false if the builds of the Rust do not agree and must.
     fn write(
         &mut self, entry: Entry, datoms: &[Datom], parent: Option<usize>, batch: Vec<usize>, mut held: Held, may_differ: bool,
-    ) -> Result<bool, Fault> {
+    ) -> Result<bool, Difference> {
         let before = self.patched.count();
         let patched = Oracle { which: Which::Patched, order: self.shape.order };
         let root = ask(patched, &mut self.patched, entry, datoms)
@@ -230,7 +241,7 @@ impl<'a> History<'a> {
     /// Whether the plain Rust agrees, or need not. Where it differs it must have lost a datom, which is how it leaves its domain.
     fn ask_plain(
         &mut self, entry: Entry, datoms: &[Datom], root: u64, before: u64, held: &Held, may_differ: bool,
-    ) -> Result<bool, Fault> {
+    ) -> Result<bool, Difference> {
         let Some(plain) = &mut self.plain else {
             return Ok(true);
         };
@@ -261,7 +272,7 @@ impl<'a> History<'a> {
     }
 
     /// With room for fewer pages than the batch writes, those that fit are written and the answer is NoRoom.
-    fn cut(&mut self, entry: Entry, datoms: &[Datom], pages: &[u8]) -> Result<(), Fault> {
+    fn cut(&mut self, entry: Entry, datoms: &[Datom], pages: &[u8]) -> Result<(), Difference> {
         let size = self.shape.page_size;
         for fit in 0..pages.len() / size {
             let rest = self.random.pick(&[0, 1, size / 2, size - 1]);
@@ -274,7 +285,7 @@ impl<'a> History<'a> {
     }
 
     /// Some calls that must be refused and leave the store as it is.
-    fn refusals(&mut self) -> Result<(), Fault> {
+    fn refusals(&mut self) -> Result<(), Difference> {
         if self.trees.is_empty() {
             return Ok(());
         }
@@ -295,7 +306,7 @@ impl<'a> History<'a> {
     }
 
     /// A batch again at the root it led to.
-    fn resend_there(&mut self) -> Result<(), Fault> {
+    fn resend_there(&mut self) -> Result<(), Difference> {
         let at = self.some_tree();
         let batch = self.trees[at].batch.clone();
         if batch.is_empty() {
@@ -306,7 +317,7 @@ impl<'a> History<'a> {
     }
 
     /// A batch again at a root that came of the one it led to.
-    fn resend_later(&mut self) -> Result<(), Fault> {
+    fn resend_later(&mut self) -> Result<(), Difference> {
         let at = self.some_tree();
         let mut line = vec![];
         let mut above = self.trees[at].parent;
@@ -326,7 +337,7 @@ impl<'a> History<'a> {
     }
 
     /// A batch not held, but for one datom at any place.
-    fn share(&mut self) -> Result<(), Fault> {
+    fn share(&mut self) -> Result<(), Difference> {
         let at = self.some_tree();
         let held: Vec<usize> = (0..self.trees[at].held.len()).filter(|&i| self.trees[at].held[i]).collect();
         if held.is_empty() {
@@ -342,7 +353,7 @@ impl<'a> History<'a> {
     }
 
     /// The batch of one branch at the root of another: refused by the first datom that this one has too.
-    fn other_branch(&mut self) -> Result<(), Fault> {
+    fn other_branch(&mut self) -> Result<(), Difference> {
         let (at, from) = (self.some_tree(), self.random.below(self.trees.len()));
         let batch = self.trees[from].batch.clone();
         if !batch.iter().any(|&i| self.trees[at].held[i]) {
@@ -352,14 +363,14 @@ impl<'a> History<'a> {
         self.refuse_first_held(at, &batch)
     }
 
-    fn refuse_first_held(&mut self, at: usize, batch: &[usize]) -> Result<(), Fault> {
+    fn refuse_first_held(&mut self, at: usize, batch: &[usize]) -> Result<(), Difference> {
         let tree = &self.trees[at];
         let first = batch.iter().position(|&i| tree.held[i]).expect("a datom that the tree holds");
         let (root, datoms) = (tree.root, self.supply.datoms(batch));
         self.refuse(Entry::Insert(root), &datoms, 6, first as u64)
     }
 
-    fn refuse(&mut self, entry: Entry, datoms: &[Datom], number: u64, detail: u64) -> Result<(), Fault> {
+    fn refuse(&mut self, entry: Entry, datoms: &[Datom], number: u64, detail: u64) -> Result<(), Difference> {
         let (more, rest) = (self.random.below(60), self.random.below(64));
         let answer = self.call(entry, &bytes_of(datoms), more, rest)?;
         self.expect(answer, entry.refused(number, detail), &[])
@@ -371,7 +382,7 @@ impl<'a> History<'a> {
     }
 
     /// An unknown page size, a count past the slice, too little scratch, a wrong area, a root that is no page.
-    fn bad_store(&mut self) -> Result<(), Fault> {
+    fn bad_store(&mut self) -> Result<(), Difference> {
         let entry = self.some_entry();
         let datoms = vec![self.supply.any(&mut self.random)];
         let bytes = bytes_of(&datoms);
@@ -394,7 +405,7 @@ impl<'a> History<'a> {
     }
 
     /// Too many datoms, a part of one, a malformed one, one out of order.
-    fn bad_batch(&mut self) -> Result<(), Fault> {
+    fn bad_batch(&mut self) -> Result<(), Difference> {
         let entry = self.some_entry();
         let size = 2 + self.random.below(MOST - 1);
         let nothing = self.supply.nothing_held();
@@ -435,63 +446,58 @@ impl<'a> History<'a> {
         }
     }
 
-    /// A page on the path of the first datom that cannot be read or has a wrong level.
-    fn damaged(&mut self) -> Result<(), Fault> {
-        let at = self.some_tree();
-        let root = self.trees[at].root;
-        let size = 1 + self.random.below(8);
-        let batch = self.supply.batch(&self.trees[at].held, Plan::Scattered, size, &mut self.random);
-        if batch.is_empty() {
-            return Ok(());
-        }
-        let datoms = self.supply.datoms(&batch);
-        let path = path(&self.patched, root, &datoms[0]);
-        let page = self.random.pick(&path);
-        let old = self.patched.page(page).expect("a page of the path").to_vec();
-        let capacity = capacity(self.shape.page_size).expect("a known page size");
-        let header = 40 * capacity + 8;
-        let mut new = old.clone();
-        match self.random.below(5) {
-            0 => new[header] = 8,
-            1 => new[header + 1] = capacity as u8 + 1,
-            2 if page != root => new[header] = old[header].wrapping_add(1),
-            3 if page != root && old[header] > 0 => new[header] -= 1,
-            _ if old[header + 1] > 0 => new[16..24].copy_from_slice(&MAX_VALUE.to_le_bytes()),
-            _ => new[header] = 255,
-        }
-        self.damage(page, new);
-        self.refuse(Entry::Insert(root), &datoms, 7, page)?;
-        self.compare_whole()?;
-        self.repair();
-        Ok(())
-    }
-
-    fn call(&mut self, entry: Entry, batch: &[u8], more: usize, rest: usize) -> Result<Answer, Fault> {
+    fn call(&mut self, entry: Entry, batch: &[u8], more: usize, rest: usize) -> Result<Told, Difference> {
         let scratch = self.need + self.random.pick(&[0, 0, 1, 64]);
         let (page_size, page_count) = (self.shape.page_size as u64, self.store.count);
         self.call_with(&Call { entry, page_size, page_count, batch, scratch, area: 32 }, more, rest)
     }
 
-    fn call_with(&mut self, given: &Call, more: usize, rest: usize) -> Result<Answer, Fault> {
+    fn call_with(&mut self, given: &Call, more: usize, rest: usize) -> Result<Told, Difference> {
         self.reading = None;
         self.last = Some(Last {
             entry: given.entry,
             batch: given.batch.to_vec(),
             beside: [given.page_size, given.page_count, more as u64, rest as u64, given.scratch as u64, given.area as u64],
         });
-        call(self.store.lend(more, rest), given, &mut self.scratch, &mut self.random)
+        let answer = call(self.store.lend(more, rest), given, &mut self.scratch, &mut self.random)?;
+        let is_insert = given.entry != Entry::Initialise;
+        let named = match is_insert && (answer.number == 7 || self.random.one_in(NAMED_BESIDE)) {
+            true => Some(self.call_beside(given, more, rest)?),
+            false => None,
+        };
+        Ok(Told { answer, named })
     }
 
-    /// The answer is this one, and past the pages in use the store has these pages and nothing else new.
-    fn expect(&mut self, answer: Answer, expected: Answer, pages: &[u8]) -> Result<(), Fault> {
-        if answer != expected {
-            return Err(format!("the answer is {:?}, and must be {:?}", answer, expected));
-        }
-        self.tally.answers[answer.number as usize] += 1;
+    /// The insert that was just made, from the same bytes by the entry that names: it leaves the same bytes.
+    fn call_beside(&mut self, given: &Call, more: usize, rest: usize) -> Result<Answer, Difference> {
+        let left = self.store.past().to_vec();
+        self.store.restore();
+        let answer = call_named(self.store.lend(more, rest), given, &mut self.scratch, &mut self.random)?;
+        self.tally.named_beside += 1;
+        if self.store.past() == &left[..] { Ok(answer) } else { Err("the insert that names leaves other bytes than insert".to_string()) }
+    }
+
+    /// The answer is this one, by both entries, and past the pages in use the store has these pages and nothing else new.
+    fn expect(&mut self, told: Told, expected: Answer, pages: &[u8]) -> Result<(), Difference> {
+        self.expect_both(told, expected, expected, pages)
+    }
+
+    /// The answer is Damaged: insert says nothing but the page, the entry that names has the fault's number besides.
+    fn expect_damaged(&mut self, told: Told, entry: Entry, damaged: Damaged, pages: &[u8]) -> Result<(), Difference> {
+        let expected = entry.refused(7, damaged.page);
+        self.expect_both(told, expected, Answer { pages: damaged.fault.number(), ..expected }, pages)?;
+        self.tally.names.add(Naming::InsertNamed, damaged.fault);
+        Ok(())
+    }
+
+    fn expect_both(&mut self, told: Told, expected: Answer, named: Answer, pages: &[u8]) -> Result<(), Difference> {
+        same("the answer", &told.answer, &expected)?;
+        told.named.map_or(Ok(()), |answer| same("the answer of the insert that names", &answer, &named))?;
+        self.tally.answers[expected.number as usize] += 1;
         self.store.fault_past(pages).map_or(Ok(()), Err)
     }
 
-    fn compare_whole(&self) -> Result<(), Fault> {
+    fn compare_whole(&self) -> Result<(), Difference> {
         self.store.fault().map_or(Ok(()), Err)
     }
 }

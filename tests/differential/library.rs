@@ -10,6 +10,7 @@ mod archive;
 pub struct Answer {
     pub number: u64,
     pub root: u64,
+    /// Pages written, or the number of the fault that the answer names.
     pub pages: u64,
     pub detail: u64,
 }
@@ -128,9 +129,21 @@ pub struct Call<'a> {
     pub area: usize,
 }
 
+/// An entry that inserts.
+type Insert = unsafe extern "C" fn(*mut u8, usize, u64, u64, u64, *const u8, usize, *mut u8, usize, *mut u8, usize) -> u64;
+
 /// Lends the store, the batch, the scratch and an answer area, and says what came back; an error names the slice
 /// of which the call changed a byte that it may not. The store is the caller's to compare.
 pub fn call(store: &mut [u8], call: &Call, scratch: &mut Lent, random: &mut Random) -> Result<Answer, String> {
+    call_by(archive::florinwick_insert, store, call, scratch, random)
+}
+
+/// The same, but an insert is made by the entry that names what is damaged.
+pub fn call_named(store: &mut [u8], call: &Call, scratch: &mut Lent, random: &mut Random) -> Result<Answer, String> {
+    call_by(archive::florinwick_insert_named, store, call, scratch, random)
+}
+
+fn call_by(insert: Insert, store: &mut [u8], call: &Call, scratch: &mut Lent, random: &mut Random) -> Result<Answer, String> {
     let batch = Lent::new(call.batch, random);
     let batch_before = batch.all().to_vec();
     let mut area = Lent::of_length(call.area, random);
@@ -143,7 +156,7 @@ pub fn call(store: &mut [u8], call: &Call, scratch: &mut Lent, random: &mut Rand
                 store.as_mut_ptr(), store.len(), call.page_size, call.page_count,
                 batch.content().as_ptr(), batch.length(), lent.as_mut_ptr(), call.scratch, answer.as_mut_ptr(), call.area,
             ),
-            Entry::Insert(root) => archive::florinwick_insert(
+            Entry::Insert(root) => insert(
                 store.as_mut_ptr(), store.len(), call.page_size, call.page_count, root,
                 batch.content().as_ptr(), batch.length(), lent.as_mut_ptr(), call.scratch, answer.as_mut_ptr(), call.area,
             ),

@@ -4,6 +4,7 @@ mod examples;
 mod history;
 mod library;
 mod model;
+mod names;
 mod reader;
 mod store;
 mod tally;
@@ -14,6 +15,7 @@ use std::{env, fs, process};
 
 use harness::{Kind, Order, Plan, Random, PAGE_SIZES};
 use history::{History, Shape};
+use names::Names;
 use tally::Tally;
 
 /// Where the calls that show a difference go.
@@ -25,6 +27,9 @@ const SMALLER_FOR: Duration = Duration::from_secs(20);
 
 /// From so many batches on the tallest tree is built, too.
 const TALL_FROM: u64 = 50_000;
+
+/// From so many batches on each call must have given each name that it can give.
+const NAMED_FROM: u64 = 2_000;
 
 fn main() {
     let number = |i: usize, name: &str| -> u64 {
@@ -51,15 +56,27 @@ fn main() {
         println!("{} bytes a page", page_size);
         println!("{}", tally);
     }
+    tell(names(&tallies, batches), "names of faults");
     if batches >= TALL_FROM {
         tell(tall::run(&mut Random::new(seed)), "the tallest tree, ascending batches of four");
     }
     let sum = |of: fn(&Tally) -> u64| tallies.iter().map(of).sum::<u64>();
     println!(
-        "no difference: {} batches, {} datoms, {} pages, {} refusals, {} listings, {} checks; seed {}, {:.0} s",
+        "no difference: {} batches, {} datoms, {} pages, {} refusals, {} listings, {} names of faults; seed {}, {:.0} s",
         sum(|t| t.batches), sum(|t| t.datoms), sum(|t| t.pages), sum(|t| t.answers[1..].iter().sum()), sum(|t| t.listings),
-        sum(|t| t.sound + t.unsound), seed, started.elapsed().as_secs_f64(),
+        sum(|t| t.names.total()), seed, started.elapsed().as_secs_f64(),
     );
+}
+
+/// How often each call gave each name, at all page sizes. In a long run a name that never came up is an error, so that no change of the
+/// damage done leaves one out unseen.
+fn names(tallies: &[Tally], batches: u64) -> Result<String, String> {
+    let mut all = Names::default();
+    tallies.iter().for_each(|tally| all.add_all(&tally.names));
+    match all.missing() {
+        missing if batches >= NAMED_FROM && !missing.is_empty() => Err(format!("never given: {}", missing.join(", "))),
+        _ => Ok(format!("{} faults named\n{}", all.total(), all)),
+    }
 }
 
 /// Says what was compared, or ends with the difference.

@@ -1,9 +1,11 @@
-//! Document 01's "Listing and check" for any cursor and any store, and document 02's question whether a batch is held, written to their text:
-//! the judge where the Rust has no answer.
+//! Document 01's "Listing and check" for any cursor and any store, and document 02's names of what is damaged and its question whether a
+//! batch is held, written to their text: the judge where the Rust has no answer.
 
 use std::cmp::Ordering;
 
 use harness::{compare, Datom, Node, Pages, NONE};
+
+use crate::names::{Damaged, Fault};
 
 const LEVELS: usize = 8;
 
@@ -46,22 +48,18 @@ impl Cursor {
     }
 }
 
-/// Why a step is Damaged.
-#[derive(Clone, Copy, Debug, PartialEq)]
-pub enum Why {
-    TooHigh,
-    NotOpen,
-    NothingLeft,
-    Twice,
-    Lost,
-}
-
 #[derive(Clone, Debug, PartialEq)]
 pub enum Step {
     Yields(Datom, Cursor),
     Ended,
-    Damaged(u64, Why),
+    /// Before anything is yielded.
+    Refused(Damaged),
+    /// While advancing past the datom.
+    Lost(Damaged),
 }
+
+/// The index of the first datom of a batch that a lookup seeks, none if there is none, or where the lookup is lost.
+pub type Looked = Result<Option<u64>, Damaged>;
 
 /// The rules over the pages of a store.
 pub struct Model<'a> {
@@ -69,23 +67,25 @@ pub struct Model<'a> {
 }
 
 impl Model<'_> {
-    /// A page that is there and readable.
-    pub fn node(&self, page: u64) -> Option<Node> {
-        let node = Node::decode(self.pages.page(page)?)?;
-        if node.is_readable(page) { Some(node) } else { None }
+    /// A page that is there and readable, or what is wrong with it.
+    pub fn node(&self, page: u64) -> Result<Node, Damaged> {
+        let bytes = self.pages.page(page).ok_or(Damaged { page, fault: Fault::Missing })?;
+        Node::read(bytes, page).map_err(|rule| Damaged { page, fault: Fault::Breaks(rule) })
     }
 
-    fn node_of_level(&self, page: u64, level: usize) -> Option<Node> {
-        self.node(page).filter(|node| node.level as usize == level)
+    /// A page is read before its level is asked.
+    pub fn node_of_level(&self, page: u64, level: usize) -> Result<Node, Damaged> {
+        let node = self.node(page)?;
+        if node.level as usize == level { Ok(node) } else { Err(Damaged { page, fault: Fault::WrongLevel }) }
     }
 
-    /// "Starting a listing checks 1, 10, 5, then the bounds' order, then pages": from the bounds' order on. An error is a page.
-    pub fn start(&self, root: u64, lower: &Datom, upper: &Datom) -> Result<Cursor, u64> {
+    /// "Starting a listing checks 1, 10, 5, then the bounds' order, then pages": from the bounds' order on.
+    pub fn start(&self, root: u64, lower: &Datom, upper: &Datom) -> Result<Cursor, Damaged> {
         if root == NONE || compare(lower, upper) != Ordering::Less {
             return Ok(Cursor::default());
         }
-        let level = self.node(root).ok_or(root)?.level as usize;
-        let way = |bound: &Datom| -> Result<End, u64> {
+        let level = self.node(root)?.level as usize;
+        let way = |bound: &Datom| -> Result<End, Damaged> {
             let mut end = End::default();
             let index = |node: &Node| node.datoms.iter().take_while(|held| compare(held, bound).is_lt()).count();
             self.go_down(root, level, index, &mut end)?;
@@ -94,10 +94,10 @@ impl Model<'_> {
         Ok(Cursor { height: level as u64 + 1, begin: way(lower)?, end: way(upper)? })
     }
 
-    /// From a page down to level 0, each time to the first real child at or after the index. An error is the page where it is lost.
-    fn go_down(&self, mut page: u64, level: usize, index: impl Fn(&Node) -> usize, end: &mut End) -> Result<(), u64> {
+    /// From a page down to level 0, each time to the first real child at or after the index. An error is where it is lost.
+    fn go_down(&self, mut page: u64, level: usize, index: impl Fn(&Node) -> usize, end: &mut End) -> Result<(), Damaged> {
         for level in (0..level + 1).rev() {
-            let node = self.node_of_level(page, level).ok_or(page)?;
+            let node = self.node_of_level(page, level)?;
             let at = index(&node);
             end.indices[level] = at as u64;
             end.pages[level] = page;
@@ -109,25 +109,31 @@ impl Model<'_> {
     /// "A step checks 1, then a height over 8 (Damaged, id none), then the end, then the begin pages from the top": from the height on.
     pub fn step(&self, cursor: &Cursor) -> Step {
         if cursor.height > LEVELS as u64 {
-            return Step::Damaged(NONE, Why::TooHigh);
+            return Step::Refused(Damaged { page: NONE, fault: Fault::TooHigh });
         }
         let height = cursor.height as usize;
         if cursor.begin.indices[..height] == cursor.end.indices[..height] {
             return Step::Ended;
         }
+        match self.open(cursor, height).and_then(|nodes| Ok((smallest(cursor, &nodes)?, nodes))) {
+            Err(damaged) => Step::Refused(damaged),
+            Ok(((level, datom), nodes)) => self.advance(cursor, level, &nodes[level], datom),
+        }
+    }
+
+    /// "Then the begin pages from the top: a missing or unreadable page, a wrong level or an index past the count"; by level.
+    fn open(&self, cursor: &Cursor, height: usize) -> Result<Vec<Node>, Damaged> {
         let mut nodes = Vec::new();
         for level in (0..height).rev() {
             let page = cursor.begin.pages[level];
-            match self.node_of_level(page, level) {
-                Some(node) if cursor.begin.indices[level] <= node.datoms.len() as u64 => nodes.push(node),
-                _ => return Step::Damaged(page, Why::NotOpen),
+            let node = self.node_of_level(page, level)?;
+            if cursor.begin.indices[level] > node.datoms.len() as u64 {
+                return Err(Damaged { page, fault: Fault::PastCount });
             }
+            nodes.push(node);
         }
         nodes.reverse();
-        match smallest(cursor, &nodes) {
-            Err(damaged) => damaged,
-            Ok((level, datom)) => self.advance(cursor, level, &nodes[level], datom),
-        }
+        Ok(nodes)
     }
 
     /// As `Iter::next`: past the datom, and behind a midpoint the levels below are filled from the next child.
@@ -141,62 +147,66 @@ impl Model<'_> {
         let index = cursor.begin.indices[level] as usize;
         next.begin.indices[level] += 1;
         if level > 0 && node.children[index] != NONE {
-            if let Err(page) = self.go_down(child_from(node, index + 1), level - 1, |_| 0, &mut next.begin) {
-                return Step::Damaged(page, Why::Lost);
+            if let Err(damaged) = self.go_down(child_from(node, index + 1), level - 1, |_| 0, &mut next.begin) {
+                return Step::Lost(damaged);
             }
         }
         Step::Yields(datom, next)
     }
 
     /// "In each page the path finds the first datom not below the one sought; it stops if that is equal or the level is 0, and else goes
-    /// on to the first real child at or after that index": whether it ends at an equal datom. An error is the page where it is lost.
-    fn is_met(&self, root: u64, sought: &Datom) -> Result<bool, u64> {
-        let mut node = self.node(root).ok_or(root)?;
+    /// on to the first real child at or after that index": whether it ends at an equal datom. An error is where it is lost.
+    fn is_met(&self, root: u64, sought: &Datom) -> Result<bool, Damaged> {
+        let mut node = self.node(root)?;
         loop {
             let first = node.datoms.iter().take_while(|held| compare(held, sought).is_lt()).count();
             let is_equal = node.datoms.get(first).map_or(false, |held| compare(held, sought).is_eq());
             if is_equal || node.level == 0 {
                 return Ok(is_equal);
             }
-            let child = child_from(&node, first);
-            node = self.node_of_level(child, node.level as usize - 1).ok_or(child)?;
+            node = self.node_of_level(child_from(&node, first), node.level as usize - 1)?;
         }
     }
 
-    /// "0 where the tree holds all its datoms, number 16 NotHeld with the index of the first that it does not hold, .. and 7 as met":
-    /// the number, and the index or page, of a batch that 1 to 5 let through.
-    pub fn held(&self, root: u64, batch: &[Datom]) -> (u64, u64) {
+    /// The index of the first datom of a batch that is met, or is not, along its path from a root. "Lookup goes datom by datom, so 6 and
+    /// 7 come in whichever order they are met"; so do 16 and 7.
+    fn first(&self, is_sought: bool, root: u64, batch: &[Datom]) -> Looked {
         for (i, datom) in batch.iter().enumerate() {
-            let is_met = if root == NONE { Ok(false) } else { self.is_met(root, datom) };
-            match is_met {
-                Ok(true) => {}
-                Ok(false) => return (16, i as u64),
-                Err(page) => return (7, page),
+            if (root != NONE && self.is_met(root, datom)?) == is_sought {
+                return Ok(Some(i as u64));
             }
         }
-        (0, 0)
+        Ok(None)
     }
 
-    /// The page of the first fault that the check's walk meets. "Root "none" is Sound."
-    pub fn check(&self, root: u64) -> Option<u64> {
+    /// "Before writing, insert looks every batch datom up along its path, in batch order": the index of 6.
+    pub fn first_met(&self, root: u64, batch: &[Datom]) -> Looked {
+        self.first(true, root, batch)
+    }
+
+    /// "0 where the tree holds all its datoms, number 16 NotHeld with the index of the first that it does not hold, .. and 7 as met": the
+    /// index of 16, for a batch that 1 to 5 let through.
+    pub fn first_not_held(&self, root: u64, batch: &[Datom]) -> Looked {
+        self.first(false, root, batch)
+    }
+
+    /// The first fault that the check's walk meets. "Root "none" is Sound."
+    pub fn check(&self, root: u64) -> Option<Damaged> {
         if root == NONE { None } else { self.check_page(root, None, None, None).err() }
     }
 
-    fn check_page(&self, page: u64, level: Option<u8>, lower: Option<&Datom>, upper: Option<&Datom>) -> Result<(), u64> {
-        let node = self.node(page).ok_or(page)?;
-        if level.map_or(false, |level| level != node.level) {
-            return Err(page);
-        }
+    fn check_page(&self, page: u64, level: Option<usize>, lower: Option<&Datom>, upper: Option<&Datom>) -> Result<(), Damaged> {
+        let node = level.map_or_else(|| self.node(page), |level| self.node_of_level(page, level))?;
         let (mut passed, mut midpoint) = (lower, lower);
         // The upper bound and the last child stand at the end as one datom and child more.
         for (datom, &child) in node.datoms.iter().map(Some).chain([upper]).zip(&node.children) {
             if let (Some(passed), Some(datom)) = (passed, datom) {
                 if compare(passed, datom) != Ordering::Less {
-                    return Err(page);
+                    return Err(Damaged { page, fault: Fault::OutOfBounds });
                 }
             }
             if child != NONE {
-                self.check_page(child, Some(node.level - 1), midpoint, datom)?;
+                self.check_page(child, Some(node.level as usize - 1), midpoint, datom)?;
                 midpoint = datom;
             }
             passed = datom;
@@ -206,7 +216,7 @@ impl Model<'_> {
 }
 
 /// "Candidates are compared from level 0 up; the first equal pair is Damaged, naming the page of the higher level."
-fn smallest(cursor: &Cursor, nodes: &[Node]) -> Result<(usize, Datom), Step> {
+fn smallest(cursor: &Cursor, nodes: &[Node]) -> Result<(usize, Datom), Damaged> {
     let mut best: Option<(usize, Datom)> = None;
     for (level, node) in nodes.iter().enumerate() {
         let Some(&datom) = node.datoms.get(cursor.begin.indices[level] as usize) else {
@@ -214,11 +224,11 @@ fn smallest(cursor: &Cursor, nodes: &[Node]) -> Result<(usize, Datom), Step> {
         };
         match best.map(|(_, least)| compare(&least, &datom)) {
             Some(Ordering::Less) => {}
-            Some(Ordering::Equal) => return Err(Step::Damaged(cursor.begin.pages[level], Why::Twice)),
+            Some(Ordering::Equal) => return Err(Damaged { page: cursor.begin.pages[level], fault: Fault::EqualDatoms }),
             Some(Ordering::Greater) | None => best = Some((level, datom)),
         }
     }
-    best.ok_or(Step::Damaged(NONE, Why::NothingLeft))
+    best.ok_or(Damaged { page: NONE, fault: Fault::NothingLeft })
 }
 
 /// The first real child at or after an index; at level 0 there is none.

@@ -1,13 +1,14 @@
-//! The library's calls that only read, each compared with document 01's rules.
+//! The library's calls that only read, each compared with the rules of documents 01 and 02.
 
 use harness::{Datom, Pages, Random, NONE};
 
 use crate::library::{bytes_of, datoms_of, Answer, Asked, Lent};
-use crate::model::{Cursor, Model, Step, CURSOR_BYTES};
+use crate::model::{Cursor, Looked, Model, Step, CURSOR_BYTES};
+use crate::names::{Damaged, Naming};
 use crate::tally::Tally;
 
 /// A difference, in words.
-pub type Fault = String;
+pub type Difference = String;
 
 /// So many steps at the front of a listing are compared with the rules, cursor and all.
 const JUDGED: usize = 48;
@@ -33,7 +34,7 @@ impl<'a> Reader<'a> {
     }
 
     /// What a listing by steps gives. It ends by itself, is refused, or is left after so many steps.
-    pub fn list(&mut self, root: u64, lower: &Datom, upper: &Datom, most: usize) -> Result<Vec<Datom>, Fault> {
+    pub fn list(&mut self, root: u64, lower: &Datom, upper: &Datom, most: usize) -> Result<Vec<Datom>, Difference> {
         self.tally.listings += 1;
         let mut cursor = Lent::of_length(CURSOR_BYTES, self.random);
         let mut datom = Lent::of_length(32, self.random);
@@ -53,22 +54,24 @@ impl<'a> Reader<'a> {
     }
 
     /// Starts a listing; false if it is refused, and the cursor's bytes must then be as before.
-    fn start(&mut self, root: u64, lower: &Datom, upper: &Datom, cursor: &mut Lent) -> Result<bool, Fault> {
+    fn start(&mut self, root: u64, lower: &Datom, upper: &Datom, cursor: &mut Lent) -> Result<bool, Difference> {
         let before = cursor.content().to_vec();
         let judged = self.model().start(root, lower, upper);
         let answer = self.asked().list_start(root, &bytes_of(&[*lower]), &bytes_of(&[*upper]), cursor, self.random)?;
         let (expected, kept) = match &judged {
             Ok(begun) => (Answer::told(0, 0), begun.bytes()),
-            Err(page) => (Answer { root, ..Answer::told(7, *page) }, before),
+            Err(damaged) => (Answer { root, ..damaged.told(7) }, before),
         };
         same("the start's answer", &answer, &expected)?;
         same("the start's cursor", &Cursor::of_bytes(cursor.content()), &Cursor::of_bytes(&kept))?;
-        self.tally.starts_refused += judged.is_err() as u64;
+        if let Err(damaged) = judged {
+            self.tally.names.add(Naming::Start, damaged.fault);
+        }
         Ok(judged.is_ok())
     }
 
     /// A step with any cursor, and the datom that it yields. Where it ends or is refused, both areas must be as before.
-    pub fn step(&mut self, cursor: &mut Lent, datom: &mut Lent, is_judged: bool) -> Result<Option<Datom>, Fault> {
+    pub fn step(&mut self, cursor: &mut Lent, datom: &mut Lent, is_judged: bool) -> Result<Option<Datom>, Difference> {
         let given = Cursor::of_bytes(cursor.content());
         let before = datom.content().to_vec();
         let answer = self.asked().list_step(cursor, datom, self.random)?;
@@ -78,7 +81,7 @@ impl<'a> Reader<'a> {
             let (expected, next, yielded) = match judged {
                 Step::Yields(datom, next) => (Answer::told(0, 0), next, bytes_of(&[datom])),
                 Step::Ended => (Answer::told(32, 0), given, before),
-                Step::Damaged(page, _) => (Answer::told(7, page), given, before),
+                Step::Refused(damaged) | Step::Lost(damaged) => (damaged.told(7), given, before),
             };
             same("the step's answer", &answer, &expected)?;
             same("the step's cursor", &Cursor::of_bytes(cursor.content()), &next)?;
@@ -87,31 +90,39 @@ impl<'a> Reader<'a> {
         Ok(if answer.number == 0 { datoms_of(datom.content()).pop() } else { None })
     }
 
-    /// The page of the check's first fault, or none, as by the rules.
-    pub fn check(&mut self, root: u64) -> Result<Option<u64>, Fault> {
+    /// The check's first fault, or none, as by the rules.
+    pub fn check(&mut self, root: u64) -> Result<Option<Damaged>, Difference> {
         let judged = self.model().check(root);
         let answer = self.asked().check(root, self.random)?;
-        let expected = judged.map_or(Answer::told(0, 0), |page| Answer::told(33, page));
+        let expected = judged.map_or(Answer::told(0, 0), |damaged| damaged.told(33));
         same("the check's answer", &answer, &expected)?;
         match judged {
             None => self.tally.sound += 1,
-            Some(_) => self.tally.unsound += 1,
+            Some(damaged) => self.tally.names.add(Naming::Check, damaged.fault),
         }
         Ok(judged)
     }
 
-    /// Whether a tree holds a batch that is well formed, as by the rules: the number, and the index or page.
-    pub fn held(&mut self, root: u64, batch: &[Datom]) -> Result<(u64, u64), Fault> {
-        let (number, detail) = self.model().held(root, batch);
+    /// The first datom of a well formed batch that a tree does not hold, or none, or where the lookup is lost, as by the rules.
+    pub fn held(&mut self, root: u64, batch: &[Datom]) -> Result<Looked, Difference> {
+        let judged = self.model().first_not_held(root, batch);
         let answer = self.asked().held(root, &bytes_of(batch), self.random)?;
-        let expected = if number == 0 { Answer::told(0, 0) } else { Answer { root, ..Answer::told(number, detail) } };
+        let expected = match judged {
+            Ok(None) => Answer::told(0, 0),
+            Ok(Some(index)) => Answer { root, ..Answer::told(16, index) },
+            Err(damaged) => Answer { root, ..damaged.told(7) },
+        };
         same("the answer to a batch that is asked for", &answer, &expected)?;
-        self.tally.asked[match number { 0 => 0, 16 => 1, _ => 2 }] += 1;
-        Ok((number, detail))
+        match judged {
+            Ok(None) => self.tally.held += 1,
+            Ok(Some(_)) => self.tally.not_held += 1,
+            Err(damaged) => self.tally.names.add(Naming::Held, damaged.fault),
+        }
+        Ok(judged)
     }
 
     /// "A fetch checks 1, 5." "For a fetch, "none" is NoPage."
-    pub fn fetch(&mut self, page: u64) -> Result<(), Fault> {
+    pub fn fetch(&mut self, page: u64) -> Result<(), Difference> {
         let expected = if page != NONE && page < self.pages.count() { Answer::told(0, 0) } else { Answer::told(5, 0) };
         let answer = self.asked().fetch(page, self.random)?;
         self.tally.fetches += 1;
@@ -119,6 +130,6 @@ impl<'a> Reader<'a> {
     }
 }
 
-pub fn same<T: std::fmt::Debug + PartialEq>(name: &str, found: &T, expected: &T) -> Result<(), Fault> {
+pub fn same<T: std::fmt::Debug + PartialEq>(name: &str, found: &T, expected: &T) -> Result<(), Difference> {
     if found == expected { Ok(()) } else { Err(format!("{} is {:?}, and must be {:?}", name, found, expected)) }
 }

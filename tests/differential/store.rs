@@ -50,6 +50,11 @@ impl Store {
         &self.bytes[self.before..self.place(self.count) + bytes]
     }
 
+    /// The bytes from the first free page on, as a call left them.
+    pub fn past(&self) -> &[u8] {
+        &self.bytes[self.place(self.count)..]
+    }
+
     /// The bytes that a call left, from the first free page on, if they differ from these pages with the old bytes past
     /// them: the number of the first byte, what it is and what it must be.
     pub fn fault_past(&self, pages: &[u8]) -> Option<String> {

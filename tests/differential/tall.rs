@@ -3,7 +3,7 @@
 use harness::{Datom, Node, Oracle, Order, Pages, Random, Verdict, Which, MAX_VALUE};
 
 use crate::history::ask;
-use crate::library::{bytes_of, call, scratch_need, Answer, Call, Entry, Lent};
+use crate::library::{bytes_of, call, call_named, scratch_need, Answer, Call, Entry, Lent};
 use crate::reader::Reader;
 use crate::store::Store;
 use crate::tally::Tally;
@@ -52,18 +52,8 @@ pub fn run(random: &mut Random) -> Result<String, String> {
         }
         if let Some(at) = too_tall {
             store.restore();
-            // With room for fewer pages than come before the one of level 8 the answer is 9, with room for those alone 8.
-            for fit in 0..at + 1 {
-                let answer = call(store.lend(fit, 0), &given, &mut scratch, random)?;
-                let expected = entry.refused(if fit == at { 8 } else { 9 }, 0);
-                if answer != expected {
-                    return Err(format!("batch {}, room for {}: the answer is {:?}, and must be {:?}", batch, fit, answer, expected));
-                }
-                if let Some(fault) = store.fault_past(&written[..fit * PAGE_SIZE]) {
-                    return Err(format!("batch {}, room for {}: {}", batch, fit, fault));
-                }
-                store.restore();
-            }
+            with_less_room(&mut store, &given, &written[..at * PAGE_SIZE], &mut scratch, random)
+                .map_err(|fault| format!("batch {}, {}", batch, fault))?;
             pages.truncate(before);
             let Entry::Insert(root) = entry else {
                 return Err("a first batch that is too tall".to_string());
@@ -86,6 +76,26 @@ pub fn run(random: &mut Random) -> Result<String, String> {
         entry = Entry::Insert(root);
     }
     Err(format!("{} batches, and no page of level 8", MOST_BATCHES))
+}
+
+/// With room for fewer pages than come before the one of level 8 the answer is 9, with room for those alone 8; by both inserts.
+fn with_less_room(store: &mut Store, given: &Call, written: &[u8], scratch: &mut Lent, random: &mut Random) -> Result<(), String> {
+    let at = written.len() / PAGE_SIZE;
+    for fit in 0..at + 1 {
+        let expected = given.entry.refused(if fit == at { 8 } else { 9 }, 0);
+        for is_named in [false, true] {
+            let insert = if is_named { call_named } else { call };
+            let answer = insert(store.lend(fit, 0), given, scratch, random)?;
+            if answer != expected {
+                return Err(format!("room for {}: the answer is {:?}, and must be {:?}", fit, answer, expected));
+            }
+            if let Some(fault) = store.fault_past(&written[..fit * PAGE_SIZE]) {
+                return Err(format!("room for {}: {}", fit, fault));
+            }
+            store.restore();
+        }
+    }
+    Ok(())
 }
 
 /// Listings and the check of the tallest tree, of so many datoms, by the Rust and by the library.

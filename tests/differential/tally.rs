@@ -2,7 +2,8 @@
 
 use std::fmt;
 
-use crate::model::{Step, Why};
+use crate::model::Step;
+use crate::names::{Names, Naming};
 
 /// How many of the refusals 1 to 10 there are, and Done as 0.
 const NUMBERS: usize = 11;
@@ -30,24 +31,30 @@ pub struct Tally {
     /// Stores cut at a page of a batch.
     pub cuts: u64,
     pub answers: [u64; NUMBERS],
-    /// Listings, the datoms that they gave, how many of them the Rust gave too, and how many starts were refused.
+    /// Listings, the datoms that they gave, and how many of them the Rust gave too.
     pub listings: u64,
     pub listed: u64,
     pub listed_by_rust: u64,
-    pub starts_refused: u64,
-    /// Steps that were compared with the rules, cursor and all: yielding, ended, and by why they are Damaged; how many of all these
-    /// were from made-up cursors.
+    /// Steps that were compared with the rules, cursor and all: yielding, ended, and lost while advancing; how many of all these and of
+    /// those that are Damaged were from made-up cursors.
     pub yielded: u64,
     pub ended: u64,
-    pub damaged: [u64; 5],
+    pub lost_advancing: u64,
     pub made_up: u64,
-    /// Batches that were asked for: held, not held, and Damaged.
-    pub asked: [u64; 3],
+    /// Batches that were asked for.
+    pub held: u64,
+    pub not_held: u64,
     pub sound: u64,
-    pub unsound: u64,
+    /// What was named by a call that is Damaged or Unsound.
+    pub names: Names,
+    /// Inserts, refused or not, beside which the entry that names was called.
+    pub named_beside: u64,
     pub fetches: u64,
     pub damaged_readable: u64,
     pub damaged_unreadable: u64,
+    /// Of the pages that cannot be read: with more than one rule broken, and of another level besides.
+    pub broken_twice: u64,
+    pub broken_elsewhere: u64,
     /// Inserts that met a page which cannot be read, or an equal datom, when writing had begun; and the pages written until then.
     pub lost_while_writing: u64,
     pub equal_while_writing: u64,
@@ -59,29 +66,26 @@ impl Tally {
         match step {
             Step::Yields(..) => self.yielded += 1,
             Step::Ended => self.ended += 1,
-            Step::Damaged(_, Why::TooHigh) => self.damaged[0] += 1,
-            Step::Damaged(_, Why::NotOpen) => self.damaged[1] += 1,
-            Step::Damaged(_, Why::NothingLeft) => self.damaged[2] += 1,
-            Step::Damaged(_, Why::Twice) => self.damaged[3] += 1,
-            Step::Damaged(_, Why::Lost) => self.damaged[4] += 1,
+            Step::Refused(damaged) => self.names.add(Naming::Step, damaged.fault),
+            Step::Lost(damaged) => {
+                self.lost_advancing += 1;
+                self.names.add(Naming::Step, damaged.fault);
+            }
         }
     }
 
     fn readings(&self, out: &mut fmt::Formatter) -> fmt::Result {
         writeln!(
-            out, "  listings: {} ({} by the Rust too, {} refused at the start), {} datoms; {} fetches",
-            self.listings, self.listed_by_rust, self.starts_refused, self.listed, self.fetches,
+            out, "  listings: {} ({} by the Rust too), {} datoms; {} fetches", self.listings, self.listed_by_rust, self.listed, self.fetches,
         )?;
-        let [high, open, left, twice, lost] = self.damaged;
         writeln!(
-            out, "  steps by the rules: {} yield, {} ended, Damaged {}: height {}, begin page {}, nothing left {}, equal pair {}, advancing {}; {} from made-up cursors",
-            self.yielded, self.ended, self.damaged.iter().sum::<u64>(), high, open, left, twice, lost, self.made_up,
+            out, "  steps by the rules: {} yield, {} ended, {} lost while advancing; {} from made-up cursors",
+            self.yielded, self.ended, self.lost_advancing, self.made_up,
         )?;
-        let [held, not_held, damaged] = self.asked;
-        writeln!(out, "  asked for: {} batches held, {} not, {} Damaged", held, not_held, damaged)?;
+        writeln!(out, "  asked for: {} batches held, {} not; checks: {} sound", self.held, self.not_held, self.sound)?;
         writeln!(
-            out, "  checks: {} sound, {} unsound; damaged pages: {} readable, {} not",
-            self.sound, self.unsound, self.damaged_readable, self.damaged_unreadable,
+            out, "  damaged pages: {} readable, {} not, {} of these by several rules and {} of another level too",
+            self.damaged_readable, self.damaged_unreadable, self.broken_twice, self.broken_elsewhere,
         )?;
         writeln!(
             out, "  inserts refused while writing, after {} pages: {} by a page that cannot be read, {} by an equal datom",
@@ -108,6 +112,6 @@ impl fmt::Display for Tally {
             self.resent_there, self.resent_later, self.shared, self.cuts,
         )?;
         self.readings(out)?;
-        write!(out, "  refusals by number: {}", refusals.join(", "))
+        write!(out, "  refusals by number: {}; {} inserts by the entry that names too", refusals.join(", "), self.named_beside)
     }
 }

@@ -10,7 +10,7 @@ constexpr size_t STORE_ROOM = 1 << 16;
 constexpr size_t SCRATCH_ROOM = 332352 + GUARD;
 constexpr size_t CURSOR = 264;
 
-enum class Entry { Initialise, Insert, Fetch, Check, Start, Step, Held };
+enum class Entry { Initialise, Insert, Fetch, Check, Start, Step, Held, Named };
 
 struct Call {
     Entry entry;
@@ -23,13 +23,29 @@ struct Call {
     std::vector<uint8_t> batch, lower, upper, cursor;
     size_t scratch_length = 0, datom_length = 32, answer_length = 32;
 
-    bool writes() const { return entry == Entry::Initialise || entry == Entry::Insert; }
+    bool writes() const { return entry == Entry::Initialise || entry == Entry::Insert || entry == Entry::Named; }
+
+    // Which faults it can name, a bit for each. A root is below the count, and the children of a readable page are below its own id: only
+    // the pages of a made-up cursor can be missing.
+    uint64_t names() const {
+        constexpr uint64_t read = 0xfe | 1 << WrongLevel;
+        switch (entry) {
+        case Entry::Start: case Entry::Held: return read;
+        case Entry::Named: return read | 1 << EqualDatoms;
+        case Entry::Check: return read | 1 << OutOfBounds;
+        case Entry::Step: return read | 1 << Missing | 1 << EqualDatoms | 1 << PastCount | 1 << TooHigh | 1 << NothingLeft;
+        default: return 0;
+        }
+    }
 };
 
 // The four words; where the answer area has another length than 32, the number that was returned, and zeros.
 struct Answer {
     uint64_t number = 0, root = 0, pages = 0, detail = 0;
     std::vector<uint8_t> cursor, datom;
+
+    // Damaged or Unsound: the third word is then a fault's number, where the call names one.
+    bool is_faulty() const { return number == 7 || number == 33; }
 };
 
 // All slices of a call, in one of the two placements.
@@ -67,6 +83,9 @@ struct Slices {
                     scratch.bytes(), scratch.length(), out, words);
         case Entry::Insert:
             return florinwick_insert(store.bytes(), room, call.page_size, call.page_count, call.root, batch.for_reading(),
+                    batch.length(), scratch.bytes(), scratch.length(), out, words);
+        case Entry::Named:
+            return florinwick_insert_named(store.bytes(), room, call.page_size, call.page_count, call.root, batch.for_reading(),
                     batch.length(), scratch.bytes(), scratch.length(), out, words);
         case Entry::Fetch:
             return florinwick_fetch(pages, room, call.page_size, call.page_count, call.root, out, words);
@@ -124,6 +143,7 @@ public:
         Answer answer = front_.call(call);
         // The other copy of the store is still as before.
         judge_words(call, answer);
+        judge_faults(call, answer);
         uint64_t pages = call.writes() ? pages_changed(call, answer) : 0;
         for (uint64_t id = call.page_count; is_sound && id < call.page_count + pages; id++) {
             must(is_written_page(pages_at(id, call), call.page_size, id), "a page was written that is not as pages are");
@@ -143,7 +163,7 @@ private:
 
     // Which numbers an entry may give, and what the other words then are.
     static void judge_words(const Call &call, const Answer &answer) {
-        static const uint64_t may_give[] = {0x31f, 0x3ff, 0x23, 0x23 | uint64_t{1} << 33, 0x4a3, 0x83 | uint64_t{1} << 32, 0x100bf};
+        static const uint64_t may_give[] = {0x31f, 0x3ff, 0x23, 0x23 | uint64_t{1} << 33, 0x4a3, 0x83 | uint64_t{1} << 32, 0x100bf, 0x3ff};
         uint64_t number = answer.number, batch = call.batch.size() / 32;
         must(number < 64 && may_give[static_cast<int>(call.entry)] >> number & 1, "a number that this entry does not give");
         if (call.answer_length != 32) {
@@ -152,8 +172,10 @@ private:
         }
         bool is_refused = number != 0 && number < 32, keeps_root = call.entry != Entry::Fetch && call.entry != Entry::Step;
         must(!is_refused || answer.root == (keeps_root ? call.root : 0), "a refused call does not give back its root");
-        must(!is_refused || answer.pages == 0, "a refused call has written pages");
-        must(call.writes() || (answer.pages == 0 && (is_refused || answer.root == 0)), "a word that is not used is not 0");
+        bool has_pages = call.writes() && number == 0, is_named = answer.is_faulty() && call.names() != 0;
+        must(has_pages || is_named || answer.pages == 0, "a third word that is not used is not 0");
+        must(!is_named || (answer.pages < 64 && call.names() >> answer.pages & 1), "a fault that this entry does not name");
+        must(call.writes() || is_refused || answer.root == 0, "a word that is not used is not 0");
         switch (number) {
         case 3: case 4: case 6: case 16:
             must(answer.detail < batch, "an index past the batch");
@@ -171,6 +193,74 @@ private:
             must(answer.cursor == call.cursor, "a cursor was changed by a call that is refused or has ended");
         }
     }
+
+    // What is named is what the page's bytes say, as far as that can be told from the page, the root or the cursor alone.
+    void judge_faults(const Call &call, const Answer &answer) const {
+        if (call.answer_length == 32 && answer.number != 1) {
+            if (answer.is_faulty() && call.names() != 0) {
+                judge_page(call, answer.pages, answer.detail);
+            }
+            judge_root(call, answer);
+            judge_opening(call, answer);
+        }
+    }
+
+    void judge_page(const Call &call, uint64_t fault, uint64_t page) const {
+        if (fault == TooHigh || fault == NothingLeft) {
+            must(page == NONE, "a page is given where none is to blame");
+        } else if (page >= call.page_count) {
+            must(fault == Missing, "a missing page is not called so");
+        } else {
+            must(broken(call, page) == (fault <= ChildId ? fault : NO_FAULT), "a page does not break first what is named");
+        }
+    }
+
+    // A root that cannot be read is what is named, wherever it is read.
+    void judge_root(const Call &call, const Answer &answer) const {
+        bool is_walked = call.entry == Entry::Check || call.entry == Entry::Insert || call.entry == Entry::Named
+                || (call.entry == Entry::Held && !call.batch.empty())
+                || (call.entry == Entry::Start && (answer.number != 0 || word_at(answer.cursor.data()) != 0));
+        bool is_before = (answer.number > 0 && answer.number <= 5) || answer.number == 10;
+        uint64_t rule = !is_walked || is_before || call.root >= call.page_count ? NO_FAULT : broken(call, call.root);
+        must(rule == NO_FAULT || (answer.is_faulty() && answer.detail == call.root), "a root that cannot be read is passed over");
+        must(rule == NO_FAULT || call.names() == 0 || answer.pages == rule, "a root's first broken rule is not named");
+    }
+
+    // "A step checks 1, then a height over 8, then the end, then the begin pages from the top."
+    void judge_opening(const Call &call, const Answer &answer) const {
+        if (call.entry != Entry::Step) {
+            return;
+        }
+        auto word = [&](size_t i) { return word_at(call.cursor.data() + 8 * i); };
+        uint64_t height = word(0);
+        if (height > 8) {
+            must(answer.pages == TooHigh, "a height over 8 is not named");
+            return;
+        }
+        if (memcmp(call.cursor.data() + 8, call.cursor.data() + 8 * 17, 8 * height) == 0) {
+            must(answer.number == 32, "a listing that has ended goes on");
+            return;
+        }
+        for (uint64_t level = height; level-- > 0;) {
+            uint64_t page = word(9 + level), fault = not_open(call, page, level, word(1 + level));
+            if (fault != NO_FAULT) {
+                must(answer.pages == fault && answer.detail == page, "a begin page that cannot be opened is not named");
+                return;
+            }
+        }
+    }
+
+    uint64_t not_open(const Call &call, uint64_t page, uint64_t level, uint64_t index) const {
+        if (page >= call.page_count) {
+            return Missing;
+        }
+        const uint8_t *bytes = pages_at(page, call);
+        uint64_t rule = broken(call, page);
+        return rule != NO_FAULT ? rule : level_of(bytes, call.page_size) != level ? WrongLevel
+            : index > count_of(bytes, call.page_size) ? PastCount : NO_FAULT;
+    }
+
+    uint64_t broken(const Call &call, uint64_t page) const { return broken_rule(pages_at(page, call), call.page_size, page); }
 
     const uint8_t *pages_at(uint64_t id, const Call &call) const { return pages() + id * call.page_size; }
 

@@ -22,6 +22,24 @@ void note(std::initializer_list<uint64_t> what) {
     counters[hash % COUNTERS] = 1;
 }
 
+// How often each call named each fault, told when the run ends: what was never named was never tried.
+struct Named {
+    uint64_t times[8][NothingLeft + 1] = {};
+
+    ~Named() {
+        static const std::pair<Entry, const char *> calls[] = {
+            {Entry::Start, "start"}, {Entry::Step, "step"}, {Entry::Held, "held"}, {Entry::Check, "check"}, {Entry::Named, "insert_named"}};
+        for (auto [entry, call] : calls) {
+            fprintf(stderr, "faults 1 to 14 named by %s:", call);
+            for (uint64_t fault = Level; fault <= NothingLeft; fault++) {
+                fprintf(stderr, " %llu", static_cast<unsigned long long>(times[static_cast<int>(entry)][fault]));
+            }
+            fprintf(stderr, "\n");
+        }
+    }
+};
+Named named_so_far;
+
 // Small numbers as they are, others by magnitude.
 uint64_t about(uint64_t number) {
     return number < 8 ? number : 8 + 64 - static_cast<uint64_t>(__builtin_clzll(number));
@@ -88,7 +106,8 @@ using Led = std::optional<std::vector<Datom>>;
 
 struct World {
     Script script;
-    Twice twice;
+    // The second is for the insert that names, and has the same pages.
+    Twice twice, named;
     uint64_t size, count = 0;
     size_t length;
     std::vector<uint64_t> roots;
@@ -108,6 +127,7 @@ struct World {
         held.assign(1, std::vector<Datom>());
         cursor.assign(CURSOR, 0);
         twice.store(std::vector<uint8_t>(length, 0xc3));
+        named.store(std::vector<uint8_t>(length, 0xc3));
     }
 
     Call good(Entry entry) {
@@ -118,13 +138,36 @@ struct World {
 
     Answer make(const Call &call) {
         Answer answer = twice.call(call, is_sound);
+        if (call.writes()) {
+            make_named(call, answer);
+        }
         uint64_t entry = static_cast<uint64_t>(call.entry);
         note({entry, answer.number, is_sound, call.page_size});
         note({entry, answer.number, last_number, 1});
         note({entry, answer.number, about(answer.detail), 2});
         note({entry, answer.number, about(answer.pages), about(call.batch.size() / 32), 3});
+        note_fault(call, answer);
         last_number = answer.number;
         return answer;
+    }
+
+    // An insert is made by the entry that names, too: it answers and leaves the same, but for the name. What else writes is made again.
+    void make_named(Call call, const Answer &answer) {
+        call.entry = call.entry == Entry::Insert ? Entry::Named : call.entry;
+        Answer again = named.call(call, is_sound);
+        must(again.number == answer.number && again.root == answer.root && again.detail == answer.detail,
+                "the insert that names answers otherwise");
+        must(again.pages == answer.pages || (answer.number == 7 && answer.pages == 0), "the insert that names writes other pages");
+        must(memcmp(twice.pages(), named.pages(), length) == 0, "the insert that names leaves another store");
+        note_fault(call, again);
+    }
+
+    static void note_fault(const Call &call, const Answer &answer) {
+        if (answer.is_faulty()) {
+            uint64_t entry = static_cast<uint64_t>(call.entry);
+            note({entry, answer.pages, about(answer.detail), call.page_size, 4});
+            named_so_far.times[entry][answer.pages]++;
+        }
     }
 
     // The newest root or another one, or a number that may be no root.
@@ -367,7 +410,10 @@ struct World {
         size_t room = capacity(size), page = script.bytes(2) % count, at = script.byte();
         size_t places[] = {40 * room + 8, 40 * room + 9, 32 * room + 8 * (at % (room + 1)) + at / 64, 32 * (at % room) + 23, at};
         is_sound = false;
-        twice.poke(page * size + places[script.below(5)] % size, script.byte());
+        size_t place = page * size + places[script.below(5)] % size;
+        uint8_t byte = script.byte();
+        twice.poke(place, byte);
+        named.poke(place, byte);
     }
 
     void run() {
@@ -387,7 +433,7 @@ struct World {
 }
 
 extern "C" int LLVMFuzzerTestOneInput(const uint8_t *data, size_t length) {
-    static World world{Script(nullptr, 0), {}, 256, 0, 0, {}, {}, true, 0, {}};
+    static World world{Script(nullptr, 0), {}, {}, 256, 0, 0, {}, {}, true, 0, {}};
     world.begin(data, length);
     world.run();
     return 0;

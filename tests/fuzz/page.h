@@ -51,32 +51,57 @@ inline size_t level_of(const uint8_t *page, uint64_t page_size) {
     return page[40 * capacity(page_size) + 8];
 }
 
+inline size_t count_of(const uint8_t *page, uint64_t page_size) {
+    return page[40 * capacity(page_size) + 9];
+}
+
 inline bool is_zero(const uint8_t *from, const uint8_t *to) {
     return std::all_of(from, to, [](uint8_t byte) { return byte == 0; });
 }
 
-inline bool are_children(const uint8_t *page, size_t room, size_t count, size_t level, uint64_t id) {
-    for (size_t i = 0; i <= count; i++) {
-        uint64_t child = word_at(page + 32 * room + 8 * i);
-        bool may_be_none = level == 0 || i < count;
-        if (child == NONE ? !may_be_none : level == 0 || child >= id) {
-            return false;
+inline uint64_t broken_in_datoms(const uint8_t *page, size_t count) {
+    for (size_t i = 0; i < count; i++) {
+        if (!is_storable(datom_at(page + 32 * i))) {
+            return Form;
         }
     }
-    return true;
+    for (size_t i = 1; i < count; i++) {
+        if (!is_below(datom_at(page + 32 * i - 32), datom_at(page + 32 * i))) {
+            return Order;
+        }
+    }
+    return NO_FAULT;
+}
+
+inline uint64_t broken_in_children(const uint8_t *children, size_t count, size_t level, uint64_t id) {
+    bool has_real = false, has_later = false;
+    for (size_t i = 0; i <= count; i++) {
+        uint64_t child = word_at(children + 8 * i);
+        has_real |= child != NONE;
+        has_later |= child != NONE && child >= id;
+    }
+    if (level == 0) {
+        return has_real ? LeafChild : NO_FAULT;
+    }
+    return word_at(children + 8 * count) == NONE ? LastChild : has_later ? ChildId : NO_FAULT;
+}
+
+// The first rule of document 01's "Readable" that the page with this id breaks, or none.
+inline uint64_t broken_rule(const uint8_t *page, uint64_t page_size, uint64_t id) {
+    size_t room = capacity(page_size), header = 40 * room + 8, level = page[header], count = page[header + 1];
+    if (level > 7 || count > room) {
+        return level > 7 ? Level : Count;
+    }
+    uint64_t in_datoms = broken_in_datoms(page, count);
+    return in_datoms != NO_FAULT ? in_datoms : broken_in_children(page + 32 * room, count, level, id);
 }
 
 // A page as the library writes it: readable, with zeros elsewhere.
 inline bool is_written_page(const uint8_t *page, uint64_t page_size, uint64_t id) {
-    size_t room = capacity(page_size), header = 40 * room + 8, level = page[header], count = page[header + 1];
-    if (level > 7 || count > room || !are_children(page, room, count, level, id)) {
+    if (broken_rule(page, page_size, id) != NO_FAULT) {
         return false;
     }
-    for (size_t i = 0; i < count; i++) {
-        if (!is_storable(datom_at(page + 32 * i)) || (i > 0 && !is_below(datom_at(page + 32 * i - 32), datom_at(page + 32 * i)))) {
-            return false;
-        }
-    }
+    size_t room = capacity(page_size), header = 40 * room + 8, count = page[header + 1];
     return is_zero(page + 32 * count, page + 32 * room) && is_zero(page + 32 * room + 8 * (count + 1), page + header)
         && is_zero(page + header + 2, page + page_size);
 }

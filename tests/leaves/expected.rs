@@ -2,35 +2,14 @@
 
 use std::cmp::Ordering;
 
-use harness::{capacity, compare, is_storable, Datom, Node, NONE};
+use harness::{capacity, compare, Datom, Node, NONE};
 
 use crate::probe::NOTHING;
 
 /// The first rule of "Readable" that a page breaks, numbered 1 to 7 in document 01's order, or the page's content.
 pub fn read(page: &[u8], id: u64) -> Result<Node, u64> {
-    let cap = capacity(page.len()).ok_or(NOTHING)?;
-    if page[40 * cap + 8] > 7 {
-        return Err(1);
-    }
-    let node = Node::decode(page).ok_or(2u64)?;
-    if !node.datoms.iter().all(is_storable) {
-        return Err(3);
-    }
-    if node.datoms.windows(2).any(|pair| compare(&pair[0], &pair[1]) != Ordering::Less) {
-        return Err(4);
-    }
-    let (last, real): (u64, Vec<u64>) =
-        (node.children[node.datoms.len()], node.children.iter().copied().filter(|&child| child != NONE).collect());
-    if node.level == 0 && !real.is_empty() {
-        return Err(5);
-    }
-    if node.level > 0 && last == NONE {
-        return Err(6);
-    }
-    if real.iter().any(|&child| child >= id) {
-        return Err(7);
-    }
-    Ok(node)
+    capacity(page.len()).ok_or(NOTHING)?;
+    Node::read(page, id).map_err(|rule| rule as u64)
 }
 
 pub fn first_not_below(datoms: &[Datom], sought: &Datom) -> u64 {

@@ -58,8 +58,9 @@ fn recorded_pages(mut file: &[u8]) -> Vec<(u64, Vec<u8>)> {
                 }
                 count += written.count;
             }
-            Record::Poke { page, bytes } => pages.push((page, bytes)),
-            Record::List { .. } | Record::Check { .. } | Record::End { .. } => {}
+            Record::Poke { page, bytes } if expected::read(&bytes, page).is_ok() => pages.push((page, bytes)),
+            // Damage is done to pages that can be read.
+            Record::Poke { .. } | Record::List { .. } | Record::Check { .. } | Record::Named { .. } | Record::End { .. } => {}
         }
     }
     pages

@@ -1,6 +1,6 @@
 #!/usr/bin/env bash
 # Makes the recorded answers anew, compares them byte for byte with those in the repository, and
-# replays them on both oracles. Needs build.sh to have run.
+# replays them on both oracles, those with names of faults on the model. Needs build.sh to have run.
 set -euo pipefail
 
 here=$(cd "$(dirname "${BASH_SOURCE[0]}")" && pwd)
@@ -17,4 +17,4 @@ source "$here/../needs.sh"
 "$oracle" record "$anew"
 cmp "$anew" "$recorded"
 "$oracle" replay "$recorded"
-echo "the recorded answers are the oracle's"
+echo "the recorded answers are the oracle's, and the names the model's"

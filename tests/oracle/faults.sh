@@ -1,28 +1,45 @@
 #!/usr/bin/env bash
-# Tests the recorded answers: builds the patched oracle with one fault at a time from faults.txt and
-# requires that the replay refuses it. Needs build.sh to have run; takes some minutes.
+# Tests the recorded answers: builds the patched oracle, or the model that names faults, with one fault at a time from faults.txt
+# and requires that the replay refuses it. Needs build.sh to have run; takes some minutes.
 set -euo pipefail
 
 here=$(cd "$(dirname "${BASH_SOURCE[0]}")" && pwd)
 repo=$(cd "$here/../.." && pwd)
 sound=$repo/build/oracle
 out=$repo/build/oracle-faults
-flags=(-C opt-level=1 -C debug-assertions=on -C overflow-checks=on -C codegen-units=1)
+flags=(-C opt-level=0 -C debug-assertions=on -C overflow-checks=on -C codegen-units=1)
 # shellcheck source=steps.sh
 source "$here/steps.sh"
 
 need_rustc
 [ -x "$sound/oracle" ] || lacks "no $sound/oracle: tests/oracle/build.sh makes it"
 
+# The file of a fault, in its copy.
+file_of() {
+    case $1 in
+        node) echo "$out/harness/node.rs" ;;
+        model | names) echo "$out/tests/differential/$1.rs" ;;
+        judge) echo "$out/tests/oracle/driver/judge.rs" ;;
+        *) rust_file "$1" ;;
+    esac
+}
+
 refused=0 missed=0
 while IFS='|' read -r file name script; do
     rm -rf "$out"
-    mkdir -p "$out"
-    cp -r "$sound/source" "$sound/libnoblit_plain.rlib" "$here/harness" "$out/"
-    put_fault "$(rust_file "$file")" "$script" "$file"
-    build_noblit patched
-    build_harness "$out/harness"
-    build_driver
+    mkdir -p "$out/tests/oracle"
+    cp -r "$sound/source" "$sound"/*.rlib "$here/harness" "$out/"
+    # The driver takes the model from the directory beside its own.
+    cp -r "$here/driver" "$out/tests/oracle/"
+    cp -r "$here/../differential" "$out/tests/"
+    put_fault "$(file_of "$file")" "$script" "$file"
+    case $file in
+        htree)
+            build_noblit patched
+            build_harness "$out/harness" ;;
+        datom | node) build_harness "$out/harness" ;;
+    esac
+    here=$out/tests/oracle build_driver
     if "$out/oracle" replay "$repo/crates/replay/stdin" > "$out/replay" 2>&1; then
         missed=$((missed + 1))
         echo "MISSED   $name"

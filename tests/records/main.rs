@@ -11,7 +11,7 @@ mod recording;
 use std::{env, fs, process};
 
 use entries::{insert, Given};
-use harness::{Datom, Random, MAX_VALUE, NONE};
+use harness::{capacity, Datom, Random, MAX_VALUE, NONE};
 use library::{bytes_of, call, scratch_need, Answer, Call, Entry, Lent};
 use recording::{Record, Written};
 
@@ -34,7 +34,7 @@ fn main() {
         }
     }
     println!("calls by the number that they gave: {:?}", tally.numbers);
-    for number in [0, 1, 2, 3, 4, 5, 6, 9] {
+    for number in [0, 1, 2, 3, 4, 5, 6, 7, 9] {
         if tally.numbers[number] == 0 {
             tally.fail(format!("no call gave {}", number));
         }
@@ -95,6 +95,7 @@ impl History {
         match record {
             Record::Insert { root, batch, written, .. } => {
                 self.refusals(*root, batch, tally, random);
+                tally.count(self.damaged(*root, batch, random));
                 tally.count(self.insert(*root, batch, written, random));
                 self.count += written.count;
             }
@@ -113,7 +114,7 @@ impl History {
                 self.by_bytes[at..at + bytes.len()].copy_from_slice(bytes);
                 self.by_records[at..at + bytes.len()].copy_from_slice(bytes);
             }
-            Record::Begin { .. } | Record::List { .. } | Record::Check { .. } | Record::End { .. } => {}
+            Record::Begin { .. } | Record::List { .. } | Record::Check { .. } | Record::Named { .. } | Record::End { .. } => {}
         }
     }
 
@@ -136,6 +137,17 @@ impl History {
             let mut by_records = by_bytes.clone();
             tally.count(insert(&given, &mut by_bytes, &mut by_records, &mut self.scratch, random));
         }
+    }
+
+    /// On copies in which the root's level is 8: the four words of Damaged, with no name.
+    fn damaged(&mut self, root: u64, batch: &[Datom], random: &mut Random) -> Result<Answer, String> {
+        let header = 40 * capacity(self.page_size as usize).expect("a known page size") + 8;
+        let mut by_bytes = self.by_bytes[..((self.count + 1) * self.page_size) as usize].to_vec();
+        by_bytes[(root * self.page_size) as usize + header] = 8;
+        let mut by_records = by_bytes.clone();
+        let answer = insert(&self.given(root, batch), &mut by_bytes, &mut by_records, &mut self.scratch, random)?;
+        let expected = Entry::Insert(root).refused(7, root);
+        if answer == expected { Ok(answer) } else { Err(format!("{:?} and not {:?}", answer, expected)) }
     }
 
     /// Each with the length of the store that is lent.

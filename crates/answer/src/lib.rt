@@ -2,6 +2,7 @@
 use datom::Datom;
 use store::PageId;
 ghost use mathlib.Core.Path.{_≡_};
+ghost use Rattle.answer.specs.Names.{ruleNumber, faultNumber, faultIn};
 ghost use Rattle.answer.specs.Table.{numberOf, detailOf};
 
 // The rule of a readable page that is broken first, in the order in which they are tested.
@@ -15,11 +16,50 @@ pub enum Rule {
     ChildId,
 }
 
-// What is wrong with a page that is read.
+impl Rule {
+    pub fn number(self) -> u64
+        ensures { λ r. ⌜ r ≡ ruleNumber self ⌝ }
+    {
+        match self {
+            Rule::Level => 1,
+            Rule::Count => 2,
+            Rule::Form => 3,
+            Rule::Order => 4,
+            Rule::LeafChild => 5,
+            Rule::LastChild => 6,
+            Rule::ChildId => 7,
+        }
+    }
+}
+
+// What is wrong where a call is Damaged or a tree Unsound: the reader's own answer, or the name of the test that the page or the cursor
+// fails. The page is none for a cursor that is too high and for one under which nothing is left.
 pub enum Fault {
-    Missing,
     Breaks(Rule),
+    Missing,
     WrongLevel,
+    EqualDatoms,
+    OutOfBounds,
+    PastCount,
+    TooHigh,
+    NothingLeft,
+}
+
+impl Fault {
+    pub fn number(self) -> u64
+        ensures { λ r. ⌜ r ≡ faultNumber self ⌝ }
+    {
+        match self {
+            Fault::Breaks(rule) => rule.number(),
+            Fault::Missing => 8,
+            Fault::WrongLevel => 9,
+            Fault::EqualDatoms => 10,
+            Fault::OutOfBounds => 11,
+            Fault::PastCount => 12,
+            Fault::TooHigh => 13,
+            Fault::NothingLeft => 14,
+        }
+    }
 }
 
 // Why a call is refused, with the batch index or the page that it names.
@@ -30,7 +70,7 @@ pub enum Refusal {
     OutOfOrder(usize),
     NoPage,
     Repeated(usize),
-    Damaged(PageId),
+    Damaged(PageId, Fault),
     TooTall,
     NoRoom,
     BadBound,
@@ -48,7 +88,7 @@ impl Refusal {
             Refusal::OutOfOrder(_) => 4,
             Refusal::NoPage => 5,
             Refusal::Repeated(_) => 6,
-            Refusal::Damaged(_) => 7,
+            Refusal::Damaged(_, _) => 7,
             Refusal::TooTall => 8,
             Refusal::NoRoom => 9,
             Refusal::BadBound => 10,
@@ -65,13 +105,32 @@ impl Refusal {
             Refusal::OutOfOrder(i) => i as u64,
             Refusal::Repeated(i) => i as u64,
             Refusal::NotHeld(i) => i as u64,
-            Refusal::Damaged(p) => p.0,
+            Refusal::Damaged(p, _) => p.0,
             Refusal::BadStore => 0,
             Refusal::TooMany => 0,
             Refusal::NoPage => 0,
             Refusal::TooTall => 0,
             Refusal::NoRoom => 0,
             Refusal::BadBound => 0,
+        }
+    }
+
+    // The number of the fault that it names, 0 where it names none.
+    pub fn fault(self) -> u64
+        ensures { λ r. ⌜ r ≡ faultIn self ⌝ }
+    {
+        match self {
+            Refusal::Damaged(_, fault) => fault.number(),
+            Refusal::BadStore => 0,
+            Refusal::TooMany => 0,
+            Refusal::BadDatom(_) => 0,
+            Refusal::OutOfOrder(_) => 0,
+            Refusal::NoPage => 0,
+            Refusal::Repeated(_) => 0,
+            Refusal::TooTall => 0,
+            Refusal::NoRoom => 0,
+            Refusal::BadBound => 0,
+            Refusal::NotHeld(_) => 0,
         }
     }
 }
@@ -135,6 +194,6 @@ pub struct Stepped {
 // Of the check.
 pub enum Check {
     Sound,
-    Unsound(PageId),
+    Unsound(PageId, Fault),
     Refused(Refusal),
 }

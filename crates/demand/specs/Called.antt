@@ -2,7 +2,7 @@
 use Prim.Native.Nat.{ℕ, _+_, _*_, _^_, _≤_, _<_}
 use native.Mathlib.Nat.{add-zero, mul-le-mul-left}
 use native.Mathlib.Omega.{arith}
-use mathlib.Core.Bool.{Bool, true, false}
+use mathlib.Core.Bool.{Bool, true, false, cond}
 use mathlib.Core.List.{List, _∷_}
 use mathlib.Core.Logic.{inl}
 use mathlib.Core.Path.{_≡_, refl, _∙_, ap}
@@ -19,9 +19,11 @@ use Rattle.answer.specs.declared.Refusal.{Refusal}
 use Rattle.answer.specs.declared.Refusal.the-variants.{BadStore, TooMany, BadDatom, OutOfOrder, NoPage, Repeated, Damaged, TooTall, NoRoom, BadBound, NotHeld}
 use Rattle.answer.specs.declared.Answer.{Answer}
 use Rattle.answer.specs.declared.Answer.the-variants.{Done, Refused}
-use Rattle.answer.specs.Table.{numberOf, answerWords}
+use Rattle.answer.specs.Names.{faultIn}
+use Rattle.answer.specs.Named.{unnamed-words}
+use Rattle.answer.specs.Table.{Words, numberOf, answerWords, namedAnswer}
 use Rattle.rules.specs.Store.{badRoot, envOf, storeAfter}
-use Rattle.rules.specs.Entry.{wordBytes, reply, insertReply, initialiseReply}
+use Rattle.rules.specs.Entry.{wordBytes, reply, replyIn, insertReply, insertNamedReply, initialiseReply}
 use Rattle.rules.specs.Lists.{In}
 use Rattle.rules.specs.Within.{Writes, insert-bytes-writes, initialise-bytes-writes, written-fits}
 use Rattle.memory_store.specs.FetchLaws.{InOrder, in-order}
@@ -32,7 +34,7 @@ use Rattle.history.specs.Listing.{later-later}
 use Rattle.history.specs.Demand.{later-known}
 use Rattle.history.specs.Base.{sizes, base-beyond}
 use Rattle.demand.specs.Area.{root-word, pages-word}
-use Rattle.demand.specs.Caller.{replyTo, goesOn, CallerMove, ran, others}
+use Rattle.demand.specs.Caller.{replyTo, Wrote, plainly, named, goesOn, CallerMove, ran, others}
 use Rattle.demand.specs.Runs.{Runs, start, then}
 
 -- a root is none or a page below the count, so 64 bits hold it
@@ -55,18 +57,40 @@ pub writes : (m : Moment) (c : Call) → Writes (envOf eavt (m .extent) (m .stor
 writes m (inserts k b scratch) = insert-bytes-writes eavt (m .extent) (m .store) scratch (k .root) b
 writes m (initialises b scratch) = initialise-bytes-writes eavt (m .extent) (m .store) scratch b
 
--- by the answer's own words
+-- the number of the fault that an answer names, 0 where it names none
+abbrev pub faultOf : Answer → ℕ
+faultOf (Done root n) = 0
+faultOf (Refused r) = faultIn r
+
+-- by the answer's own words; where it names a fault, the third may tell it
 pub record AnswerLeft (m : Moment) (c : Call) (r : ℕ) (s a₁ : List ℕ) : Type 0 where
   pub returns : r ≡ answerWords (givenRoot c .root) (outcomeOf eavt m c .answer) .number
   pub store : s ≡ storeAfter (m .extent) (m .store) (outcomeOf eavt m c .pages)
-  pub area : a₁ ≡ wordBytes (answerWords (givenRoot c .root) (outcomeOf eavt m c .answer))
+  pub area : faultOf (outcomeOf eavt m c .answer) ≡ 0 → a₁ ≡ wordBytes (answerWords (givenRoot c .root) (outcomeOf eavt m c .answer))
 
-pub left-by : (m : Moment) (c : Call) (r : ℕ) (s a a₁ : List ℕ) → length a ≡ 32 → Replied r s a₁ (replyTo m c a) → AnswerLeft m c r s a₁
-unfolding reply
-left-by m c r s a a₁ h R =
+-- both tellings of an answer: one number, and the same words where no fault is named
+named-number : (root : PageId) (a : Answer) → namedAnswer root a .number ≡ answerWords root a .number
+named-number root (Done r n) = refl
+named-number root (Refused r) = refl
+
+named-words : (root : PageId) (a : Answer) → faultOf a ≡ 0 → namedAnswer root a ≡ answerWords root a
+named-words root (Done r n) e = refl
+named-words root (Refused r) e = unnamed-words (root .0) r e
+
+pub left-by : (m : Moment) (c : Call) (r : ℕ) (s a a₁ : List ℕ) → length a ≡ 32 → Wrote m r s a a₁ c → AnswerLeft m c r s a₁
+unfolding replyIn insertNamedReply
+left-by m c r s a a₁ h (plainly R) =
     let Q : Replied r s a₁ (reply (m .extent) (m .store) a (givenRoot c .root) (outcomeOf eavt m c)) = rw (reply-is m c a) at R in
     let k = eq-eqb (length a) 32 h in
-    record { returns = rw k at (Q .returns); store = rw k at (Q .store); area = rw k at (Q .area) }
+    record { returns = rw k at (Q .returns); store = rw k at (Q .store); area = λ e. rw k at (Q .area) }
+left-by m (inserts root b scratch) r s a a₁ h (named Q) =
+    let k = eq-eqb (length a) 32 h in
+    let told = outcomeOf eavt m (inserts root b scratch) .answer in
+    record {
+      returns = (rw k at (Q .returns)) ∙ named-number (root .root) told;
+      store = rw k at (Q .store);
+      area = λ e. (rw k at (Q .area)) ∙ ap wordBytes (named-words (root .root) told e);
+    }
 
 -- the same count, bytes and roots: the same moment
 moment-same :
@@ -83,7 +107,7 @@ refused-number (BadDatom i) e = omega arith
 refused-number (OutOfOrder i) e = omega arith
 refused-number NoPage e = omega arith
 refused-number (Repeated i) e = omega arith
-refused-number (Damaged p) e = omega arith
+refused-number (Damaged p f) e = omega arith
 refused-number TooTall e = omega arith
 refused-number NoRoom e = omega arith
 refused-number BadBound e = omega arith
@@ -120,18 +144,16 @@ module _ (size : ℕ) (known : In size sizes) where
             let small = done-small root n e in
             let words = answerWords (givenRoot c .root) (Done root n) in
             let number : r ≡ 0 = rw e at (L .returns) in
-            let area : a ≡ wordBytes words = rw e at (L .area) in
+            let area : a ≡ wordBytes words = (rw e at (L .area)) refl in
             let top : wordAt a 8 ≡ root .0 = rw area (root-word words (small .0)) in
             let pages : wordAt a 16 ≡ n = rw area (pages-word words (small .1)) in
-            rw e (moment-same (ap (λ (k : ℕ). m .extent .count + k) pages) (L .store) (rw (number, top)))
+            let grows : cond (eqb r 0) (wordAt a 16) 0 ≡ n = rw (number, pages) in
+            rw e (moment-same (ap (λ (k : ℕ). m .extent .count + k) grows) (L .store) (rw (number, top)))
         side (Refused q) e =
-            let words = answerWords (givenRoot c .root) (Refused q) in
             let number : r ≡ numberOf q = rw e at (L .returns) in
-            let area : a ≡ wordBytes words = rw e at (L .area) in
-            let pages : wordAt a 16 ≡ 0 = rw area (pages-word words (omega arith)) in
-            rw e
-            (moment-same (ap (λ (k : ℕ). m .extent .count + k) pages ∙ add-zero (m .extent .count)) (L .store)
-            (rw (number, ne-eqb (numberOf q) 0 (refused-number q))))
+            let other : eqb r 0 ≡ false = rw (number, ne-eqb (numberOf q) 0 (refused-number q)) in
+            let stays : cond (eqb r 0) (wordAt a 16) 0 ≡ 0 = rw other in
+            rw e (moment-same (ap (λ (k : ℕ). m .extent .count + k) stays ∙ add-zero (m .extent .count)) (L .store) (rw other))
 
   -- so a run of a C program is a history
   pub runs-on : {m m₁ : Moment} → History eavt size m → Runs CallerMove m m₁ → Later eavt m m₁

@@ -18,7 +18,7 @@ use Rattle.rules.specs.Store.{badScratch}
 use Rattle.rules.specs.Insert.{batchOf}
 use Rattle.rules.specs.Check.{checkTree}
 use Rattle.rules.specs.Held.{heldBytes}
-use Rattle.rules.specs.Entry.{Reply, insertReply, initialiseReply}
+use Rattle.rules.specs.Entry.{Reply, insertReply, insertNamedReply, initialiseReply}
 use Rattle.rules.specs.Lists.{In}
 use Rattle.florinwick.specs.Words.{Replied, AreaReplied}
 use Rattle.florinwick.specs.Listing.{startIn, stepIn, Begins, Steps}
@@ -32,12 +32,20 @@ abbrev pub replyTo : Moment → Call → List ℕ → Reply
 replyTo m (inserts k b scratch) a = insertReply eavt (m .extent) (m .store) scratch (k .root) b a
 replyTo m (initialises b scratch) a = initialiseReply eavt (m .extent) (m .store) scratch b a
 
--- how the caller goes on, by the number that was returned and the words in the area: the page count grows by word 2, and after 0 word 1 is
+-- a call that may write, by the promise of its C entry: it returned r, left the bytes s, and in the area a for its answer a₁.
+-- `florinwick_insert_named` is the same insert, told with the fault
+pub data Wrote (m : Moment) (r : ℕ) (s a a₁ : List ℕ) : Call → Type 0 where
+  plainly : {c : Call} → Replied r s a₁ (replyTo m c a) → Wrote m r s a a₁ c
+  named :
+      {k : Known} {b : List ℕ} {scratch : ℕ} → Replied r s a₁ (insertNamedReply eavt (m .extent) (m .store) scratch (k .root) b a) →
+      Wrote m r s a a₁ (inserts k b scratch)
+
+-- how the caller goes on, by the number that was returned and the words in the area: after 0 the page count grows by word 2, and word 1 is
 -- a root that may be used
 abbrev pub goesOn : Moment → Call → ℕ → List ℕ → List ℕ → Moment
 goesOn m c r s a =
     record {
-      extent = record { size = m .extent .size; count = m .extent .count + wordAt a 16 };
+      extent = record { size = m .extent .size; count = m .extent .count + cond (eqb r 0) (wordAt a 16) 0 };
       store = s;
       roots = cond (eqb r 0) (record { root = page (wordAt a 8); batches = givenBatch c ∷ givenRoot c .batches } ∷ m .roots) (m .roots);
     }
@@ -46,7 +54,7 @@ goesOn m c r s a =
 -- else, at or past the count
 pub data CallerMove (m : Moment) : Moment → Type 0 where
   ran :
-      (c : Call) → Fair m c → (r : ℕ) (s a a₁ : List ℕ) → length a ≡ 32 → Replied r s a₁ (replyTo m c a) → CallerMove m (goesOn m c r s a₁)
+      (c : Call) → Fair m c → (r : ℕ) (s a a₁ : List ℕ) → length a ≡ 32 → Wrote m r s a a₁ c → CallerMove m (goesOn m c r s a₁)
   others : (s : List ℕ) → SameBelow m s → CallerMove m (record { extent = m .extent; store = s; roots = m .roots })
 
 -- what the caller has after a step: the number returned, the bytes of its cursor and those of its datom area
@@ -97,12 +105,12 @@ pub record CallerPromise (m : Moment) (k : Known) : Type 0 where
   -- "Repeated" is 6
   pub answered :
       (b : List ℕ) → Lent (m .store) b → WellFormed eavt b → (scratch : ℕ) → badScratch (m .extent) scratch ≡ false →
-      (r : ℕ) (s a a₁ : List ℕ) → length a ≡ 32 → Replied r s a₁ (replyTo m (inserts k b scratch) a) →
+      (r : ℕ) (s a a₁ : List ℕ) → length a ≡ 32 → Wrote m r s a a₁ (inserts k b scratch) →
       (r ≡ 6) ↔ ((d : Datom) × In d (batchOf b) × In d (gathered (k .batches)))
   -- "the answer is Repeated with the first such place, and nothing is written": word 3 is its index in the batch
   pub receipt :
       (b : List ℕ) → Lent (m .store) b → WellFormed eavt b → (scratch : ℕ) → badScratch (m .extent) scratch ≡ false →
-      (r : ℕ) (s a a₁ : List ℕ) → length a ≡ 32 → Replied r s a₁ (replyTo m (inserts k b scratch) a) → r ≡ 6 →
+      (r : ℕ) (s a a₁ : List ℕ) → length a ≡ 32 → Wrote m r s a a₁ (inserts k b scratch) → r ≡ 6 →
       FirstShared (eavt .cmp) (gathered (k .batches)) (batchOf b) (wordAt a₁ 24) × (s ≡ m .store)
   -- held exactly if every datom is among those that led to the root: 0, and else NotHeld, 16, with the first that is not in word 3
   pub asked :

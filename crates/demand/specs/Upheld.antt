@@ -53,7 +53,7 @@ six-refused (BadDatom i) e = absurd (omega arith)
 six-refused (OutOfOrder i) e = absurd (omega arith)
 six-refused NoPage e = absurd (omega arith)
 six-refused (Repeated i) e = (i, refl)
-six-refused (Damaged p) e = absurd (omega arith)
+six-refused (Damaged p f) e = absurd (omega arith)
 six-refused TooTall e = absurd (omega arith)
 six-refused NoRoom e = absurd (omega arith)
 six-refused BadBound e = absurd (omega arith)
@@ -123,7 +123,7 @@ module _
         let F = base-beyond size i m h k j .answered b lent w scratch enough .first (z .0) (z .1) in
         let words = answerWords (k .root) (Refused (Repeated (z .0))) in
         let short : z .0 < 128 = omega (arith, F .index, length-append (F .before) (F .datom ∷ F .rest), ap length (F .batch), w .few) in
-        let area : a ≡ wordBytes words = rw (z .1) at (L .area) in (
+        let area : a ≡ wordBytes words = (rw (z .1) at (L .area)) refl in (
           rw (area, detail-word words (omega arith)) F,
           L .store ∙ early-unchanged eavt (m .extent) (m .store) _ (writes m (inserts k b scratch)) (Repeated (z .0)) (z .1) (λ late. omega (arith, late .0)),
         )

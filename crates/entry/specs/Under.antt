@@ -20,7 +20,7 @@ module _ (t : DatomOrd) (x : Extent) (s : List ℕ) (root : PageId) (ds : List D
   abbrev inserted : Outcome
   inserted = insertAt (envOf t x s) root ds (fetchPage t x s root)
 
-  pub at-bad : (f : Fault) → fetchPage t x s root ≡ faulty f → inserted ≡ refuse (Damaged root)
+  pub at-bad : (f : Fault) → fetchPage t x s root ≡ faulty f → inserted ≡ refuse (Damaged root f)
   unfolding insertAt
   at-bad f e = rw e
 

@@ -51,12 +51,16 @@ fn insert_at(
     requires { ⌜ Passed extent (now store) c (now b) n (length (now s)) × (rising (eavt .cmp) (datomsOf n (now b)) ≡ true) ⌝ }
     ensures { λ r. ⌜ Replies extent (now (store .entry)) (now (store .exit)) r (insertAt (envOf eavt extent (now (store .entry))) root (datomsOf n (now (b .entry))) (fetchPage eavt extent (now (store .entry)) root)) ⌝ }
 {
-    let Found::Fine { level, count } = memory_store::found::node_at(store, extent, c, root) else {
-        return Answer::Refused(Refusal::Damaged(root));
-    };
-    match lookup::lookup_all(store, extent, c, root, level, count, b, n) {
-        Finding::Found(refusal) => Answer::Refused(refusal),
-        Finding::Clear => answer_of(write::under(store, extent, c, root, level, count, b, n, s)),
+    match memory_store::found::node_at(store, extent, c, root) {
+        Found::Faulty(fault) => Answer::Refused(Refusal::Damaged(root, fault)),
+        Found::Fine { level, count } => {
+            match lookup::lookup_all(store, extent, c, root, level, count, b, n) {
+                Finding::Found(refusal) => Answer::Refused(refusal),
+                Finding::Clear => {
+                    answer_of(write::under(store, extent, c, root, level, count, b, n, s))
+                }
+            }
+        }
     }
 }
 

@@ -85,9 +85,11 @@ pub fn older() {
 pub fn checked(check: Check) {
     match check {
         Check::Sound => words(b"  the check: Sound\n"),
-        Check::Unsound(page) => {
+        Check::Unsound(page, fault) => {
             words(b"  the check: Unsound, page ");
             number(page.0);
+            words(b", fault ");
+            number(fault.number());
             words(b"\n");
         }
         Check::Refused(refusal) => refused(refusal),

@@ -12,9 +12,9 @@ use Rattle.store.specs.declared.Extent.{Extent}
 use Rattle.store.specs.Words.{bytesOf, spread, patch}
 use Rattle.store.specs.Size.{capacity, scratchNeed}
 use Rattle.answer.specs.declared.Answer.{Answer}
-use Rattle.answer.specs.Table.{Words, answerWords}
+use Rattle.answer.specs.Table.{Words}
 use Rattle.rules.specs.Insert.{Outcome}
-use Rattle.rules.specs.Entry.{wordBytes, Reply, reply}
+use Rattle.rules.specs.Entry.{wordBytes, Reply, replyIn}
 use Rattle.store.specs.Cells.{patch-patch}
 use Rattle.entry.specs.Reply.{Replies}
 use Rattle.records.specs.Laid.{four-words}
@@ -69,20 +69,20 @@ unfolding wordBytes spread bytesOf
 words-put a full p q r t = record { bytes = four-words a 0 p q r t (omega arith) ∙ filled a _ full ∙ rw append-nil }
 
 -- "An area not 32 bytes long is 1 before all else and stays unchanged."
-pub no-area : (x : Extent) (s a : List ℕ) (root : PageId) (o : Outcome) → (length a ≡ 32 → ⊥) → Replied 1 s a (reply x s a root o)
-unfolding reply
-no-area x s a root o h = rw (ne-eqb (length a) 32 h) (record { returns = refl; store = refl; area = refl })
+pub no-area : (w : Answer → Words) (x : Extent) (s a : List ℕ) (o : Outcome) → (length a ≡ 32 → ⊥) → Replied 1 s a (replyIn w x s a o)
+unfolding replyIn
+no-area w x s a o h = rw (ne-eqb (length a) 32 h) (record { returns = refl; store = refl; area = refl })
 
 pub told-reply :
-    (x : Extent) (s s₁ a a₁ : List ℕ) (root : PageId) (o : Outcome) (r : Answer) (v : ℕ) → length a ≡ 32 → Replies x s s₁ r o → v ≡ answerWords root r .number →
-    WordsIn (answerWords root r) a₁ → Replied v s₁ a₁ (reply x s a root o)
-unfolding reply
-told-reply x s s₁ a a₁ root o r v h R e T =
+    (w : Answer → Words) (x : Extent) (s s₁ a a₁ : List ℕ) (o : Outcome) (r : Answer) (v : ℕ) → length a ≡ 32 → Replies x s s₁ r o →
+    v ≡ w r .number → WordsIn (w r) a₁ → Replied v s₁ a₁ (replyIn w x s a o)
+unfolding replyIn
+told-reply w x s s₁ a a₁ o r v h R e T =
     rw (eq-eqb (length a) 32 h)
     (record {
-      returns = e ∙ ap (λ (z : Answer). answerWords root z .number) (R .answer);
+      returns = e ∙ ap (λ (z : Answer). w z .number) (R .answer);
       store = R .store;
-      area = T .bytes ∙ ap (λ (z : Answer). wordBytes (answerWords root z)) (R .answer);
+      area = T .bytes ∙ ap (λ (z : Answer). wordBytes (w z)) (R .answer);
     })
 
 -- what a call that changes no store returned and left in its answer area

@@ -1,6 +1,7 @@
 // The library as a C or C++ program calls it: numbers and byte slices, and an area of 32 bytes for the answer's four words.
 pub mod cursor;
 pub mod list;
+pub mod named;
 pub mod record;
 pub mod words;
 
@@ -92,15 +93,12 @@ pub extern "C" fn florinwick_fetch(
     }
     let extent = Extent { size, count };
     match memory_store::fetch_refusal(store, extent, PageId(id)) {
-        Fetch::Given => {
-            words::put_words(area, 0, 0, 0, 0);
-            0
-        }
+        Fetch::Given => words::plain(area, 0),
         Fetch::Refused(refusal) => words::refuse(area, 0, refusal),
     }
 }
 
-// Whether the tree under a root is sound: 0, or 33 with the page of the first fault.
+// Whether the tree under a root is sound: 0, or 33 with the first fault and its page.
 #[no_mangle]
 pub extern "C" fn florinwick_check(
     store: &[u8],
@@ -116,12 +114,9 @@ pub extern "C" fn florinwick_check(
     }
     let extent = Extent { size, count };
     match invariants::check(store, extent, PageId(root)) {
-        Check::Sound => {
-            words::put_words(area, 0, 0, 0, 0);
-            0
-        }
-        Check::Unsound(fault) => {
-            words::put_words(area, UNSOUND, 0, 0, fault.0);
+        Check::Sound => words::plain(area, 0),
+        Check::Unsound(page, fault) => {
+            words::put_words(area, UNSOUND, 0, fault.number(), page.0);
             UNSOUND
         }
         Check::Refused(refusal) => words::refuse(area, root, refusal),
@@ -145,10 +140,7 @@ pub extern "C" fn florinwick_held(
     }
     let extent = Extent { size, count };
     match held::held(store, extent, PageId(root), batch) {
-        Held::All => {
-            words::put_words(area, 0, 0, 0, 0);
-            0
-        }
-        Held::Refused(refusal) => words::refuse(area, root, refusal),
+        Held::All => words::plain(area, 0),
+        Held::Refused(refusal) => words::refuse_named(area, root, refusal),
     }
 }

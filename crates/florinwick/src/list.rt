@@ -44,10 +44,9 @@ fn keep_start(cursor: &mut [u8], area: &mut [u8], root: u64, started: Started) -
     match answer {
         Start::Begun => {
             cursor::put_cursor(cursor, begun);
-            words::put_words(area, 0, 0, 0, 0);
-            0
+            words::plain(area, 0)
         }
-        Start::Refused(refusal) => words::refuse(area, root, refusal),
+        Start::Refused(refusal) => words::refuse_named(area, root, refusal),
     }
 }
 
@@ -93,14 +92,10 @@ fn keep_step(cursor: &mut [u8], datom: &mut [u8], area: &mut [u8], stepped: Step
                 d.value.0,
                 d.transaction_operation.0,
             );
-            words::put_words(area, 0, 0, 0, 0);
-            0
+            words::plain(area, 0)
         }
-        Step::Ended => {
-            words::put_words(area, 32, 0, 0, 0);
-            32
-        }
-        Step::Refused(refusal) => words::refuse(area, 0, refusal),
+        Step::Ended => words::plain(area, 32),
+        Step::Refused(refusal) => words::refuse_named(area, 0, refusal),
     }
 }
 

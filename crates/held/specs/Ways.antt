@@ -76,7 +76,7 @@ module _ (t : DatomOrd) (x : Extent) (s : List ℕ) (root : PageId) where
       counted-on h = rw (counted-is, ← free, h)
 
     -- a page that is unreadable, or of level l and k datoms
-    pub at-bad : (f : Fault) → fetchPage t x s root ≡ faulty f → found (Damaged root) ≡ heldAt (envOf t x s) root ds (fetchPage t x s root)
+    pub at-bad : (f : Fault) → fetchPage t x s root ≡ faulty f → found (Damaged root f) ≡ heldAt (envOf t x s) root ds (fetchPage t x s root)
     unfolding heldAt
     at-bad f e = rw e
 

@@ -34,10 +34,12 @@ fn held_at(store: &[u8], extent: Extent, c: usize, root: PageId, b: &[u8], n: us
     requires { ⌜ (badStore extent (now store) ≡ false) × (c ≡ capacity (extent .size)) × (32 * n ≤ length (now b)) ⌝ }
     ensures { λ r. ⌜ findingOf r ≡ heldAt (envOf eavt extent (now (store .entry))) root (datomsOf n (now (b .entry))) (fetchPage eavt extent (now (store .entry)) root) ⌝ }
 {
-    let Found::Fine { level, count } = memory_store::found::node_at(store, extent, c, root) else {
-        return Finding::Found(Refusal::Damaged(root));
-    };
-    lookup::held_all(store, extent, c, root, level, count, b, n)
+    match memory_store::found::node_at(store, extent, c, root) {
+        Found::Faulty(fault) => Finding::Found(Refusal::Damaged(root, fault)),
+        Found::Fine { level, count } => {
+            lookup::held_all(store, extent, c, root, level, count, b, n)
+        }
+    }
 }
 
 // Refusals 16 and 7. No page is read for an empty batch, and none at root "none".

@@ -14,6 +14,7 @@ use Rattle.store.specs.Laws.{Known, cells-length}
 use Rattle.datom.specs.Datom.{datomOf, datomsOf}
 use Rattle.index.specs.Order.{DatomOrd}
 use Rattle.answer.specs.declared.Refusal.{Refusal}
+use Rattle.answer.specs.declared.Fault.{Fault}
 use Rattle.answer.specs.declared.Refusal.the-variants.{Damaged}
 use Rattle.rules.specs.Page.{Node, nodeOf, childrenOf, childAt}
 use Rattle.rules.specs.Node.{anyPending}
@@ -193,8 +194,10 @@ module _ (t : DatomOrd) (x : Extent) (s : List ℕ) (c w l : ℕ) (p : PageId) (
   abbrev inserts : List Node → Stage Node
   inserts o = insertInto (envOf t x s) l p (batchAt m n a) o
 
-  pub insert-bad : Ready x s c w → Loads t x s l p a m n a₁ loaded.Damaged → (a₂ : List ℕ) → Tells x s s m a₂ w (inserted.Failed (Damaged p) w) inserts
-  insert-bad R L a₂ o e = rw (← e) (tell-stopped (insert-damaged t x s l p a m n a₁ o L (rw e (R .room))))
+  pub insert-bad :
+      Ready x s c w → (f : Fault) → Loads t x s l p a m n a₁ (loaded.Faulty f) → (a₂ : List ℕ) →
+      Tells x s s m a₂ w (inserted.Failed (Damaged p f) w) inserts
+  insert-bad R f L a₂ o e = rw (← e) (tell-stopped (insert-damaged t x s l p a m n a₁ o f L (rw e (R .room))))
 
   module _ {k : ℕ} (L : Loads t x s l p a m n a₁ (loaded.Node k)) where
     pub loads-few : k ≤ capacity (x .size) + n

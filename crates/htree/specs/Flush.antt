@@ -18,6 +18,7 @@ use Rattle.datom.specs.declared.Datom.{Datom}
 use Rattle.datom.specs.Datom.{datomOf, datomsOf}
 use Rattle.index.specs.Order.{DatomOrd}
 use Rattle.answer.specs.declared.Refusal.{Refusal}
+use Rattle.answer.specs.declared.Fault.{Fault}
 use Rattle.answer.specs.declared.Refusal.the-variants.{Damaged}
 use Rattle.rules.specs.Page.{Node, nodeOf, childrenOf, childAt}
 use Rattle.rules.specs.Node.{longestSpan, anyPending, splice}
@@ -274,11 +275,13 @@ module _ (t : DatomOrd) (x : Extent) (s : List ℕ) (l : ℕ) (p : PageId) (a : 
   abbrev whole : Stage Node
   whole = insertInto e₀ l p (batchAt m n a) o
 
-  pub insert-damaged : Loads t x s l p a m n a₁ loaded.Damaged → (x .count + length o) * x .size ≤ length s → Stopped x s s o (Damaged p) (length o) whole
-  insert-damaged (loads-bad same f) room =
-      record { new = []; stage = stage (decLe l 0) ∙ ap (λ (os : List Node). stop (Damaged p) os) (sym (append-nil o)); count = omega arith; wrote = wrote-none x s (length o) room }
+  pub insert-damaged :
+      (g : Fault) → Loads t x s l p a m n a₁ (loaded.Faulty g) → (x .count + length o) * x .size ≤ length s →
+      Stopped x s s o (Damaged p g) (length o) whole
+  insert-damaged g (loads-bad same f) room =
+      record { new = []; stage = stage (decLe l 0) ∙ ap (λ (os : List Node). stop (Damaged p g) os) (sym (append-nil o)); count = omega arith; wrote = wrote-none x s (length o) room }
     where
-      stage : Dec (l ≤ 0) → whole ≡ stop (Damaged p) o
+      stage : Dec (l ≤ 0) → whole ≡ stop (Damaged p g) o
       stage (yes h) = insert-zero e₀ l p (batchAt m n a) o (omega arith) ∙ f _ o
       stage (no h) = insert-suc e₀ l p (batchAt m n a) o (omega (arith, h)) ∙ f _ o
 

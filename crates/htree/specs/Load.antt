@@ -11,6 +11,8 @@ use Rattle.store.specs.Size.{capacity}
 use Rattle.datom.specs.declared.Datom.{Datom}
 use Rattle.datom.specs.Datom.{datomsOf}
 use Rattle.index.specs.Order.{DatomOrd}
+use Rattle.answer.specs.declared.Fault.{Fault}
+use Rattle.answer.specs.declared.Fault.the-variants.{EqualDatoms}
 use Rattle.answer.specs.declared.Refusal.the-variants.{Damaged}
 use Rattle.rules.specs.Page.{Node, nodeOf}
 use Rattle.rules.specs.Node.{meets, mergeNode}
@@ -18,7 +20,7 @@ use Rattle.rules.specs.Tree.{fine, Env, Stage, stop, then, fetchAt, settle, ins
 use Rattle.rules.specs.Store.{badStore, pageAt, envOf}
 use Rattle.memory_store.specs.Readable.{nodeAt, Opens, opens}
 use Rattle.memory_store.specs.declared.found.Opened.the-variants as opened
-use Rattle.memory_store.specs.Opened.{openedOf, at-level, damaged-faulty, opened-node}
+use Rattle.memory_store.specs.Opened.{openedOf, at-level, opened-faulty, opened-node}
 use Rattle.htree.specs.declared.insert.Loaded.{Loaded}
 use Rattle.htree.specs.declared.insert.Loaded.the-variants as loaded
 
@@ -26,7 +28,7 @@ use Rattle.htree.specs.declared.insert.Loaded.the-variants as loaded
 abbrev pub batchAt : ℕ → ℕ → List ℕ → List Datom
 batchAt m n s = datomsOf n (drop (40 * m + 8) s)
 
--- whatever the insert goes on with: it has the merged node, which stands in the area, or stops as Damaged
+-- whatever the insert goes on with: it has the merged node, which stands in the area, or stops as Damaged, with the fault
 pub data Loads (t : DatomOrd) (x : Extent) (s : List ℕ) (l : ℕ) (p : PageId) (a : List ℕ) (m n : ℕ) (a₁ : List ℕ) : Loaded → Type 0 where
   loads-node :
       {k : ℕ} → k ≤ capacity (x .size) + n → length a₁ ≡ length a →
@@ -35,10 +37,10 @@ pub data Loads (t : DatomOrd) (x : Extent) (s : List ℕ) (l : ℕ) (p : PageId)
       ≡ then (f (nodeOf m l k a₁) o) λ n₁ o₁. settle (envOf t x s) n₁ o₁) →
       Loads t x s l p a m n a₁ (loaded.Node k)
   loads-bad :
-      length a₁ ≡ length a →
+      {g : Fault} → length a₁ ≡ length a →
       ((f : Node → List Node → Stage Node) (o : List Node) →
-      insertMerged (envOf t x s) p (batchAt m n a) f (fetchAt (envOf t x s) l p) o ≡ stop (Damaged p) o) →
-      Loads t x s l p a m n a₁ loaded.Damaged
+      insertMerged (envOf t x s) p (batchAt m n a) f (fetchAt (envOf t x s) l p) o ≡ stop (Damaged p g) o) →
+      Loads t x s l p a m n a₁ (loaded.Faulty g)
 
 -- a merge that meets no equal datoms
 merged :
@@ -54,9 +56,9 @@ datoms-are c l k s = refl
 
 -- by what the page was opened as
 module _ (t : DatomOrd) (x : Extent) (s : List ℕ) (l : ℕ) (p : PageId) (a : List ℕ) (m n : ℕ) where
-  pub load-damaged : opened.Damaged ≡ openedOf (fetchAt (envOf t x s) l p) → Loads t x s l p a m n a loaded.Damaged
+  pub load-faulty : (f : Fault) → opened.Faulty f ≡ openedOf (fetchAt (envOf t x s) l p) → Loads t x s l p a m n a (loaded.Faulty f)
   unfolding insertMerged
-  load-damaged h = loads-bad refl λ g o. rw (damaged-faulty (fetchAt (envOf t x s) l p) h .1)
+  load-faulty f h = loads-bad {g = f} refl λ g o. rw (opened-faulty f (fetchAt (envOf t x s) l p) h)
 
   module _ (k : ℕ) (ok : badStore x s ≡ false) (e : opened.Node k ≡ openedOf (fetchAt (envOf t x s) l p)) where
     pub load-opens : Opens t x s p l k
@@ -66,9 +68,9 @@ module _ (t : DatomOrd) (x : Extent) (s : List ℕ) (l : ℕ) (p : PageId) (a : 
       read : fetchAt (envOf t x s) l p ≡ fine (nodeAt x s p l k)
       read = let r = opened-node t x s p l k e in at-level t x s p l k r ∙ r
 
-      pub load-met : meets (t .cmp) (datomsOf k (pageAt x s p)) (batchAt m n a) ≡ true → Loads t x s l p a m n a₁ loaded.Damaged
+      pub load-met : meets (t .cmp) (datomsOf k (pageAt x s p)) (batchAt m n a) ≡ true → Loads t x s l p a m n a₁ (loaded.Faulty EqualDatoms)
       unfolding insertMerged nodeOf envOf
-      load-met q = loads-bad same λ g o. rw (read, q)
+      load-met q = loads-bad {g = EqualDatoms} same λ g o. rw (read, q)
 
       pub load-whole :
           meets (t .cmp) (datomsOf k (pageAt x s p)) (batchAt m n a) ≡ false →

@@ -1,6 +1,7 @@
 // Insert into a page, and flush: they call each other, the level falling at each call.
 use crate::place;
 use crate::place::Inserted;
+use answer::Fault;
 use answer::Refusal;
 use memory_store::found;
 use memory_store::found::Opened;
@@ -21,10 +22,10 @@ ghost use Rattle.htree.specs.Told.{Ready, Tells};
 ghost use Rattle.htree.specs.Load.{Loads, batchAt};
 ghost use Rattle.htree.specs.Flush.{insertLower};
 
-// A page merged with a batch into the area, of so many datoms; or the page is damaged.
+// A page merged with a batch into the area, of so many datoms; or what is wrong with the page.
 pub enum Loaded {
     Node(usize),
-    Damaged,
+    Faulty(Fault),
 }
 
 // Page `page`, which was opened at this level, is merged into the area with the batch of n datoms that lies behind it.
@@ -42,13 +43,15 @@ fn load(
     requires { ⌜ (badStore extent (now store) ≡ false) × (c ≡ capacity (extent .size)) × (c + n ≤ m) × (40 * m + 8 + 32 * n ≤ length (now s)) × (opened ≡ openedOf (fetchAt (envOf eavt extent (now store)) level page)) ⌝ }
     ensures { λ r. ⌜ Loads eavt extent (now (store .entry)) level page (now (s .entry)) m n (now (s .exit)) r ⌝ }
 {
-    let Opened::Node(k) = opened else {
-        return Loaded::Damaged;
-    };
-    let part = memory_store::part_of(store, extent, page);
-    match node::merge(part, c, k, s, m, 40 * m + 8, n) {
-        Merged::Whole => Loaded::Node(k + n),
-        Merged::Met => Loaded::Damaged,
+    match opened {
+        Opened::Faulty(fault) => Loaded::Faulty(fault),
+        Opened::Node(k) => {
+            let part = memory_store::part_of(store, extent, page);
+            match node::merge(part, c, k, s, m, 40 * m + 8, n) {
+                Merged::Whole => Loaded::Node(k + n),
+                Merged::Met => Loaded::Faulty(Fault::EqualDatoms),
+            }
+        }
     }
 }
 
@@ -70,8 +73,8 @@ pub fn insert_into(
     ensures { λ r. ⌜ Tells extent (now (store .entry)) (now (store .exit)) m (now (s .exit)) written r (insertInto (envOf eavt extent (now (store .entry))) level page (batchAt m n (now (s .entry)))) ⌝ }
 {
     match load(store, extent, c, level, page, opened, s, m, n) {
-        Loaded::Damaged => Inserted::Failed {
-            refusal: Refusal::Damaged(page),
+        Loaded::Faulty(fault) => Inserted::Failed {
+            refusal: Refusal::Damaged(page, fault),
             written,
         },
         Loaded::Node(count) => {

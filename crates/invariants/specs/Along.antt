@@ -13,6 +13,8 @@ use Rattle.store.specs.Size.{capacity}
 use Rattle.datom.specs.declared.Datom.{Datom}
 use Rattle.datom.specs.Datom.{datomsOf}
 use Rattle.index.specs.Order.{DatomOrd}
+use Rattle.answer.specs.declared.Fault.{Fault}
+use Rattle.answer.specs.declared.Fault.the-variants.{OutOfBounds}
 use Rattle.answer.specs.declared.Refusal.{Refusal}
 use Rattle.answer.specs.declared.Check.{Check}
 use Rattle.answer.specs.declared.Check.the-variants.{Sound, Unsound, Refused}
@@ -35,17 +37,16 @@ pub record Along (t : DatomOrd) (x : Extent) (s : List ℕ) (c l : ℕ) (p : Pag
   pub whole : leftOf t (underOf t (fetchPage t x s) l) p c k b upper i last midpoint ≡ checkPage t x s l p lower upper
 
 pub along-start :
-    (t : DatomOrd) (x : Extent) (s : List ℕ) (c l : ℕ) (p : PageId) (m k : ℕ) (b : List ℕ) (lower upper : Option Datom) → badStore x s ≡ false →
-    c ≡ capacity (x .size) → fetchPage t x s p ≡ fine (nodeAt x s p m k) → m ≡ l → b ≡ fetched x s p →
-    Along t x s c l p k b lower upper 0 lower lower
-along-start t x s c l p m k b lower upper good room read same e =
-    let bytes : b ≡ pageAt x s p = e ∙ opens t x s p m k good read .bytes in
+    (t : DatomOrd) (x : Extent) (s : List ℕ) (c l : ℕ) (p : PageId) (k : ℕ) (b : List ℕ) (lower upper : Option Datom) → badStore x s ≡ false →
+    c ≡ capacity (x .size) → fetchPage t x s p ≡ fine (nodeAt x s p l k) → b ≡ fetched x s p → Along t x s c l p k b lower upper 0 lower lower
+along-start t x s c l p k b lower upper good room read e =
+    let bytes : b ≡ pageAt x s p = e ∙ opens t x s p l k good read .bytes in
     record {
       good = good;
       room = room;
-      read = rw same at read;
+      read = read;
       bytes = bytes;
-      whole = page-left t x s l p lower upper m k read same b c bytes room;
+      whole = page-left t x s l p lower upper k read b c bytes room;
     }
 
 module _ {t : DatomOrd} {x : Extent} {s : List ℕ} {c l : ℕ} {p : PageId} {k : ℕ} {b : List ℕ} {lower upper : Option Datom} {i : ℕ} {last midpoint : Option Datom}
@@ -71,7 +72,7 @@ module _ {t : DatomOrd} {x : Extent} {s : List ℕ} {c l : ℕ} {p : PageId} {k 
     along-end h = sym (left-end t (underOf t (fetchPage t x s) l) p c k b upper i last midpoint h) ∙ A .whole
 
     module _ (h : i ≤ k) (next : Option Datom) (n : next ≡ boundAt (drop i (datomsOf k b)) upper) where
-      pub along-outside : belowUpper (t .cmp) last next ≡ false → Unsound p ≡ checkPage t x s l p lower upper
+      pub along-outside : belowUpper (t .cmp) last next ≡ false → Unsound p OutOfBounds ≡ checkPage t x s l p lower upper
       along-outside e = sym (left-outside t (underOf t (fetchPage t x s) l) p c k b upper i last midpoint h next n e) ∙ A .whole
 
       module _ (within : belowUpper (t .cmp) last next ≡ true) (child : PageId) (at : child ≡ childAt c b i) where
@@ -98,9 +99,9 @@ module _ {t : DatomOrd} {x : Extent} {s : List ℕ} {c l : ℕ} {p : PageId} {k 
             along-sound f =
                 goes next (left-sound t (underOf t (fetchPage t x s) l) p c k b upper i last midpoint h next n within child at real (gave ∙ f))
 
-            pub along-unsound : (q : PageId) → a ≡ Unsound q → Unsound q ≡ checkPage t x s l p lower upper
-            along-unsound q f =
-                sym (left-unsound t (underOf t (fetchPage t x s) l) p c k b upper i last midpoint h next n within child at real q (gave ∙ f)) ∙ A .whole
+            pub along-unsound : (q : PageId) (f : Fault) → a ≡ Unsound q f → Unsound q f ≡ checkPage t x s l p lower upper
+            along-unsound q f g =
+                sym (left-unsound t (underOf t (fetchPage t x s) l) p c k b upper i last midpoint h next n within child at real q f (gave ∙ g)) ∙ A .whole
 
             pub along-refused : (r : Refusal) → a ≡ Refused r → Refused r ≡ checkPage t x s l p lower upper
             along-refused r f =

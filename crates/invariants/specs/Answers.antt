@@ -12,6 +12,7 @@ use Rattle.store.specs.Page.{none, isNone}
 use Rattle.store.specs.Laws.{apart}
 use Rattle.datom.specs.declared.Datom.{Datom}
 use Rattle.index.specs.Order.{DatomOrd}
+use Rattle.answer.specs.declared.Fault.{Fault}
 use Rattle.answer.specs.declared.Refusal.the-variants.{Damaged}
 use Rattle.answer.specs.declared.Check.{Check}
 use Rattle.answer.specs.declared.Check.the-variants.{Sound, Unsound, Refused}
@@ -23,7 +24,7 @@ use Rattle.rules.specs.Check.{aboveLower, belowUpper, Under, checkChild, midpoi
 -- an answer without a refusal
 unfoldable pub isVerdict : Check → Bool
 isVerdict Sound = true
-isVerdict (Unsound p) = true
+isVerdict (Unsound p f) = true
 isVerdict (Refused r) = false
 
 module _ (cmp : Datom → Datom → Ordering) where
@@ -53,7 +54,7 @@ module _ (cmp : Datom → Datom → Ordering) where
             isVerdict (walk cmp under p (d ∷ ds) cs last midpoint upper) ≡ true
         side false e r u ih = rw (walk, e)
         side true e Sound u ih = rw (walk, e, u) ih
-        side true e (Unsound q) u ih = rw (walk, e, u)
+        side true e (Unsound q f) u ih = rw (walk, e, u)
         side true e (Refused r) u ih =
             let k : isVerdict (Refused r) ≡ true = ap isVerdict (sym u) ∙ child-verdict (getD cs 0 none) midpoint (some d) in
             absurd (apart (cc))
@@ -76,13 +77,13 @@ module _ (cmp : Datom → Datom → Ordering) where
 -- "the check checks 1, 5"
 unfoldable pub isAnswer : Check → Bool
 isAnswer Sound = true
-isAnswer (Unsound p) = true
+isAnswer (Unsound p f) = true
 isAnswer (Refused r) = eqb (numberOf r) 1 || eqb (numberOf r) 5
 
 verdict-answers : (a : Check) → isVerdict a ≡ true → isAnswer a ≡ true
 unfolding isVerdict isAnswer
 verdict-answers Sound e = refl
-verdict-answers (Unsound p) e = refl
+verdict-answers (Unsound p f) e = refl
 verdict-answers (Refused r) e = absurd (apart (cc))
 
 module _ (t : DatomOrd) (x : Extent) (s : List ℕ) (root : PageId) where
@@ -99,6 +100,6 @@ module _ (t : DatomOrd) (x : Extent) (s : List ℕ) (root : PageId) where
       side false u false v false w = rw (u, v, w) (verdict-answers _ (root-verdict (t .cmp) (fetchPage t x s) root (fetchPage t x s root)))
 
   -- "it never gives 7"
-  pub never-damaged : (p : PageId) → checkTree t x s root ≡ Refused (Damaged p) → ⊥
+  pub never-damaged : (p : PageId) (f : Fault) → checkTree t x s root ≡ Refused (Damaged p f) → ⊥
   unfolding isAnswer
-  never-damaged p e = let k : isAnswer (Refused (Damaged p)) ≡ true = ap isAnswer (sym e) ∙ check-answers in apart (cc)
+  never-damaged p f e = let k : isAnswer (Refused (Damaged p f)) ≡ true = ap isAnswer (sym e) ∙ check-answers in apart (cc)

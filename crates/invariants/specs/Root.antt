@@ -36,7 +36,7 @@ module _ (t : DatomOrd) (x : Extent) (s : List ℕ) (root : PageId) where
       check-none e = rw (ok, known, e)
 
       module _ (real : isNone root ≡ false) where
-        pub check-faulty : (f : Fault) → fetchPage t x s root ≡ faulty f → Unsound root ≡ checkTree t x s root
+        pub check-faulty : (f : Fault) → fetchPage t x s root ≡ faulty f → Unsound root f ≡ checkTree t x s root
         unfolding checkTree checkRoot
         check-faulty f e = rw (ok, known, real, e)
 

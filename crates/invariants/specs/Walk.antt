@@ -6,7 +6,7 @@ use mathlib.Core.Bool.{true, false, cond}
 use mathlib.Core.List.{List, [], _∷_}
 use mathlib.Core.Option.{Option, some}
 use mathlib.Core.Path.{_≡_, refl, sym, ap, _∙_}
-use borrow.Author.Tests.{le-leb, lt-leb, eq-eqb, ne-eqb}
+use borrow.Author.Tests.{le-leb, lt-leb, eq-eqb}
 use lib.Dec.{leb}
 use lib.ListN.{drop, getD}
 use lib.Seq.{drop-drop}
@@ -20,15 +20,17 @@ use Rattle.datom.specs.Datom.{datomAt, datomOf, datomsOf}
 use Rattle.datom.specs.Laws.{datoms-from}
 use Rattle.index.specs.Order.{DatomOrd}
 use Rattle.answer.specs.declared.Fault.{Fault}
-use Rattle.answer.specs.declared.Fault.the-variants.{WrongLevel}
+use Rattle.answer.specs.declared.Fault.the-variants.{OutOfBounds}
 use Rattle.answer.specs.declared.Refusal.{Refusal}
 use Rattle.answer.specs.declared.Check.{Check}
 use Rattle.answer.specs.declared.Check.the-variants.{Sound, Unsound, Refused}
 use Rattle.rules.specs.Page.{childAt, childrenOf, nodeOf}
-use Rattle.rules.specs.Tree.{Fetched, faulty, fine, atLevel}
-use Rattle.rules.specs.Store.{pageAt, fetchPage}
+use Rattle.rules.specs.Tree.{Fetched, faulty, fine, atLevel, fetchAt}
+use Rattle.rules.specs.Store.{pageAt, fetchPage, envOf}
 use Rattle.rules.specs.Check.{belowUpper, Under, checkChild, midpointNext, walk, checkAt}
+use Rattle.memory_store.specs.declared.found.Opened.the-variants as opened
 use Rattle.memory_store.specs.Readable.{nodeAt}
+use Rattle.memory_store.specs.Opened.{openedOf, opened-faulty}
 use Rattle.invariants.specs.Bounds.{boundAt}
 
 -- the check of a child of a page of level l
@@ -51,7 +53,7 @@ module _ (t : DatomOrd) (under : Under) (p : PageId) (cs : List PageId) (last mi
   child = getD cs 0 none
 
   turn-outside :
-      (ds : List Datom) → belowUpper (t .cmp) last (boundAt ds upper) ≡ false → walk (t .cmp) under p ds cs last midpoint upper ≡ Unsound p
+      (ds : List Datom) → belowUpper (t .cmp) last (boundAt ds upper) ≡ false → walk (t .cmp) under p ds cs last midpoint upper ≡ Unsound p OutOfBounds
   unfolding walk boundAt belowUpper
   turn-outside [] h = rw h
   turn-outside (d ∷ ds) h = rw (walk, h)
@@ -69,9 +71,10 @@ module _ (t : DatomOrd) (under : Under) (p : PageId) (cs : List PageId) (last mi
     turn-on e = rw (walk, h, e)
 
     turn-unsound :
-        (q : PageId) → checkChild under child midpoint (some d) ≡ Unsound q → walk (t .cmp) under p (d ∷ ds) cs last midpoint upper ≡ Unsound q
+        (q : PageId) (f : Fault) → checkChild under child midpoint (some d) ≡ Unsound q f →
+        walk (t .cmp) under p (d ∷ ds) cs last midpoint upper ≡ Unsound q f
     unfolding walk belowUpper
-    turn-unsound q e = rw (walk, h, e)
+    turn-unsound q f e = rw (walk, h, e)
 
     turn-refused :
         (r : Refusal) → checkChild under child midpoint (some d) ≡ Refused r → walk (t .cmp) under p (d ∷ ds) cs last midpoint upper ≡ Refused r
@@ -92,7 +95,7 @@ module _ (t : DatomOrd) (under : Under) (p : PageId) (c k : ℕ) (b : List ℕ) 
   left-end h = rw (lt-leb i k h)
 
   module _ (h : i ≤ k) (next : Option Datom) (n : next ≡ boundAt (drop i (datomsOf k b)) upper) where
-    pub left-outside : belowUpper (t .cmp) last next ≡ false → left ≡ Unsound p
+    pub left-outside : belowUpper (t .cmp) last next ≡ false → left ≡ Unsound p OutOfBounds
     unfolding leftOf
     left-outside e = rw (le-leb i k h) (turn-outside t under p _ last midpoint upper (drop i (datomsOf k b)) (rw (← n) e))
 
@@ -152,15 +155,15 @@ module _ (t : DatomOrd) (under : Under) (p : PageId) (c k : ℕ) (b : List ℕ) 
         unfolding midpointNext
         left-sound e = left-next next (child-real real ∙ e) (λ d g. rw (real, g))
 
-        pub left-unsound : (q : PageId) → under ch midpoint next ≡ Unsound q → left ≡ Unsound q
+        pub left-unsound : (q : PageId) (f : Fault) → under ch midpoint next ≡ Unsound q f → left ≡ Unsound q f
         unfolding leftOf
-        left-unsound q e = elim (decLe k i) [
-          | yes g ↦ left-last (Unsound q) (child-real real ∙ e) g
+        left-unsound q f e = elim (decLe k i) [
+          | yes g ↦ left-last (Unsound q f) (child-real real ∙ e) g
           | no g ↦
               let lt : i < k = omega (arith, g) in
               let n₁ = bound-goes lt in
               rw (le-leb i k h, datoms-from k i b lt)
-              (turn-unsound t under p _ last midpoint upper _ _ (rw (← n₁) within) q (rw (here, ← n₁) (child-real real ∙ e)))
+              (turn-unsound t under p _ last midpoint upper _ _ (rw (← n₁) within) q f (rw (here, ← n₁) (child-real real ∙ e)))
         ]
 
         pub left-refused : (r : Refusal) → under ch midpoint next ≡ Refused r → left ≡ Refused r
@@ -179,30 +182,26 @@ module _ (t : DatomOrd) (x : Extent) (s : List ℕ) (l : ℕ) (p : PageId) (lowe
   abbrev pub checkPage : Check
   checkPage = checkAt (t .cmp) (fetchPage t x s) l p lower upper (atLevel l (fetchPage t x s p))
 
-  unsound : (m : ℕ) (f : Fault) → Unsound p ≡ checkAt (t .cmp) (fetchPage t x s) m p lower upper (faulty f)
+  unsound : (m : ℕ) (f : Fault) → Unsound p f ≡ checkAt (t .cmp) (fetchPage t x s) m p lower upper (faulty f)
   unfolding checkAt
   unsound zero f = refl
   unsound (suc m) f = refl
 
-  pub page-faulty : (f : Fault) → fetchPage t x s p ≡ faulty f → Unsound p ≡ checkPage
-  unfolding atLevel
-  page-faulty f e = rw e (unsound l f)
+  pub page-faulty : (f : Fault) → opened.Faulty f ≡ openedOf (fetchAt (envOf t x s) l p) → Unsound p f ≡ checkPage
+  unfolding fetchAt envOf
+  page-faulty f e = rw (opened-faulty f (atLevel l (fetchPage t x s p)) e) (unsound l f)
 
-  module _ (m k : ℕ) (e : fetchPage t x s p ≡ fine (nodeAt x s p m k)) where
-    pub page-other : (m ≡ l → ⊥) → Unsound p ≡ checkPage
-    unfolding atLevel nodeOf
-    page-other h = rw (e, ne-eqb m l h) (unsound l WrongLevel)
-
+  module _ (k : ℕ) (e : fetchPage t x s p ≡ fine (nodeAt x s p l k)) where
     walked :
         (v : ℕ) →
         walk (t .cmp) (underOf t (fetchPage t x s) v) p (datomsOf k (pageAt x s p)) (childrenOf (capacity (x .size)) (suc k) (pageAt x s p)) lower lower upper
-        ≡ checkAt (t .cmp) (fetchPage t x s) v p lower upper (fine (nodeAt x s p m k))
+        ≡ checkAt (t .cmp) (fetchPage t x s) v p lower upper (fine (nodeAt x s p l k))
     unfolding checkAt underOf nodeOf
     walked zero = refl
     walked (suc v) = refl
 
     pub page-left :
-        m ≡ l → (b : List ℕ) (c : ℕ) → b ≡ pageAt x s p → c ≡ capacity (x .size) →
+        (b : List ℕ) (c : ℕ) → b ≡ pageAt x s p → c ≡ capacity (x .size) →
         leftOf t (underOf t (fetchPage t x s) l) p c k b upper 0 lower lower ≡ checkPage
     unfolding leftOf atLevel nodeOf
-    page-left h b c u v = rw (u, v, e, eq-eqb m l h, le-leb 0 k (omega arith)) (walked l)
+    page-left b c u v = rw (u, v, e, eq-eqb l l refl, le-leb 0 k (omega arith)) (walked l)

@@ -43,6 +43,6 @@ advanced t x s w l = descentOf (pred l) (taken w l) (afterAt t x s w l)
 unfoldable pub yieldOf : Cursor → Datom → Descent → Stepped
 yieldOf c d g =
     elim (g .end) [
-      | Lost q ↦ refuseStep c (Damaged q)
+      | Lost q f ↦ refuseStep c (Damaged q f)
       | Bottom ↦ record { answer = step.Yields d; cursor = cursorOf (framesOf (c .height) (g .way)) (endFrames c) }
     ]

@@ -16,6 +16,8 @@ use Rattle.store.specs.Laws.{cells-length}
 use Rattle.datom.specs.declared.Datom.{Datom}
 use Rattle.datom.specs.Datom.{datomOf}
 use Rattle.index.specs.Order.{DatomOrd}
+use Rattle.answer.specs.declared.Fault.{Fault}
+use Rattle.answer.specs.declared.Fault.the-variants.{Missing}
 use Rattle.answer.specs.declared.NextMidpoint.{NextMidpoint}
 use Rattle.answer.specs.declared.NextMidpoint.the-variants.{Child, Nothing}
 use Rattle.answer.specs.declared.Refusal.the-variants.{Damaged}
@@ -111,13 +113,13 @@ module _ (t : DatomOrd) (x : Extent) (s : List ℕ) (w : Way) where
     unfolding testOf
     adv-child d e = rw (ap childOf e) at adv-next
 
-    pub adv-stuck : x .count ≤ none .0 → next ≡ Nothing → lost none ≡ advanced t x s w l
+    pub adv-stuck : x .count ≤ none .0 → next ≡ Nothing → lost none Missing ≡ advanced t x s w l
     adv-stuck c e = none-down t x s never (l - 1) (taken w l) c ∙ (rw (ap childOf e) at adv-next)
 
 module _ (c : Cursor) (d : Datom) (g a : Descent) (is : g ≡ a) where
-  pub yield-lost : (q : PageId) → g .end ≡ Lost q → refuseStep c (Damaged q) ≡ yieldOf c d a
+  pub yield-lost : (q : PageId) (f : Fault) → g .end ≡ Lost q f → refuseStep c (Damaged q f) ≡ yieldOf c d a
   unfolding yieldOf
-  yield-lost q h = let k : refuseStep c (Damaged q) ≡ yieldOf c d g = rw (yieldOf, h) in k ∙ ap (yieldOf c d) is
+  yield-lost q f h = let k : refuseStep c (Damaged q f) ≡ yieldOf c d g = rw (yieldOf, h) in k ∙ ap (yieldOf c d) is
 
   pub yield-bottom :
       g .end ≡ Bottom → record { answer = step.Yields d; cursor = cursorOf (framesOf (c .height) (g .way)) (endFrames c) } ≡ yieldOf c d a

@@ -14,6 +14,8 @@ use Rattle.store.specs.Laws.{apart}
 use Rattle.datom.specs.declared.Datom.{Datom}
 use Rattle.datom.specs.Datom.{datomsOf}
 use Rattle.index.specs.Order.{DatomOrd}
+use Rattle.answer.specs.declared.Fault.{Fault}
+use Rattle.answer.specs.declared.Fault.the-variants.{Missing}
 use Rattle.answer.specs.declared.NextMidpoint.{NextMidpoint}
 use Rattle.answer.specs.declared.NextMidpoint.the-variants.{Child, Nothing}
 use Rattle.rules.specs.Page.{childrenOf, nodeOf}
@@ -33,7 +35,7 @@ use Rattle.listing.specs.Way.{wayOf}
 use Rattle.memory_store.specs.declared.found.Opened.the-variants as opened
 use Rattle.memory_store.specs.FetchLaws.{none-missing}
 use Rattle.memory_store.specs.Readable.{nodeAt}
-use Rattle.memory_store.specs.Opened.{openedOf, damaged-faulty}
+use Rattle.memory_store.specs.Opened.{openedOf, opened-faulty}
 
 -- the datoms that are passed by
 unfoldable pub testOf : DatomOrd → Seek → Datom → Bool
@@ -70,13 +72,13 @@ next-up (suc l) i cs up = refl
 
 -- what one page gives
 unfoldable pub placedOf : (Datom → Bool) → ℕ → Fetched → Placed
-placedOf p l (faulty f) = placed.Lost
+placedOf p l (faulty f) = placed.Lost f
 placedOf p l (fine n) = placed.At (rankBy p (n .datoms)) (nextFrom l (rankBy p (n .datoms)) (n .children))
 
 module _ (t : DatomOrd) (x : Extent) (s : List ℕ) (q : PageId) (p : Datom → Bool) (l : ℕ) where
-  pub place-lost : opened.Damaged ≡ openedOf (fetchAt (envOf t x s) l q) → placed.Lost ≡ placedOf p l (atLevel l (fetchPage t x s q))
+  pub place-lost : (f : Fault) → opened.Faulty f ≡ openedOf (fetchAt (envOf t x s) l q) → placed.Lost f ≡ placedOf p l (atLevel l (fetchPage t x s q))
   unfolding fetchAt envOf placedOf
-  place-lost e = rw (damaged-faulty (atLevel l (fetchPage t x s q)) e .1)
+  place-lost f e = rw (opened-faulty f (atLevel l (fetchPage t x s q)) e)
 
   pub place-at :
       (k : ℕ) → fetchPage t x s q ≡ fine (nodeAt x s q l k) →
@@ -93,14 +95,14 @@ unfoldable pub fill : ℕ → Way → List Frame → Way
 fill l w [] = w
 fill l w (a ∷ fs) = fill (pred l) (putFrame w l (a .at) (a .page)) fs
 
-abbrev pub lost : PageId → Descent
-lost q = record { end = Lost q; way = wayOf [] }
+abbrev pub lost : PageId → Fault → Descent
+lost q f = record { end = Lost q f; way = wayOf [] }
 
 abbrev pub down : Way → Descent
 down w = record { end = Bottom; way = w }
 
 unfoldable pub descentOf : ℕ → Way → Path → Descent
-descentOf l w (lostAt q f) = lost q
+descentOf l w (lostAt q f) = lost q f
 descentOf l w (path fs) = down (fill l w fs)
 
 -- the way down from page q, which is to be of level l
@@ -115,11 +117,11 @@ onward l w a (path fs) = refl
 
 module _ (fetch : PageId → Fetched) (p : Datom → Bool) (w : Way) (q : PageId) where
   -- a page that cannot be read
-  lost-page : (l : ℕ) (r : Fetched) → placed.Lost ≡ placedOf p l r → lost q ≡ descentOf l w (pathBy fetch p l q r)
+  lost-page : (l : ℕ) (f : Fault) (r : Fetched) → placed.Lost f ≡ placedOf p l r → lost q f ≡ descentOf l w (pathBy fetch p l q r)
   unfolding placedOf descentOf pathBy
-  lost-page zero (faulty f) h = refl
-  lost-page (suc l) (faulty f) h = refl
-  lost-page l (fine n) h = absurd (apart (cc))
+  lost-page zero f (faulty g) h = let k : f ≡ g = cc in rw k
+  lost-page (suc l) f (faulty g) h = let k : f ≡ g = cc in rw k
+  lost-page l f (fine n) h = absurd (apart (cc))
 
   -- level 0
   last-page :
@@ -142,16 +144,16 @@ module _ (fetch : PageId → Fetched) (p : Datom → Bool) (w : Way) (q : PageId
 suc-sub-one : (m : ℕ) → suc m - 1 ≡ m
 suc-sub-one m = omega arith
 
--- a way that has no child to go on to is lost at page none
-pub none-down : (t : DatomOrd) (x : Extent) (s : List ℕ) (p : Datom → Bool) (l : ℕ) (w : Way) → x .count ≤ none .0 → lost none ≡ descentOf l w (downOf t x s p l none)
+-- a way that has no child to go on to is lost at page none, which is missing
+pub none-down : (t : DatomOrd) (x : Extent) (s : List ℕ) (p : Datom → Bool) (l : ℕ) (w : Way) → x .count ≤ none .0 → lost none Missing ≡ descentOf l w (downOf t x s p l none)
 unfolding atLevel pathBy descentOf
 none-down t x s p zero w h = rw (none-missing t x s h)
 none-down t x s p (suc l) w h = rw (none-missing t x s h)
 
 -- the ways on from a page of the store
 module _ (t : DatomOrd) (x : Extent) (s : List ℕ) (p : Datom → Bool) (l : ℕ) (w : Way) (q : PageId) where
-  pub down-lost : placed.Lost ≡ placedOf p l (atLevel l (fetchPage t x s q)) → lost q ≡ descentOf l w (downOf t x s p l q)
-  down-lost h = lost-page (fetchPage t x s) p w q l (atLevel l (fetchPage t x s q)) h
+  pub down-lost : (f : Fault) → placed.Lost f ≡ placedOf p l (atLevel l (fetchPage t x s q)) → lost q f ≡ descentOf l w (downOf t x s p l q)
+  down-lost f h = lost-page (fetchPage t x s) p w q l f (atLevel l (fetchPage t x s q)) h
 
   module _ (i : ℕ) (c : NextMidpoint) (at : placed.At i c ≡ placedOf p l (atLevel l (fetchPage t x s q))) where
     pub down-ends : l ≡ 0 → down (putFrame w l i q) ≡ descentOf l w (downOf t x s p l q)
@@ -174,5 +176,5 @@ module _ (t : DatomOrd) (x : Extent) (s : List ℕ) (p : Datom → Bool) (l : �
       pub down-on : (d : PageId) → c ≡ Child d → descentOf (l - 1) (putFrame w l i q) (downOf t x s p (l - 1) d) ≡ descentOf l w (downOf t x s p l q)
       down-on d e = rw (ap childOf e) at on-to
 
-      pub down-stuck : x .count ≤ none .0 → c ≡ Nothing → lost none ≡ descentOf l w (downOf t x s p l q)
+      pub down-stuck : x .count ≤ none .0 → c ≡ Nothing → lost none Missing ≡ descentOf l w (downOf t x s p l q)
       down-stuck h e = none-down t x s p (l - 1) (putFrame w l i q) h ∙ (rw (ap childOf e) at on-to)

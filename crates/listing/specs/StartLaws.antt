@@ -32,7 +32,7 @@ module _ (t : DatomOrd) (x : Extent) (s : List ℕ) (root : PageId) (lo hi : Dat
     unfolding startUnder
     is-under = rw some
 
-    pub under-damaged : (f : Fault) → fetchPage t x s root ≡ faulty f → refuseStart (Damaged root) ≡ startUnder t x s root lo hi
+    pub under-damaged : (f : Fault) → fetchPage t x s root ≡ faulty f → refuseStart (Damaged root f) ≡ startUnder t x s root lo hi
     unfolding startAt
     under-damaged f e = rw (is-under, e)
 

@@ -6,6 +6,7 @@ use mathlib.Core.Path.{_≡_, refl, sym, ap, _∙_}
 use lib.ListN.{length}
 use Rattle.store.specs.declared.PageId.{PageId}
 use Rattle.store.specs.Laws.{apart}
+use Rattle.answer.specs.declared.Fault.{Fault}
 use Rattle.answer.specs.declared.Refusal.the-variants.{Damaged}
 use Rattle.answer.specs.declared.Cursor.{Cursor}
 use Rattle.answer.specs.declared.Start.the-variants as start
@@ -21,10 +22,14 @@ use Rattle.listing.specs.Fill.{filled}
 
 -- a way that was lost, and one that came down
 module _ (l : ℕ) (w : Way) (d : Descent) where
-  pub was-lost : (q : PageId) (o : Path) → d ≡ descentOf l w o → d .end ≡ Lost q → (es : Path) → refuseStart (Damaged q) ≡ joinPaths o es
+  pub was-lost : (q : PageId) (f : Fault) (o : Path) → d ≡ descentOf l w o → d .end ≡ Lost q f → (es : Path) → refuseStart (Damaged q f) ≡ joinPaths o es
   unfolding descentOf joinPaths
-  was-lost q (lostAt z f) e h es = let k : Lost z ≡ Lost q = sym (ap (λ (v : Descent). v .end) e) ∙ h in let y : z ≡ q = cc in rw y
-  was-lost q (path fs) e h es = let k : Bottom ≡ Lost q = sym (ap (λ (v : Descent). v .end) e) ∙ h in absurd (apart (cc))
+  was-lost q f (lostAt z g) e h es =
+      let k : Lost z g ≡ Lost q f = sym (ap (λ (v : Descent). v .end) e) ∙ h in
+      let y : z ≡ q = cc in
+      let u : g ≡ f = cc in
+      rw (y, u)
+  was-lost q f (path fs) e h es = let k : Bottom ≡ Lost q f = sym (ap (λ (v : Descent). v .end) e) ∙ h in absurd (apart (cc))
 
   pub record Down (o : Path) : Type 0 where
     pub frames : List Frame
@@ -34,7 +39,7 @@ module _ (l : ℕ) (w : Way) (d : Descent) where
   pub came-down :
       (o : Path) → d ≡ descentOf l w o → d .end ≡ Bottom → l ≤ 7 → Full w → ((fs : List Frame) → o ≡ path fs → length fs ≡ suc l) → Down o
   unfolding descentOf
-  came-down (lostAt z f) e h a b k = let y : Lost z ≡ Bottom = sym (ap (λ (v : Descent). v .end) e) ∙ h in absurd (apart (cc))
+  came-down (lostAt z f) e h a b k = let y : Lost z f ≡ Bottom = sym (ap (λ (v : Descent). v .end) e) ∙ h in absurd (apart (cc))
   came-down (path fs) e h a b k =
       record {
         frames = fs;
@@ -47,16 +52,20 @@ unfolding wayOf eight
 empty-full = (refl, refl)
 
 lost-second :
-    (l : ℕ) (v : Way) (g : Descent) (fs : List Frame) (q : PageId) (p : Path) → g ≡ descentOf l v p → g .end ≡ Lost q →
-    refuseStart (Damaged q) ≡ joinPaths (path fs) p
+    (l : ℕ) (v : Way) (g : Descent) (fs : List Frame) (q : PageId) (f : Fault) (p : Path) → g ≡ descentOf l v p → g .end ≡ Lost q f →
+    refuseStart (Damaged q f) ≡ joinPaths (path fs) p
 unfolding descentOf joinPaths
-lost-second l v g fs q (lostAt z f) e h = let k : Lost z ≡ Lost q = sym (ap (λ (y : Descent). y .end) e) ∙ h in let y : z ≡ q = cc in rw y
-lost-second l v g fs q (path gs) e h = let k : Bottom ≡ Lost q = sym (ap (λ (y : Descent). y .end) e) ∙ h in absurd (apart (cc))
+lost-second l v g fs q f (lostAt z a) e h =
+    let k : Lost z a ≡ Lost q f = sym (ap (λ (y : Descent). y .end) e) ∙ h in
+    let y : z ≡ q = cc in
+    let u : a ≡ f = cc in
+    rw (y, u)
+lost-second l v g fs q f (path gs) e h = let k : Bottom ≡ Lost q f = sym (ap (λ (y : Descent). y .end) e) ∙ h in absurd (apart (cc))
 
 -- a lost upper way, and both down
 module _ (l : ℕ) (w v : Way) (d g : Descent) (o u : Path) (D : Down l w d o) where
-  pub upper-lost : (q : PageId) → g ≡ descentOf l v u → g .end ≡ Lost q → refuseStart (Damaged q) ≡ joinPaths o u
-  upper-lost q e h = rw (D .there) (lost-second l v g (D .frames) q u e h)
+  pub upper-lost : (q : PageId) (f : Fault) → g ≡ descentOf l v u → g .end ≡ Lost q f → refuseStart (Damaged q f) ≡ joinPaths o u
+  upper-lost q f e h = rw (D .there) (lost-second l v g (D .frames) q f u e h)
 
   pub both-down : Down l v g u → record { answer = start.Begun; cursor = cursorOf (framesOf (l + 1) (d .way)) (framesOf (l + 1) (g .way)) } ≡ joinPaths o u
   unfolding joinPaths

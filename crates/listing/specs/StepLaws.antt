@@ -7,6 +7,7 @@ use borrow.Author.Tests.{le-ltb, lt-ltb}
 use Rattle.store.specs.declared.Extent.{Extent}
 use Rattle.store.specs.Page.{none}
 use Rattle.index.specs.Order.{DatomOrd}
+use Rattle.answer.specs.declared.Fault.the-variants.{TooHigh}
 use Rattle.answer.specs.declared.Refusal.the-variants.{BadStore, Damaged}
 use Rattle.answer.specs.declared.Cursor.{Cursor}
 use Rattle.answer.specs.declared.Step.the-variants as step
@@ -19,7 +20,7 @@ module _ (t : DatomOrd) (x : Extent) (s : List ℕ) (c : Cursor) where
   step-bad e = rw e
 
   module _ (good : badStore x s ≡ false) where
-    pub step-tall : 8 < c .height → refuseStep c (Damaged none) ≡ stepList t x s c
+    pub step-tall : 8 < c .height → refuseStep c (Damaged none TooHigh) ≡ stepList t x s c
     unfolding stepList
     step-tall h = rw (good, lt-ltb 8 (c .height) h)
 

@@ -16,6 +16,7 @@ use Rattle.store.specs.Laws.{apart}
 use Rattle.datom.specs.declared.Datom.{Datom}
 use Rattle.index.specs.Order.{DatomOrd}
 use Rattle.answer.specs.declared.Fault.{Fault}
+use Rattle.answer.specs.declared.Fault.the-variants.{EqualDatoms, NothingLeft}
 use Rattle.answer.specs.declared.Refusal.the-variants.{Damaged}
 use Rattle.answer.specs.declared.Cursor.{Cursor}
 use Rattle.answer.specs.declared.Stepped.{Stepped}
@@ -42,7 +43,7 @@ use Rattle.listing.specs.Least.{all-opened, takenFrom, taken-here, taken
 
 -- what an advance gives beside what the rules give for the levels below m; from m on only the index of m has changed
 pub data Advances (w : Way) (m : ℕ) (a : Descent) (o : Path) : Type 0 where
-  gone : (q : PageId) (f : Fault) → a .end ≡ Lost q → o ≡ lostAt q f → Advances w m a o
+  gone : (q : PageId) (f : Fault) → a .end ≡ Lost q f → o ≡ lostAt q f → Advances w m a o
   came :
       a .end ≡ Bottom → o ≡ path (framesOf m (a .way)) →
       ((j : ℕ) → m ≤ j → getD (a .way .indices) j 0 ≡ getD (set (w .indices) m (getD (w .indices) m 0 + 1)) j 0) →
@@ -137,18 +138,18 @@ module _ (t : DatomOrd) (x : Extent) (s : List ℕ) (c : Cursor) (full : Full (b
       side :
           Advances (beginOf c) m (advanced t x s (beginOf c) m) (afterAt t x s (beginOf c) m) →
           moved c (least d (takenFrom (fetchPage t x s) (c .«begin_indices») (c .«begin_pages») (c .height) m)) ≡ yieldOf c d (advanced t x s (beginOf c) m)
-      side (gone q f e o) = rw (lost-from t x s (beginOf c) full m q f o (c .height) h) (yield-lost c d _ (advanced t x s (beginOf c) m) refl q e)
+      side (gone q f e o) = rw (lost-from t x s (beginOf c) full m q f o (c .height) h) (yield-lost c d _ (advanced t x s (beginOf c) m) refl q f e)
       side (came e o is ps) =
           rw (path-from t x s (beginOf c) full m (omega (arith, h, most)) (advanced t x s (beginOf c) m .way) o is ps (c .height) h)
           (yield-bottom c d _ (advanced t x s (beginOf c) m) refl e)
 
 -- the answers of a step past its checks
 pub on-damaged :
-    (t : DatomOrd) (x : Extent) (s : List ℕ) (c : Cursor) (q : PageId) (os : Opens) → opening.Damaged q ≡ openingOf os →
-    refuseStep c (Damaged q) ≡ onward (t .cmp) (fetchPage t x s) c os
+    (t : DatomOrd) (x : Extent) (s : List ℕ) (c : Cursor) (q : PageId) (f : Fault) (os : Opens) → opening.Damaged q f ≡ openingOf os →
+    refuseStep c (Damaged q f) ≡ onward (t .cmp) (fetchPage t x s) c os
 unfolding openingOf onward
-on-damaged t x s c q (notOpen z) e = let k : q ≡ z = cc in rw k
-on-damaged t x s c q (opened os) e = absurd (apart (cc))
+on-damaged t x s c q f (notOpen z g) e = let k : q ≡ z = cc in let u : f ≡ g = cc in rw (k, u)
+on-damaged t x s c q f (opened os) e = absurd (apart (cc))
 
 module _ (t : DatomOrd) (x : Extent) (s : List ℕ) (c : Cursor) (ready : openBelow (fetchPage t x s) (c .height) (c .«begin_indices») (c .«begin_pages») ≡ opening.Open) where
   abbrev candidate : Candidate
@@ -163,11 +164,11 @@ module _ (t : DatomOrd) (x : Extent) (s : List ℕ) (c : Cursor) (ready : openBe
       rw (all-opened (fetchPage t x s) (c .«begin_indices») (c .«begin_pages») (c .height) ready)
       (ap (moved c) (least-is t (fetchPage t x s) (c .«begin_indices») (c .«begin_pages») (c .height)))
 
-  pub on-nothing : Nothing ≡ candidate → refuseStep c (Damaged none) ≡ onwards
+  pub on-nothing : Nothing ≡ candidate → refuseStep c (Damaged none NothingLeft) ≡ onwards
   unfolding moved leastAs
   on-nothing e = rw (on-open, ← e)
 
-  pub on-twice : (q : PageId) → Twice q ≡ candidate → refuseStep c (Damaged q) ≡ onwards
+  pub on-twice : (q : PageId) → Twice q ≡ candidate → refuseStep c (Damaged q EqualDatoms) ≡ onwards
   unfolding moved leastAs
   on-twice q e = rw (on-open, ← e)
 

@@ -10,6 +10,7 @@ use answer::Start;
 use answer::Started;
 use datom::Datom;
 use index::Order;
+use memory_store::found;
 use memory_store::found::Found;
 use store::Extent;
 use store::PageId;
@@ -92,8 +93,8 @@ fn start_at(
     );
     let begin_end = b.end;
     let begin = b.way;
-    if let End::Lost(page) = begin_end {
-        return refused(Refusal::Damaged(page));
+    if let End::Lost(page, fault) = begin_end {
+        return refused(Refusal::Damaged(page, fault));
     }
     let e = descent::descend(
         store,
@@ -106,8 +107,8 @@ fn start_at(
     );
     let end_end = e.end;
     let end = e.way;
-    if let End::Lost(page) = end_end {
-        return refused(Refusal::Damaged(page));
+    if let End::Lost(page, fault) = end_end {
+        return refused(Refusal::Damaged(page, fault));
     }
     Started {
         answer: Start::Begun,
@@ -138,11 +139,10 @@ fn start_under(store: &[u8], extent: Extent, root: PageId, lower: Datom, upper: 
         };
     }
     let c = store::capacity_of(extent.size);
-    let Found::Fine { level, count: _ } = memory_store::found::node_at(store, extent, c, root)
-    else {
-        return refused(Refusal::Damaged(root));
-    };
-    start_at(store, extent, c, root, level, lower, upper)
+    match found::node_at(store, extent, c, root) {
+        Found::Faulty(fault) => refused(Refusal::Damaged(root, fault)),
+        Found::Fine { level, count: _ } => { start_at(store, extent, c, root, level, lower, upper) }
+    }
 }
 
 // A cursor to the datoms from the lower bound on and below the upper. Document 01: "Starting a listing checks 1, 10, 5, then the

@@ -1,6 +1,7 @@
 // The way down to level 0 past the datoms below a bound, or past none.
 use crate::way;
 use crate::way::Way;
+use answer::Fault;
 use answer::NextMidpoint;
 use datom::Datom;
 use memory_store::access;
@@ -27,16 +28,16 @@ pub enum Seek {
     NotBelow(Datom),
 }
 
-// The index that is found in a page, and the child that the way goes on to, if any.
+// The index that is found in a page and the child that the way goes on to, if any, or what is wrong with the page.
 pub enum Placed {
-    Lost,
+    Lost(Fault),
     At { index: usize, next: NextMidpoint },
 }
 
-// Where a way ends: at level 0, or at a page that cannot be read.
+// Where a way ends: at level 0, or at a page that cannot be read, with what is wrong with it.
 pub enum End {
     Bottom,
-    Lost(PageId),
+    Lost(PageId, Fault),
 }
 
 // A way and where it ends; one that is lost is empty.
@@ -45,12 +46,12 @@ pub struct Descent {
     pub way: Way,
 }
 
-// A way that is lost at a page.
-pub fn lost_at(page: PageId) -> Descent
-    ensures { λ r. ⌜ r ≡ lost page ⌝ }
+// A way that is lost at a page. One that has no child to go on to is lost at page none, and none is missing.
+pub fn lost_at(page: PageId, fault: Fault) -> Descent
+    ensures { λ r. ⌜ r ≡ lost page fault ⌝ }
 {
     Descent {
-        end: End::Lost(page),
+        end: End::Lost(page, fault),
         way: way::empty(),
     }
 }
@@ -89,13 +90,15 @@ fn place_in(
     requires { ⌜ (badStore extent (now store) ≡ false) × (c ≡ capacity (extent .size)) ⌝ }
     ensures { λ r. ⌜ r ≡ placedOf (testOf eavt seek) level (atLevel level (fetchPage eavt extent (now (store .entry)) page)) ⌝ }
 {
-    let Opened::Node(k) = found::open_at(store, extent, c, level, page) else {
-        return Placed::Lost;
-    };
-    let part = memory_store::fetch(store, extent, page);
-    let index = index_in(part, k, seek);
-    let next = next_from(part, level, c, k, index);
-    Placed::At { index, next }
+    match found::open_at(store, extent, c, level, page) {
+        Opened::Faulty(fault) => Placed::Lost(fault),
+        Opened::Node(k) => {
+            let part = memory_store::fetch(store, extent, page);
+            let index = index_in(part, k, seek);
+            let next = next_from(part, level, c, k, index);
+            Placed::At { index, next }
+        }
+    }
 }
 
 // From page `page`, of this level, down to level 0. The places of the levels above stay as they are in `way`.
@@ -115,21 +118,23 @@ pub fn descend(
     let mut l = level;
     let mut p = page;
     loop {
-        let Placed::At { index, next } = place_in(store, extent, c, seek, l, p) else {
-            return lost_at(p);
-        };
-        filled.indices[l] = index as u64;
-        filled.pages[l] = p;
-        if l == 0 {
-            return Descent {
-                end: End::Bottom,
-                way: filled,
-            };
+        match place_in(store, extent, c, seek, l, p) {
+            Placed::Lost(fault) => return lost_at(p, fault),
+            Placed::At { index, next } => {
+                filled.indices[l] = index as u64;
+                filled.pages[l] = p;
+                if l == 0 {
+                    return Descent {
+                        end: End::Bottom,
+                        way: filled,
+                    };
+                }
+                let NextMidpoint::Child(child) = next else {
+                    return lost_at(PageId::max(), Fault::Missing);
+                };
+                l -= 1;
+                p = child;
+            }
         }
-        let NextMidpoint::Child(child) = next else {
-            return lost_at(PageId::max());
-        };
-        l -= 1;
-        p = child;
     }
 }

@@ -1,5 +1,6 @@
 // The begin pages of a cursor, from the top: whether each can be read at its level and its index is within the page.
 use answer::Cursor;
+use answer::Fault;
 use memory_store::found;
 use memory_store::found::Opened;
 use store::Extent;
@@ -12,22 +13,41 @@ ghost use Rattle.index.specs.Order.{eavt};
 ghost use Rattle.rules.specs.Tree.{atLevel};
 ghost use Rattle.rules.specs.Store.{badStore, fetchPage};
 ghost use Rattle.rules.specs.Listing.{beginFrames, openFrames};
-ghost use Rattle.listing.specs.Opening.{isOpen, openingOf};
+ghost use Rattle.listing.specs.Opening.{openOf, openingOf};
 
+// Whether all pages are open, or the first that is not and what is wrong with it.
 pub enum Opening {
     Open,
-    Damaged(PageId),
+    Damaged(PageId, Fault),
+}
+
+// Whether one page is open, or what is wrong with it.
+enum PageOpening {
+    Open,
+    Shut(Fault),
 }
 
 // One page, which is to be of this level and to have no fewer datoms than the index.
-fn is_open(store: &[u8], extent: Extent, c: usize, level: usize, index: u64, page: PageId) -> bool
+fn open_one(
+    store: &[u8],
+    extent: Extent,
+    c: usize,
+    level: usize,
+    index: u64,
+    page: PageId,
+) -> PageOpening
     requires { ⌜ (badStore extent (now store) ≡ false) × (c ≡ capacity (extent .size)) ⌝ }
-    ensures { λ r. ⌜ r ≡ isOpen index (atLevel level (fetchPage eavt extent (now (store .entry)) page)) ⌝ }
+    ensures { λ r. ⌜ r ≡ openOf index (atLevel level (fetchPage eavt extent (now (store .entry)) page)) ⌝ }
 {
-    let Opened::Node(k) = found::open_at(store, extent, c, level, page) else {
-        return false;
-    };
-    index <= k as u64
+    match found::open_at(store, extent, c, level, page) {
+        Opened::Faulty(fault) => PageOpening::Shut(fault),
+        Opened::Node(k) => {
+            if index <= k as u64 {
+                return PageOpening::Open;
+            }
+            PageOpening::Shut(Fault::PastCount)
+        }
+    }
 }
 
 // The first page from the top that is not open.
@@ -39,8 +59,9 @@ pub fn open_all(store: &[u8], extent: Extent, c: usize, cursor: Cursor) -> Openi
     while 0 < level {
         level -= 1;
         let page = cursor.begin_pages[level];
-        if !is_open(store, extent, c, level, cursor.begin_indices[level], page) {
-            return Opening::Damaged(page);
+        let index = cursor.begin_indices[level];
+        if let PageOpening::Shut(fault) = open_one(store, extent, c, level, index, page) {
+            return Opening::Damaged(page, fault);
         }
     }
     Opening::Open

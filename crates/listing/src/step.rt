@@ -11,6 +11,7 @@ use crate::opening::Opening;
 use crate::way;
 use crate::way::Way;
 use answer::Cursor;
+use answer::Fault;
 use answer::NextMidpoint;
 use answer::Refusal;
 use answer::Step;
@@ -56,7 +57,7 @@ fn advance(store: &[u8], extent: Extent, c: usize, level: usize, begin: Way) -> 
         };
     }
     let NextMidpoint::Child(child) = access::next_midpoint(part, c, count, i + 1) else {
-        return descent::lost_at(PageId::max());
+        return descent::lost_at(PageId::max(), Fault::Missing);
     };
     descent::descend(store, extent, c, Seek::First, level - 1, child, next)
 }
@@ -97,8 +98,8 @@ fn yield_at(
     let d = advance(store, extent, c, level, Way { indices, pages });
     let bottom = d.end;
     let next = d.way;
-    if let End::Lost(page) = bottom {
-        return refused(cursor, Refusal::Damaged(page));
+    if let End::Lost(page, fault) = bottom {
+        return refused(cursor, Refusal::Damaged(page, fault));
     }
     let end = Way {
         indices: end_indices,
@@ -116,12 +117,12 @@ fn step_on(store: &[u8], extent: Extent, cursor: Cursor) -> Stepped
     ensures { λ r. ⌜ r ≡ onward (eavt .cmp) (fetchPage eavt extent (now (store .entry))) cursor (openFrames (fetchPage eavt extent (now (store .entry))) (beginFrames cursor)) ⌝ }
 {
     let c = store::capacity_of(extent.size);
-    if let Opening::Damaged(page) = opening::open_all(store, extent, c, cursor) {
-        return refused(cursor, Refusal::Damaged(page));
+    if let Opening::Damaged(page, fault) = opening::open_all(store, extent, c, cursor) {
+        return refused(cursor, Refusal::Damaged(page, fault));
     }
     match candidate::smallest(store, extent, c, cursor) {
-        Candidate::Nothing => refused(cursor, Refusal::Damaged(PageId::max())),
-        Candidate::Twice(page) => refused(cursor, Refusal::Damaged(page)),
+        Candidate::Nothing => refused(cursor, Refusal::Damaged(PageId::max(), Fault::NothingLeft)),
+        Candidate::Twice(page) => refused(cursor, Refusal::Damaged(page, Fault::EqualDatoms)),
         Candidate::At { level, datom } => yield_at(store, extent, c, cursor, level, datom),
     }
 }
@@ -134,7 +135,7 @@ pub fn step(store: &[u8], extent: Extent, cursor: Cursor) -> Stepped
         return refused(cursor, Refusal::BadStore);
     }
     if (way::LEVELS as u64) < cursor.height {
-        return refused(cursor, Refusal::Damaged(PageId::max()));
+        return refused(cursor, Refusal::Damaged(PageId::max(), Fault::TooHigh));
     }
     if way::is_at_end(cursor) {
         return ended(cursor);

@@ -17,6 +17,7 @@ use Rattle.datom.specs.Datom.{datomAt, datomOf, datomsOf}
 use Rattle.datom.specs.Laws.{datoms-from}
 use Rattle.index.specs.Order.{DatomOrd, isLess, isSame}
 use Rattle.index.specs.Laws.{Preorder}
+use Rattle.answer.specs.declared.Fault.{Fault}
 use Rattle.answer.specs.declared.NextMidpoint.the-variants.{Child}
 use Rattle.rules.specs.Page.{rising}
 use Rattle.rules.specs.Node.{rankBy, rank, headSame}
@@ -120,8 +121,8 @@ module _ (t : DatomOrd) (x : Extent) (s : List ℕ) (d : Datom) (h : ℕ) (top :
   pub met-leaves : Leaves t x s d h top Met g
   met-leaves e = absurd (apart (cc))
 
-  pub lost-leaves : (p : PageId) → Leaves t x s d h top (Lost p) g
-  lost-leaves p e = absurd (apart (cc))
+  pub lost-leaves : (p : PageId) (f : Fault) → Leaves t x s d h top (Lost p f) g
+  lost-leaves p f e = absurd (apart (cc))
 
 -- the gap, with a page p of k datoms that the path of d has come to
 abbrev pub gapIn : DatomOrd → Extent → List ℕ → Datom → Gap → PageId → ℕ → Gap

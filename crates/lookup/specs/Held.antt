@@ -9,6 +9,7 @@ use Rattle.store.specs.Laws.{apart}
 use Rattle.store.specs.Cells.{cells-end}
 use Rattle.datom.specs.declared.Datom.{Datom}
 use Rattle.datom.specs.Datom.{datomOf, datomsOf}
+use Rattle.answer.specs.declared.Fault.{Fault}
 use Rattle.answer.specs.declared.Refusal.the-variants.{Damaged, NotHeld}
 use Rattle.rules.specs.Tree.{Fetched, Env}
 use Rattle.rules.specs.Lookup as rules
@@ -31,11 +32,11 @@ module _ (i : ℕ) (q : rules.Finding) where
   after-absent (rules.absent p) h = refl
   after-absent (rules.lost p f) h = absurd (apart (cc))
 
-  after-lost : (c : PageId) (o : rules.Look) → Lost c ≡ lookOf o → afterHeld i o q ≡ found (Damaged c)
+  after-lost : (c : PageId) (g : Fault) (o : rules.Look) → Lost c g ≡ lookOf o → afterHeld i o q ≡ found (Damaged c g)
   unfolding afterHeld lookOf
-  after-lost c (rules.met p j) h = absurd (apart (cc))
-  after-lost c (rules.absent p) h = absurd (apart (cc))
-  after-lost c (rules.lost p f) h = let k : c ≡ p = cc in rw k
+  after-lost c g (rules.met p j) h = absurd (apart (cc))
+  after-lost c g (rules.absent p) h = absurd (apart (cc))
+  after-lost c g (rules.lost p f) h = let k : c ≡ p = cc in let m : g ≡ f = cc in rw (k, m)
 
 module _ (e : Env) (l : ℕ) (root : PageId) (r : Fetched) (i : ℕ) where
   module _ {ds : List Datom} {d : Datom} {rest : List Datom} (at : ds ≡ d ∷ rest) where
@@ -47,9 +48,9 @@ module _ (e : Env) (l : ℕ) (root : PageId) (r : Fetched) (i : ℕ) where
     unfolding heldAll
     held-absent h = rw (at, heldAll) (after-absent i _ (lookup e d l root r) h)
 
-    pub held-lost : (c : PageId) → Lost c ≡ lookOf (lookup e d l root r) → heldAll e l root r i ds ≡ found (Damaged c)
+    pub held-lost : (c : PageId) (f : Fault) → Lost c f ≡ lookOf (lookup e d l root r) → heldAll e l root r i ds ≡ found (Damaged c f)
     unfolding heldAll
-    held-lost c h = rw (at, heldAll) (after-lost i _ c (lookup e d l root r) h)
+    held-lost c f h = rw (at, heldAll) (after-lost i _ c f (lookup e d l root r) h)
 
   pub held-end : (n : ℕ) (b : List ℕ) → n ≤ i → heldAll e l root r i (drop i (datomsOf n b)) ≡ clear
   unfolding heldAll

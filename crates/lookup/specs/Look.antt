@@ -14,7 +14,7 @@ use Rattle.lookup.specs.declared.Look.the-variants.{Met, Absent, Lost}
 unfoldable pub lookOf : rules.Look → Look
 lookOf (rules.met p i) = Met
 lookOf (rules.absent p) = Absent
-lookOf (rules.lost p f) = Lost p
+lookOf (rules.lost p f) = Lost p f
 
 -- the path of d from page p, which is to be of level l
 abbrev pub pathOf : DatomOrd → Extent → List ℕ → Datom → ℕ → PageId → rules.Look

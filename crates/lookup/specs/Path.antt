@@ -17,6 +17,8 @@ use Rattle.datom.specs.declared.Datom.{Datom}
 use Rattle.datom.specs.Datom.{datomsOf}
 use Rattle.index.specs.Order.{DatomOrd}
 use Rattle.index.specs.Laws.{Preorder}
+use Rattle.answer.specs.declared.Fault.{Fault}
+use Rattle.answer.specs.declared.Fault.the-variants.{Missing}
 use Rattle.answer.specs.declared.NextMidpoint.{NextMidpoint}
 use Rattle.answer.specs.declared.NextMidpoint.the-variants.{Child, Nothing}
 use Rattle.rules.specs.Page.{childrenOf}
@@ -127,12 +129,12 @@ module _ {t : DatomOrd} {x : Extent} {s : List ℕ} {d : Datom} {h : ℕ} {top :
       going-free L z = free-at L (g .alike) k (g .read) z
 
       module _ (up : l ≡ 0 → ⊥) where
-        pub going-stuck : x .count ≤ none .0 → nextIn t x s d p k ≡ Nothing → Lost none ≡ lookOf (pathOf t x s d h top)
+        pub going-stuck : x .count ≤ none .0 → nextIn t x s d p k ≡ Nothing → Lost none Missing ≡ lookOf (pathOf t x s d h top)
         going-stuck few next = way-stuck t x s d p l k (g .read) other up few next ∙ ap lookOf (g .rest)
 
         module _ {c : PageId} (next : nextIn t x s d p k ≡ Child c) where
-          pub going-lost : opened.Damaged ≡ openedOf (fetchAt (envOf t x s) (l - 1) c) → Lost c ≡ lookOf (pathOf t x s d h top)
-          going-lost e = way-lost t x s d p l k (g .read) other up c next e ∙ ap lookOf (g .rest)
+          pub going-lost : {f : Fault} → opened.Faulty f ≡ openedOf (fetchAt (envOf t x s) (l - 1) c) → Lost c f ≡ lookOf (pathOf t x s d h top)
+          going-lost {f} e = way-lost t x s d p l k (g .read) other up c next f e ∙ ap lookOf (g .rest)
 
           pub going-down :
               Preorder (t .cmp) → {n : ℕ} → opened.Node n ≡ openedOf (fetchAt (envOf t x s) (l - 1) c) → l - 1 < 8 →

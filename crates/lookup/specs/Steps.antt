@@ -17,6 +17,7 @@ use Rattle.datom.specs.Datom.{datomAt, datomOf, datomsOf}
 use Rattle.datom.specs.Laws.{datoms-from}
 use Rattle.index.specs.Order.{DatomOrd, isSame}
 use Rattle.answer.specs.declared.Fault.{Fault}
+use Rattle.answer.specs.declared.Fault.the-variants.{Missing}
 use Rattle.answer.specs.declared.Refusal.the-variants.{Repeated, Damaged}
 use Rattle.answer.specs.declared.NextMidpoint.{NextMidpoint}
 use Rattle.answer.specs.declared.NextMidpoint.the-variants.{Child, Nothing}
@@ -30,7 +31,7 @@ use Rattle.memory_store.specs.FetchLaws.{none-missing}
 use Rattle.memory_store.specs.Readable.{nodeAt}
 use Rattle.lookup.specs.declared.Look.the-variants.{Met, Absent, Lost}
 use Rattle.memory_store.specs.declared.found.Opened.the-variants as opened
-use Rattle.memory_store.specs.Opened.{openedOf, at-level, damaged-faulty}
+use Rattle.memory_store.specs.Opened.{openedOf, at-level, opened-faulty}
 use Rattle.lookup.specs.Look.{lookOf, pathOf}
 
 -- the equal datom at an index, and past the end
@@ -44,16 +45,17 @@ module _ (cmp : Datom → Datom → Ordering) (d : Datom) (n i : ℕ) (s : List 
   same-at h = rw (datoms-from n i s h)
 
 -- a path that cannot go on
-lost-faulty : (e : Env) (d : Datom) (l : ℕ) (p : PageId) (f : Fault) → lookOf (lookup e d l p (faulty f)) ≡ Lost p
+lost-faulty : (e : Env) (d : Datom) (l : ℕ) (p : PageId) (f : Fault) → lookOf (lookup e d l p (faulty f)) ≡ Lost p f
 unfolding lookup lookOf
 lost-faulty e d zero p f = refl
 lost-faulty e d (suc l) p f = refl
 
-lost-at : (e : Env) (d : Datom) (l : ℕ) (p : PageId) (r : Fetched) → opened.Damaged ≡ openedOf r → lookOf (lookup e d l p r) ≡ Lost p
-lost-at e d l p r h = let w = damaged-faulty r h in rw (w .1) (lost-faulty e d l p (w .0))
+lost-at :
+    (e : Env) (d : Datom) (l : ℕ) (p : PageId) (f : Fault) (r : Fetched) → opened.Faulty f ≡ openedOf r → lookOf (lookup e d l p r) ≡ Lost p f
+lost-at e d l p f r h = rw (opened-faulty f r h) (lost-faulty e d l p f)
 
 -- "none" is no page
-none-lost : (t : DatomOrd) (x : Extent) (s : List ℕ) (l : ℕ) → x .count ≤ none .0 → opened.Damaged ≡ openedOf (fetchAt (envOf t x s) l none)
+none-lost : (t : DatomOrd) (x : Extent) (s : List ℕ) (l : ℕ) → x .count ≤ none .0 → opened.Faulty Missing ≡ openedOf (fetchAt (envOf t x s) l none)
 unfolding openedOf fetchAt atLevel envOf
 none-lost t x s l h = rw (none-missing t x s h)
 
@@ -101,12 +103,12 @@ module _ (t : DatomOrd) (x : Extent) (s : List ℕ) (d : Datom) (p : PageId) (l 
           let e : l ≡ suc (l - 1) = omega arith in
           rw read (ap (λ (m : ℕ). lookup (envOf t x s) d m p (fine (nodeAt x s p l k))) e ∙ down-at c next (l - 1))
 
-      pub way-stuck : x .count ≤ none .0 → nextIn t x s d p k ≡ Nothing → Lost none ≡ lookOf (pathOf t x s d l p)
-      way-stuck h next = rw (down none (ap rules.childOf next)) (sym (lost-at _ d (l - 1) none _ (none-lost t x s (l - 1) h)))
+      pub way-stuck : x .count ≤ none .0 → nextIn t x s d p k ≡ Nothing → Lost none Missing ≡ lookOf (pathOf t x s d l p)
+      way-stuck h next = rw (down none (ap rules.childOf next)) (sym (lost-at _ d (l - 1) none Missing _ (none-lost t x s (l - 1) h)))
 
       module _ (c : PageId) (next : nextIn t x s d p k ≡ Child c) where
-        pub way-lost : opened.Damaged ≡ openedOf (fetchAt (envOf t x s) (l - 1) c) → Lost c ≡ lookOf (pathOf t x s d l p)
-        way-lost h = rw (down c (ap rules.childOf next)) (sym (lost-at _ d (l - 1) c _ h))
+        pub way-lost : (f : Fault) → opened.Faulty f ≡ openedOf (fetchAt (envOf t x s) (l - 1) c) → Lost c f ≡ lookOf (pathOf t x s d l p)
+        way-lost f h = rw (down c (ap rules.childOf next)) (sym (lost-at _ d (l - 1) c f _ h))
 
         pub way-down : (n : ℕ) → fetchPage t x s c ≡ fine (nodeAt x s c (l - 1) n) → pathOf t x s d (l - 1) c ≡ pathOf t x s d l p
         way-down n h = sym (down c (ap rules.childOf next) ∙ ap (lookup (envOf t x s) d (l - 1) c) (at-level t x s c (l - 1) n h))
@@ -135,11 +137,11 @@ module _ (i : ℕ) (q : rules.Finding) where
   after-absent (rules.absent p) h = refl
   after-absent (rules.lost p f) h = absurd (apart (cc))
 
-  after-lost : (c : PageId) (o : rules.Look) → Lost c ≡ lookOf o → afterLook i o q ≡ found (Damaged c)
+  after-lost : (c : PageId) (g : Fault) (o : rules.Look) → Lost c g ≡ lookOf o → afterLook i o q ≡ found (Damaged c g)
   unfolding afterLook lookOf
-  after-lost c (rules.met p j) h = absurd (apart (cc))
-  after-lost c (rules.absent p) h = absurd (apart (cc))
-  after-lost c (rules.lost p f) h = let k : c ≡ p = cc in rw k
+  after-lost c g (rules.met p j) h = absurd (apart (cc))
+  after-lost c g (rules.absent p) h = absurd (apart (cc))
+  after-lost c g (rules.lost p f) h = let k : c ≡ p = cc in let m : g ≡ f = cc in rw (k, m)
 
 -- one datom of a batch
 module _ (e : Env) (l : ℕ) (root : PageId) (r : Fetched) (i : ℕ) where
@@ -152,9 +154,9 @@ module _ (e : Env) (l : ℕ) (root : PageId) (r : Fetched) (i : ℕ) where
     unfolding lookupAll
     all-on h = rw (at, lookupAll, add-one) (after-absent i _ (lookup e d l root r) h)
 
-    pub all-lost : (c : PageId) → Lost c ≡ lookOf (lookup e d l root r) → lookupAll e l root r i ds ≡ found (Damaged c)
+    pub all-lost : (c : PageId) (f : Fault) → Lost c f ≡ lookOf (lookup e d l root r) → lookupAll e l root r i ds ≡ found (Damaged c f)
     unfolding lookupAll
-    all-lost c h = rw (at, lookupAll) (after-lost i _ c (lookup e d l root r) h)
+    all-lost c f h = rw (at, lookupAll) (after-lost i _ c f (lookup e d l root r) h)
 
   pub all-end : (n : ℕ) (b : List ℕ) → n ≤ i → lookupAll e l root r i (drop i (datomsOf n b)) ≡ clear
   unfolding lookupAll

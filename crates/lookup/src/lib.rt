@@ -3,6 +3,7 @@
 pub mod gap;
 
 use crate::gap::Gap;
+use answer::Fault;
 use answer::NextMidpoint;
 use answer::Refusal;
 use batch::Finding;
@@ -38,7 +39,7 @@ ghost use Rattle.lookup.specs.Gap.{Leaves};
 enum Look {
     Met,
     Absent,
-    Lost(PageId),
+    Lost(PageId, Fault),
 }
 
 // What was read on the last path, by level, so that no page is read again for the datom that comes next: the page, none where nothing
@@ -134,23 +135,27 @@ fn lookup_one(
         }
         let NextMidpoint::Child(child) = access::next_midpoint(part, c, k, i) else {
             return Looked {
-                look: Look::Lost(PageId::max()),
+                look: Look::Lost(PageId::max(), Fault::Missing),
                 path,
                 gap,
             };
         };
         l -= 1;
-        let Opened::Node(n) = open_at(store, extent, c, path, l, child) else {
-            return Looked {
-                look: Look::Lost(child),
-                path,
-                gap,
-            };
-        };
-        path.pages[l] = child;
-        path.counts[l] = n;
-        page = child;
-        k = n;
+        match open_at(store, extent, c, path, l, child) {
+            Opened::Node(n) => {
+                path.pages[l] = child;
+                path.counts[l] = n;
+                page = child;
+                k = n;
+            }
+            Opened::Faulty(fault) => {
+                return Looked {
+                    look: Look::Lost(child, fault),
+                    path,
+                    gap,
+                };
+            }
+        }
     }
 }
 
@@ -184,8 +189,8 @@ pub fn lookup_all(
                 path = looked.path;
                 i = gap::skip(gap, b, n, i + 1);
             }
-            Look::Lost(page) => {
-                return Finding::Found(Refusal::Damaged(page));
+            Look::Lost(page, fault) => {
+                return Finding::Found(Refusal::Damaged(page, fault));
             }
         }
     }
@@ -221,8 +226,8 @@ pub fn held_all(
             Look::Absent => {
                 return Finding::Found(Refusal::NotHeld(i));
             }
-            Look::Lost(page) => {
-                return Finding::Found(Refusal::Damaged(page));
+            Look::Lost(page, fault) => {
+                return Finding::Found(Refusal::Damaged(page, fault));
             }
         }
     }

@@ -18,10 +18,10 @@ pub enum Found {
     Fine { level: usize, count: usize },
 }
 
-// How many datoms a page of the level that was asked for has.
+// How many datoms a page of the level that was asked for has, or what is wrong with it.
 pub enum Opened {
     Node(usize),
-    Damaged,
+    Faulty(Fault),
 }
 
 // Page `page` of a store in order, whose pages hold c datoms.
@@ -44,11 +44,13 @@ pub fn open_at(store: &[u8], extent: Extent, c: usize, level: usize, page: PageI
     requires { ⌜ (badStore extent (now store) ≡ false) × (c ≡ capacity (extent .size)) ⌝ }
     ensures { λ r. ⌜ r ≡ openedOf (fetchAt (envOf eavt extent (now (store .entry))) level page) ⌝ }
 {
-    let Found::Fine { level: l, count: k } = node_at(store, extent, c, page) else {
-        return Opened::Damaged;
-    };
-    if l != level {
-        return Opened::Damaged;
+    match node_at(store, extent, c, page) {
+        Found::Faulty(fault) => Opened::Faulty(fault),
+        Found::Fine { level: l, count: k } => {
+            if l != level {
+                return Opened::Faulty(Fault::WrongLevel);
+            }
+            Opened::Node(k)
+        }
     }
-    Opened::Node(k)
 }

@@ -11,6 +11,8 @@ use Rattle.store.specs.Page.{page, none}
 use Rattle.datom.specs.declared.Datom.{Datom}
 use Rattle.datom.specs.Datom.{datomsBytes}
 use Rattle.index.specs.Order.{eavt}
+use Rattle.answer.specs.declared.Rule.the-variants.{Level, Count, Form, Order, LeafChild, LastChild, ChildId}
+use Rattle.answer.specs.declared.Fault.the-variants.{Breaks, Missing, WrongLevel, EqualDatoms, OutOfBounds, PastCount, TooHigh, NothingLeft}
 use Rattle.answer.specs.declared.Refusal.the-variants.{BadStore, TooMany, BadDatom, OutOfOrder, NoPage, Repeated, Damaged, TooTall, NoRoom, BadBound, NotHeld}
 use Rattle.answer.specs.declared.Answer.{Answer}
 use Rattle.answer.specs.declared.Answer.the-variants.{Done, Refused}
@@ -21,6 +23,8 @@ use Rattle.answer.specs.declared.Step.the-variants as step
 use Rattle.answer.specs.declared.Stepped.{Stepped}
 use Rattle.answer.specs.declared.Check.{Check}
 use Rattle.answer.specs.declared.Check.the-variants.{Sound, Unsound}
+use Rattle.answer.specs.Names.{faultNumber, faults}
+use Rattle.answer.specs.Table.{namedAnswer, stepWords, checkWords}
 use Rattle.rules.specs.Page.{Node}
 use Rattle.rules.specs.Tree.{stop, put}
 use Rattle.rules.specs.Store.{badStore, envOf, storeAfter}
@@ -28,7 +32,8 @@ use Rattle.rules.specs.Insert.{Outcome, leafOf, insert, initialise, insertBytes
 use Rattle.rules.specs.Listing.{eight, Listed, whole, cut, startList, stepList, listing}
 use Rattle.rules.specs.Check.{checkTree}
 use Rattle.rules.specs.Held.{heldBytes}
-use Rattle.rules.specs.Table.{d, run, scratch, Place, went, calls}
+use Rattle.rules.specs.Entry.{insertReply, insertNamedReply}
+use Rattle.rules.specs.Table.{d, run, scratch, Place, went, calls, small}
 use Rattle.rules.specs.Open.{rules}
 
 -- a datom with entity and attribute 0
@@ -80,20 +85,20 @@ unfolding rules
 stores-no-max = refl
 
 -- 4: a page that is not readable
-level-damaged : inserted (poked c 760 8) (page 2) [] ≡ Refused (Damaged (page 2))
+level-damaged : inserted (poked c 760 8) (page 2) [] ≡ Refused (Damaged (page 2) (Breaks Level))
 unfolding rules
 level-damaged = refl
 
-level-unsound : checked (poked c 760 8) (page 2) ≡ Unsound (page 2)
+level-unsound : checked (poked c 760 8) (page 2) ≡ Unsound (page 2) (Breaks Level)
 unfolding rules
 level-unsound = refl
 
-order-damaged : listed (poked c 0 9) (page 2) (d 0) (d 99) ≡ cut (Damaged (page 0)) []
+order-damaged : listed (poked c 0 9) (page 2) (d 0) (d 99) ≡ cut (Damaged (page 0) (Breaks Order)) []
 unfolding rules
 order-damaged = refl
 
 -- its last child is page 9: the page that names it is at fault
-child-unsound : checked (poked c 712 9) (page 2) ≡ Unsound (page 2)
+child-unsound : checked (poked c 712 9) (page 2) ≡ Unsound (page 2) (Breaks ChildId)
 unfolding rules
 child-unsound = refl
 
@@ -165,15 +170,15 @@ many-inserted = refl
 abbrev crossed : Place
 crossed = poked (went (c .extent) (c .store) none (insert eavt (c .extent) (c .store) scratch none (run 20 7))) 1472 2
 
-level-lost : inserted crossed (page 5) (d 7 ∷ []) ≡ Refused (Damaged (page 2))
+level-lost : inserted crossed (page 5) (d 7 ∷ []) ≡ Refused (Damaged (page 2) WrongLevel)
 unfolding rules
 level-lost = refl
 
-level-unlisted : listed crossed (page 5) (d 0) (d 20) ≡ cut (Damaged (page 2)) []
+level-unlisted : listed crossed (page 5) (d 0) (d 20) ≡ cut (Damaged (page 2) WrongLevel) []
 unfolding rules
 level-unlisted = refl
 
-level-wrong : checked crossed (page 5) ≡ Unsound (page 2)
+level-wrong : checked crossed (page 5) ≡ Unsound (page 2) WrongLevel
 unfolding rules
 level-wrong = refl
 
@@ -241,7 +246,7 @@ twice-sound : checked twice (page 3) ≡ Sound
 unfolding rules
 twice-sound = refl
 
-twice-listed : listed twice (page 3) (d 0) (d 7) ≡ cut (Damaged (page 3)) []
+twice-listed : listed twice (page 3) (d 0) (d 7) ≡ cut (Damaged (page 3) EqualDatoms) []
 unfolding rules
 twice-listed = refl
 
@@ -249,12 +254,12 @@ twice-listed = refl
 abbrev beside : ℕ → Datom
 beside k = record { entity = record { 0 = 0 }; attribute = record { 0 = 2 }; value = record { 0 = k }; «transaction_operation» = record { 0 = 3 } }
 
-twice-merged : inserted twice (page 3) (beside 0 ∷ beside 1 ∷ beside 2 ∷ beside 3 ∷ beside 4 ∷ []) ≡ Refused (Damaged (page 0))
+twice-merged : inserted twice (page 3) (beside 0 ∷ beside 1 ∷ beside 2 ∷ beside 3 ∷ beside 4 ∷ []) ≡ Refused (Damaged (page 0) EqualDatoms)
 unfolding rules
 twice-merged = refl
 
 -- 16: page 3 does not rise, and page 0 below it stands outside its bounds
-unreadable-first : checked (poked (poked (calls (run 0 7) (run 7 2 ∷ [])) 832 1) 64 9) (page 3) ≡ Unsound (page 3)
+unreadable-first : checked (poked (poked (calls (run 0 7) (run 7 2 ∷ [])) 832 1) 64 9) (page 3) ≡ Unsound (page 3) (Breaks Order)
 unfolding rules
 unreadable-first = refl
 
@@ -269,7 +274,7 @@ full-before-damaged : spread 1024 ≡ record { answer = Refused NoRoom; pages = 
 unfolding rules
 full-before-damaged = refl
 
-damaged-after-writing : spread 2048 ≡ record { answer = Refused (Damaged (page 0)); pages = leafOf (run 4 5) ∷ leafOf (run 10 4) ∷ [] }
+damaged-after-writing : spread 2048 ≡ record { answer = Refused (Damaged (page 0) EqualDatoms); pages = leafOf (run 4 5) ∷ leafOf (run 10 4) ∷ [] }
 unfolding rules
 damaged-after-writing = refl
 
@@ -305,7 +310,7 @@ unfolding rules
 least-of-three = refl
 
 -- past d3 they meet: "the first equal pair is Damaged, naming the page of the higher level"
-equal-pair : steps (cursor 3 (indices 0 1 0) (pages 0 1 2)) ≡ record { answer = step.Refused (Damaged (page 2)); cursor = cursor 3 (indices 0 1 0) (pages 0 1 2) }
+equal-pair : steps (cursor 3 (indices 0 1 0) (pages 0 1 2)) ≡ record { answer = step.Refused (Damaged (page 2) EqualDatoms); cursor = cursor 3 (indices 0 1 0) (pages 0 1 2) }
 unfolding rules
 equal-pair = refl
 
@@ -325,7 +330,7 @@ unfolding rules
 zeros-past = refl
 
 -- "a height over 8 (Damaged, id none), then the end": nine is refused, though no index differs
-over-eight : steps (cursor 9 (indices 1 1 1) (pages 0 1 2)) .answer ≡ step.Refused (Damaged none)
+over-eight : steps (cursor 9 (indices 1 1 1) (pages 0 1 2)) .answer ≡ step.Refused (Damaged none TooHigh)
 unfolding rules
 over-eight = refl
 
@@ -339,15 +344,15 @@ unfolding rules
 ends-flat = refl
 
 -- "then the begin pages from the top": page 9 is missing, page 0 has another level, index 2 lies past one datom
-page-missing : steps (cursor 3 (indices 0 0 0) (pages 9 9 2)) .answer ≡ step.Refused (Damaged (page 9))
+page-missing : steps (cursor 3 (indices 0 0 0) (pages 9 9 2)) .answer ≡ step.Refused (Damaged (page 9) Missing)
 unfolding rules
 page-missing = refl
 
-page-level : steps (cursor 3 (indices 0 0 0) (pages 9 0 2)) .answer ≡ step.Refused (Damaged (page 0))
+page-level : steps (cursor 3 (indices 0 0 0) (pages 9 0 2)) .answer ≡ step.Refused (Damaged (page 0) WrongLevel)
 unfolding rules
 page-level = refl
 
-index-past : steps (cursor 3 (indices 0 0 2) (pages 9 9 2)) .answer ≡ step.Refused (Damaged (page 2))
+index-past : steps (cursor 3 (indices 0 0 2) (pages 9 9 2)) .answer ≡ step.Refused (Damaged (page 2) PastCount)
 unfolding rules
 index-past = refl
 
@@ -359,7 +364,7 @@ nothing-left :
       «begin_pages» = pages 0 0 0;
       «end_indices» = indices 0 0 0;
       «end_pages» = pages 0 0 0;
-    }) .answer ≡ step.Refused (Damaged none)
+    }) .answer ≡ step.Refused (Damaged none NothingLeft)
 unfolding rules
 nothing-left = refl
 
@@ -404,7 +409,7 @@ repeated-before-damaged : inserted (poked c 505 7) (page 2) (d 0 ∷ d 8 ∷ [])
 unfolding rules
 repeated-before-damaged = refl
 
-damaged-before-repeated : inserted (poked c 249 7) (page 2) (valued 0 ∷ d 6 ∷ []) ≡ Refused (Damaged (page 0))
+damaged-before-repeated : inserted (poked c 249 7) (page 2) (valued 0 ∷ d 6 ∷ []) ≡ Refused (Damaged (page 0) (Breaks Count))
 unfolding rules
 damaged-before-repeated = refl
 
@@ -450,10 +455,78 @@ absent-before-damaged : asked (poked c 505 7) (page 2) (d 0 ∷ keyed ∷ d 4 �
 unfolding rules
 absent-before-damaged = refl
 
-damaged-before-absent : asked (poked c 505 7) (page 2) (d 0 ∷ d 4 ∷ d 9 ∷ []) ≡ held.Refused (Damaged (page 1))
+damaged-before-absent : asked (poked c 505 7) (page 2) (d 0 ∷ d 4 ∷ d 9 ∷ []) ≡ held.Refused (Damaged (page 1) (Breaks Count))
 unfolding rules
 damaged-before-absent = refl
 
-root-damaged : asked (poked c 760 8) (page 2) (d 0 ∷ []) ≡ held.Refused (Damaged (page 2))
+root-damaged : asked (poked c 760 8) (page 2) (d 0 ∷ []) ≡ held.Refused (Damaged (page 2) (Breaks Level))
 unfolding rules
 root-damaged = refl
+
+-- 19, document 02, One: the names that no case above shows. Page 0 has a datom of tag 01; page 0 of c has a child; page 3 ends without a
+-- child; page 1 begins below the midpoint before it
+form-unsound : checked (poked (calls (run 0 1) []) 23 64) (page 0) ≡ Unsound (page 0) (Breaks Form)
+unfolding rules
+form-unsound = refl
+
+leaf-unsound : checked (poked c 192 0) (page 2) ≡ Unsound (page 0) (Breaks LeafChild)
+unfolding rules
+leaf-unsound = refl
+
+abbrev headless : Place
+headless =
+    record {
+      extent = record { size = 256; count = 4 };
+      store = storeAfter (c .extent) (c .store) (record { level = 1; datoms = run 3 1; children = page 0 ∷ none ∷ [] } ∷ []);
+      root = page 3;
+      answer = Done (page 3) 1;
+    }
+
+last-unsound : checked headless (page 3) ≡ Unsound (page 3) (Breaks LastChild)
+unfolding rules
+last-unsound = refl
+
+bounds-unsound : checked (poked c 256 1) (page 2) ≡ Unsound (page 1) OutOfBounds
+unfolding rules
+bounds-unsound = refl
+
+-- a page is read before its level is asked: page 2 under page 5 is of the wrong level, and has too many datoms
+unreadable-before-level : checked (poked crossed 761 7) (page 5) ≡ Unsound (page 2) (Breaks Count)
+unfolding rules
+unreadable-before-level = refl
+
+-- the third word, of a check, of a step and of an insert that tells the fault
+abbrev toldBy : Place → PageId → ℕ
+toldBy p root = checkWords root (checked p root) .pages
+
+abbrev stepTold : Cursor → ℕ
+stepTold k = stepWords (steps k .answer) .pages
+
+-- each of the fourteen is told, by its number
+each-told :
+    (toldBy (poked c 760 8) (page 2) ∷ toldBy (poked c 761 7) (page 2) ∷ toldBy (poked c 23 64) (page 2) ∷ toldBy (poked c 0 9) (page 2)
+    ∷ toldBy (poked c 192 0) (page 2) ∷ toldBy headless (page 3) ∷ toldBy (poked c 712 9) (page 2)
+    ∷ stepTold (cursor 3 (indices 0 0 0) (pages 9 9 2)) ∷ toldBy crossed (page 5)
+    ∷ namedAnswer (page 3) (inserted twice (page 3) (beside 0 ∷ beside 1 ∷ beside 2 ∷ beside 3 ∷ beside 4 ∷ [])) .pages
+    ∷ toldBy (poked c 256 1) (page 2) ∷ stepTold (cursor 3 (indices 0 0 2) (pages 9 9 2)) ∷ stepTold (cursor 9 (indices 1 1 1) (pages 0 1 2))
+    ∷ stepTold (record {
+      height = 1;
+      «begin_indices» = indices 1 0 0;
+      «begin_pages» = pages 0 0 0;
+      «end_indices» = indices 0 0 0;
+      «end_pages» = pages 0 0 0;
+    }) ∷ [])
+    ≡ map faultNumber faults
+unfolding rules
+each-told = refl
+
+-- "the replicator's four words stay": 7, the given root, no pages, page 2; and the insert that tells the fault says Level, 1
+words-stay :
+    insertReply eavt (c .extent) (set (c .store) 760 8) scratch (page 2) [] (zeros 32) .area ≡ small 7 ++ (small 2 ++ (small 0 ++ small 2))
+unfolding rules
+words-stay = refl
+
+words-named :
+    insertNamedReply eavt (c .extent) (set (c .store) 760 8) scratch (page 2) [] (zeros 32) .area ≡ small 7 ++ (small 2 ++ (small 1 ++ small 2))
+unfolding rules
+words-named = refl

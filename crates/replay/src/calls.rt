@@ -1,4 +1,5 @@
 // A record's call, made again, and its answer against the recorded one.
+use crate::names;
 use crate::record;
 use crate::tally;
 use store::Extent;
@@ -35,6 +36,8 @@ const POKE: u64 = 6;
 
 const END: u64 = 7;
 
+const NAMED: u64 = 8;
+
 // Both oracles gave the answer.
 const BOTH: u64 = 3;
 
@@ -68,7 +71,7 @@ fn after(
     at: usize,
     area: &[u8; 32],
     place: usize,
-    counts: &mut [u64; 13],
+    counts: &mut [u64; 14],
 ) -> Extent
     requires { ⌜ at ≤ 600 ⌝ }
 {
@@ -87,7 +90,7 @@ fn initialise(
     scratch: &mut [u8],
     extent: Extent,
     recorded: &[u8],
-    counts: &mut [u64; 13],
+    counts: &mut [u64; 14],
 ) -> Extent {
     let mut area = [0u8; 32];
     let n = record::word(recorded, 2) % 129;
@@ -116,7 +119,7 @@ fn insert(
     scratch: &mut [u8],
     extent: Extent,
     recorded: &[u8],
-    counts: &mut [u64; 13],
+    counts: &mut [u64; 14],
 ) -> Extent {
     let mut area = [0u8; 32];
     let root = record::word(recorded, 2);
@@ -192,7 +195,7 @@ fn is_listed(store: &[u8], extent: Extent, cursor: &mut [u8; 264], recorded: &[u
     next_datom(store, extent, cursor, &mut datom) == 32
 }
 
-fn list(store: &[u8], extent: Extent, recorded: &[u8], counts: &mut [u64; 13]) {
+fn list(store: &[u8], extent: Extent, recorded: &[u8], counts: &mut [u64; 14]) {
     let mut area = [0u8; 32];
     let mut cursor = [0u8; 264];
     let number = florinwick::list::florinwick_list_start(
@@ -216,7 +219,7 @@ fn list(store: &[u8], extent: Extent, recorded: &[u8], counts: &mut [u64; 13]) {
 }
 
 // Sound is 0 with 0 for its page, Unsound 33 with the page of the first fault.
-fn check(store: &[u8], extent: Extent, recorded: &[u8], counts: &mut [u64; 13]) {
+fn check(store: &[u8], extent: Extent, recorded: &[u8], counts: &mut [u64; 14]) {
     let mut area = [0u8; 32];
     let root = record::word(recorded, 2);
     let number = florinwick::florinwick_check(store, extent.size, extent.count, root, &mut area);
@@ -234,7 +237,7 @@ fn check(store: &[u8], extent: Extent, recorded: &[u8], counts: &mut [u64; 13]) 
 }
 
 // The page of a record goes into the store: damage, or its repair.
-fn poke(store: &mut [u8], extent: Extent, recorded: &[u8], counts: &mut [u64; 13]) {
+fn poke(store: &mut [u8], extent: Extent, recorded: &[u8], counts: &mut [u64; 14]) {
     let at = bytes_of(extent, record::word(recorded, 1));
     let page = record::part(recorded, 16, bytes_of(extent, 1));
     if (store.len() as u64) < at + (page.len() as u64) {
@@ -246,14 +249,14 @@ fn poke(store: &mut [u8], extent: Extent, recorded: &[u8], counts: &mut [u64; 13
 }
 
 // The page count and all pages at the end of a history.
-fn end(store: &[u8], extent: Extent, recorded: &[u8], counts: &mut [u64; 13]) {
+fn end(store: &[u8], extent: Extent, recorded: &[u8], counts: &mut [u64; 14]) {
     let all = record::part(store, 0, bytes_of(extent, extent.count));
     let is_same = extent.count == record::word(recorded, 1)
         && record::digest(0, all) == record::word(recorded, 2);
     tally::settle(counts, is_same, tally::ENDED);
 }
 
-fn begin(recorded: &[u8], counts: &mut [u64; 13]) -> Extent {
+fn begin(recorded: &[u8], counts: &mut [u64; 14]) -> Extent {
     tally::add(counts, tally::HISTORIES, 1);
     Extent {
         size: record::word(recorded, 1),
@@ -262,7 +265,7 @@ fn begin(recorded: &[u8], counts: &mut [u64; 13]) -> Extent {
 }
 
 // Calls that read only, and the bytes that come from outside.
-fn look(store: &mut [u8], extent: Extent, recorded: &[u8], counts: &mut [u64; 13]) {
+fn look(store: &mut [u8], extent: Extent, recorded: &[u8], counts: &mut [u64; 14]) {
     let kind = record::word(recorded, 0);
     if kind == LIST {
         list(store, extent, recorded, counts);
@@ -289,7 +292,7 @@ pub fn replay(
     scratch: &mut [u8],
     extent: Extent,
     recorded: &[u8],
-    counts: &mut [u64; 13],
+    counts: &mut [u64; 14],
 ) -> Extent {
     let kind = record::word(recorded, 0);
     if kind == BEGIN {
@@ -303,6 +306,11 @@ pub fn replay(
     }
     if kind == INSERT {
         return insert(store, scratch, extent, recorded, counts);
+    }
+    if kind == NAMED {
+        let is_same = names::is_answered(store, scratch, extent, recorded);
+        tally::settle(counts, is_same, tally::NAMED);
+        return extent;
     }
     look(store, extent, recorded, counts);
     extent

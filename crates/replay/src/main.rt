@@ -2,6 +2,7 @@
 // come from standard input; docs/ORACLE.md says how they were made and what they hold.
 pub mod calls;
 pub mod examples;
+pub mod names;
 pub mod record;
 pub mod tally;
 
@@ -18,7 +19,7 @@ fn replay_next(
     scratch: &mut [u8],
     recorded: &mut [u8],
     extent: Extent,
-    counts: &mut [u64; 13],
+    counts: &mut [u64; 14],
 ) -> Turn {
     let n = record::next(recorded);
     if n == 0 {
@@ -39,7 +40,7 @@ fn replay_all(
     store: &mut [u8; 1048576],
     scratch: &mut [u8; 332352],
     recorded: &mut [u8; 65536],
-    counts: &mut [u64; 13],
+    counts: &mut [u64; 14],
 ) {
     let mut turns: u64 = 1000000;
     let mut turn = Turn {
@@ -57,7 +58,7 @@ fn main() {
     let mut store = [0u8; 1048576];
     let mut scratch = [0u8; 332352];
     let mut recorded = [0u8; 65536];
-    let mut counts = [0u64; 13];
+    let mut counts = [0u64; 14];
     replay_all(&mut store, &mut scratch, &mut recorded, &mut counts);
     tally::print(&counts);
     examples::run(&mut store, &mut scratch);

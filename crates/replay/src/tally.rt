@@ -26,18 +26,20 @@ pub const DIFFERENT: usize = 11;
 
 pub const HELD: usize = 12;
 
+pub const NAMED: usize = 13;
+
 // How many counts there are.
-pub const PLACES: usize = 13;
+pub const PLACES: usize = 14;
 
 // n more at a place.
-pub fn add(counts: &mut [u64; 13], place: usize, n: u64) {
+pub fn add(counts: &mut [u64; 14], place: usize, n: u64) {
     if place < PLACES {
         counts[place] = std::num::wrapping_add_u64(counts[place], n);
     }
 }
 
 // One more at this place if what was answered is what was recorded, and else one more that differs.
-pub fn settle(counts: &mut [u64; 13], is_same: bool, place: usize) {
+pub fn settle(counts: &mut [u64; 14], is_same: bool, place: usize) {
     if is_same {
         add(counts, place, 1);
     } else {
@@ -50,7 +52,7 @@ pub fn line(n: u64, what: &[u8]) {
     io::write_all(1, what);
 }
 
-pub fn print(counts: &[u64; 13]) {
+pub fn print(counts: &[u64; 14]) {
     line(counts[HISTORIES], b" histories begun\n");
     line(counts[ENDED], b" histories ended with the recorded store\n");
     line(counts[INITIALISED], b" initialise\n");
@@ -68,6 +70,10 @@ pub fn print(counts: &[u64; 13]) {
     line(counts[SOUND], b" checks, Sound\n");
     line(counts[UNSOUND], b" checks, Unsound at the recorded page\n");
     line(counts[POKED], b" pages damaged or repaired\n");
+    line(
+        counts[NAMED],
+        b" answers that may name a fault, all four words, by the model\n",
+    );
     line(
         counts[BY_BOTH],
         b" answers by both oracles, the others by the patched one\n",

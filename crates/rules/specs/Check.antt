@@ -9,6 +9,7 @@ use Rattle.store.specs.declared.Extent.{Extent}
 use Rattle.store.specs.Page.{none, isNone}
 use Rattle.datom.specs.declared.Datom.{Datom}
 use Rattle.index.specs.Order.{DatomOrd, isLess}
+use Rattle.answer.specs.declared.Fault.the-variants.{OutOfBounds}
 use Rattle.answer.specs.declared.Refusal.the-variants.{BadStore, NoPage}
 use Rattle.answer.specs.declared.Check.{Check}
 use Rattle.answer.specs.declared.Check.the-variants.{Sound, Unsound, Refused}
@@ -40,27 +41,27 @@ midpointNext c lower d = cond (isNone c) lower (some d)
 unfoldable pub walk :
     (Datom → Datom → Ordering) → Under → PageId → List Datom → List PageId → Option Datom → Option Datom → Option Datom → Check
 walk cmp under p [] cs lower midpoint upper =
-    cond (belowUpper cmp lower upper) (checkChild under (getD cs 0 none) midpoint upper) (Unsound p)
+    cond (belowUpper cmp lower upper) (checkChild under (getD cs 0 none) midpoint upper) (Unsound p OutOfBounds)
 walk cmp under p (d ∷ ds) cs lower midpoint upper =
     elim (aboveLower cmp lower d) [
-      | false ↦ Unsound p
+      | false ↦ Unsound p OutOfBounds
       | true ↦ elim (checkChild under (getD cs 0 none) midpoint (some d)) [
         | Sound ↦ walk cmp under p ds (drop 1 cs) (some d) (midpointNext (getD cs 0 none) midpoint d) upper
-        | Unsound q ↦ Unsound q
+        | Unsound q f ↦ Unsound q f
         | Refused r ↦ Refused r
       ]
     ]
 
 -- "a page missing, unreadable or of the wrong level where it is read": a page of level l, read as r
 unfoldable pub checkAt : (Datom → Datom → Ordering) → (PageId → Fetched) → ℕ → PageId → Option Datom → Option Datom → Fetched → Check
-checkAt cmp fetch zero p lower upper (faulty f) = Unsound p
+checkAt cmp fetch zero p lower upper (faulty f) = Unsound p f
 checkAt cmp fetch zero p lower upper (fine n) = walk cmp (λ c x y. Sound) p (n .datoms) (n .children) lower lower upper
-checkAt cmp fetch (suc l) p lower upper (faulty f) = Unsound p
+checkAt cmp fetch (suc l) p lower upper (faulty f) = Unsound p f
 checkAt cmp fetch (suc l) p lower upper (fine n) =
     walk cmp (λ c x y. checkAt cmp fetch l c x y (atLevel l (fetch c))) p (n .datoms) (n .children) lower lower upper
 
 unfoldable pub checkRoot : (Datom → Datom → Ordering) → (PageId → Fetched) → PageId → Fetched → Check
-checkRoot cmp fetch root (faulty f) = Unsound root
+checkRoot cmp fetch root (faulty f) = Unsound root f
 checkRoot cmp fetch root (fine n) = checkAt cmp fetch (n .level) root nothing nothing (fine n)
 
 -- "the check checks 1, 5", "Root "none" is Sound."

@@ -9,7 +9,8 @@ use Rattle.store.specs.declared.Extent.{Extent}
 use Rattle.store.specs.Words.{bytesOf, spread}
 use Rattle.store.specs.Page.{none}
 use Rattle.index.specs.Order.{DatomOrd}
-use Rattle.answer.specs.Table.{Words, answerWords}
+use Rattle.answer.specs.declared.Answer.{Answer}
+use Rattle.answer.specs.Table.{Words, answerWords, namedAnswer}
 use Rattle.rules.specs.Store.{storeAfter}
 use Rattle.rules.specs.Insert.{Outcome, insertBytes, initialiseBytes}
 
@@ -24,18 +25,21 @@ pub record Reply : Type 0 where
   pub area : List ℕ
 
 -- "An area not 32 bytes long is 1 before all else and stays unchanged."
-unfoldable pub reply : Extent → List ℕ → List ℕ → PageId → Outcome → Reply
-reply x s area root o =
+unfoldable pub replyIn : (Answer → Words) → Extent → List ℕ → List ℕ → Outcome → Reply
+replyIn words x s area o =
     cond (eqb (length area) 32)
-    (record {
-      returns = answerWords root (o .answer) .number;
-      store = storeAfter x s (o .pages);
-      area = wordBytes (answerWords root (o .answer));
-    })
+    (record { returns = words (o .answer) .number; store = storeAfter x s (o .pages); area = wordBytes (words (o .answer)) })
     (record { returns = 1; store = s; area = area })
+
+abbrev pub reply : Extent → List ℕ → List ℕ → PageId → Outcome → Reply
+reply x s area root o = replyIn (answerWords root) x s area o
 
 unfoldable pub insertReply : DatomOrd → Extent → List ℕ → ℕ → PageId → List ℕ → List ℕ → Reply
 insertReply t x s scratch root batch area = reply x s area root (insertBytes t x s scratch root batch)
+
+-- document 02, One: the same insert, which tells the fault too
+unfoldable pub insertNamedReply : DatomOrd → Extent → List ℕ → ℕ → PageId → List ℕ → List ℕ → Reply
+insertNamedReply t x s scratch root batch area = replyIn (namedAnswer root) x s area (insertBytes t x s scratch root batch)
 
 -- an initialise is given no root: none
 unfoldable pub initialiseReply : DatomOrd → Extent → List ℕ → ℕ → List ℕ → List ℕ → Reply

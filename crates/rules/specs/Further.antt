@@ -9,7 +9,7 @@ use Rattle.store.specs.Words.{zeros}
 use Rattle.store.specs.Page.{page, none}
 use Rattle.datom.specs.declared.Datom.{Datom}
 use Rattle.index.specs.Order.{eavt}
-use Rattle.answer.specs.declared.Fault.the-variants.{Missing}
+use Rattle.answer.specs.declared.Fault.the-variants.{Missing, Breaks, OutOfBounds}
 use Rattle.answer.specs.declared.Rule.the-variants.{Level, Count, Form, Order, LeafChild, LastChild, ChildId}
 use Rattle.answer.specs.declared.Refusal.the-variants.{BadStore, NoPage, Damaged, TooTall, NoRoom}
 use Rattle.answer.specs.declared.Answer.the-variants.{Refused}
@@ -62,7 +62,7 @@ checks-none : checkTree eavt (e .extent) (e .store) none ≡ Sound
 unfolding rules
 checks-none = refl
 
-checks-bounds : checkTree eavt (e .extent) (set (e .store) 256 1) (page 3) ≡ Unsound (page 1)
+checks-bounds : checkTree eavt (e .extent) (set (e .store) 256 1) (page 3) ≡ Unsound (page 1) OutOfBounds
 unfolding rules
 checks-bounds = refl
 
@@ -111,10 +111,10 @@ reads-past : read 2 (set (set leafPage 180 9) 250 9) ≡ good (record { level = 
 unfolding rules
 reads-past = refl
 
--- an insert names the page; refused before it writes, it has written none
+-- an insert names the page and the rule; refused before it writes, it has written none
 damaged :
     insert eavt (record { size = 256; count = 1 }) (set leafPage 249 7 ++ zeros 256) scratch (page 0) (run 9 1)
-    ≡ record { answer = Refused (Damaged (page 0)); pages = [] }
+    ≡ record { answer = Refused (Damaged (page 0) (Breaks Count)); pages = [] }
 unfolding rules
 damaged = refl
 

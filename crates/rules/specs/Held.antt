@@ -20,7 +20,7 @@ use Rattle.rules.specs.Insert.{countFault, formFault, orderFault, rootFa
 unfoldable pub afterHeld : ℕ → Look → Finding → Finding
 afterHeld i (met p j) rest = rest
 afterHeld i (absent p) rest = found (NotHeld i)
-afterHeld i (lost p f) rest = found (Damaged p)
+afterHeld i (lost p f) rest = found (Damaged p f)
 
 -- "if the tree holds all its datoms": each is looked up along its path, in batch order, from a root of level l that was read as r
 unfoldable pub heldAll : Env → ℕ → PageId → Fetched → ℕ → List Datom → Finding
@@ -28,7 +28,7 @@ heldAll e l root r i [] = clear
 heldAll e l root r i (d ∷ ds) = let rest = heldAll e l root r (suc i) ds in afterHeld i (lookup e d l root r) rest
 
 unfoldable pub heldAt : Env → PageId → List Datom → Fetched → Finding
-heldAt e root ds (faulty f) = found (Damaged root)
+heldAt e root ds (faulty f) = found (Damaged root f)
 heldAt e root ds (fine n) = heldAll e (n .level) root (fine n) 0 ds
 
 -- "An empty batch .. counts as held", and no page is read for it; root "none" holds no datom

@@ -92,7 +92,7 @@ writeFresh e ds = outcome (freshTree e ds [])
 
 -- "Before writing, insert looks every batch datom up": 6 and 7, then 7 to 9 once writing has begun
 unfoldable pub insertAt : Env → PageId → List Datom → Fetched → Outcome
-insertAt e root ds (faulty f) = refuse (Damaged root)
+insertAt e root ds (faulty f) = refuse (Damaged root f)
 insertAt e root ds (fine n) = orElse refuse (lookupAll e (n .level) root (fine n) 0 ds) (outcome (insertTree e (n .level) root ds []))
 
 -- "Insert at root "none" writes what initialise would, after insert's own checks"

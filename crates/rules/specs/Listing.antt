@@ -10,6 +10,7 @@ use Rattle.store.specs.Page.{page, none, isNone}
 use Rattle.datom.specs.declared.Datom.{Datom}
 use Rattle.index.specs.Order.{DatomOrd, isLess}
 use Rattle.answer.specs.declared.Fault.{Fault}
+use Rattle.answer.specs.declared.Fault.the-variants.{EqualDatoms, PastCount, TooHigh, NothingLeft}
 use Rattle.answer.specs.declared.Refusal.{Refusal}
 use Rattle.answer.specs.declared.Refusal.the-variants.{BadStore, BadBound, NoPage, Damaged}
 use Rattle.answer.specs.declared.Cursor.{Cursor}
@@ -85,12 +86,12 @@ refuseStart r = record { answer = start.Refused r; cursor = cursorOf [] [] }
 
 -- "Starting takes each bound down to level 0 as `find` does, the lower first; an equal datom does not stop it."
 unfoldable pub joinPaths : Path → Path → Started
-joinPaths (lostAt q f) es = refuseStart (Damaged q)
-joinPaths (path bs) (lostAt q f) = refuseStart (Damaged q)
+joinPaths (lostAt q f) es = refuseStart (Damaged q f)
+joinPaths (path bs) (lostAt q f) = refuseStart (Damaged q f)
 joinPaths (path bs) (path es) = record { answer = start.Begun; cursor = cursorOf bs es }
 
 unfoldable pub startAt : (Datom → Datom → Ordering) → (PageId → Fetched) → PageId → Datom → Datom → Fetched → Started
-startAt cmp fetch root lo hi (faulty f) = refuseStart (Damaged root)
+startAt cmp fetch root lo hi (faulty f) = refuseStart (Damaged root f)
 startAt cmp fetch root lo hi (fine n) =
     joinPaths (pathBy fetch (below cmp lo) (n .level) root (fine n)) (pathBy fetch (below cmp hi) (n .level) root (fine n))
 
@@ -119,17 +120,17 @@ abbrev pub frameOf : Open → Frame
 frameOf o = record { at = o .at; page = o .page }
 
 pub data Opens : Type 0 where
-  notOpen : PageId → Opens
+  notOpen : PageId → Fault → Opens
   opened : List Open → Opens
 
 abbrev pub openMore : Open → Opens → Opens
-openMore o (notOpen q) = notOpen q
+openMore o (notOpen q f) = notOpen q f
 openMore o (opened os) = opened (o ∷ os)
 
 unfoldable pub openOne : Frame → Fetched → Opens → Opens
-openOne a (faulty f) os = notOpen (a .page)
+openOne a (faulty f) os = notOpen (a .page) f
 openOne a (fine n) os =
-    cond (leb (a .at) (length (n .datoms))) (openMore (record { at = a .at; page = a .page; node = n }) os) (notOpen (a .page))
+    cond (leb (a .at) (length (n .datoms))) (openMore (record { at = a .at; page = a .page; node = n }) os) (notOpen (a .page) PastCount)
 
 -- "then the begin pages from the top: a missing or unreadable page, a wrong level or an index past the count is Damaged with that page"
 unfoldable pub openFrames : (PageId → Fetched) → List Frame → Opens
@@ -197,20 +198,20 @@ refuseStep c r = staying c (step.Refused r)
 
 -- "A step yields the smallest datom under the indices"; "No candidate left is Damaged, id none."
 unfoldable pub moved : Cursor → Least → Stepped
-moved c noneLeft = refuseStep c (Damaged none)
-moved c (twice q) = refuseStep c (Damaged q)
-moved c (least d (lostAt q f)) = refuseStep c (Damaged q)
+moved c noneLeft = refuseStep c (Damaged none NothingLeft)
+moved c (twice q) = refuseStep c (Damaged q EqualDatoms)
+moved c (least d (lostAt q f)) = refuseStep c (Damaged q f)
 moved c (least d (path fs)) = record { answer = step.Yields d; cursor = cursorOf fs (endFrames c) }
 
 unfoldable pub onward : (Datom → Datom → Ordering) → (PageId → Fetched) → Cursor → Opens → Stepped
-onward cmp fetch c (notOpen q) = refuseStep c (Damaged q)
+onward cmp fetch c (notOpen q f) = refuseStep c (Damaged q f)
 onward cmp fetch c (opened os) = moved c (leastOf fetch cmp os)
 
 -- "A step checks 1, then a height over 8 (Damaged, id none), then the end, then the begin pages from the top"
 unfoldable pub stepList : DatomOrd → Extent → List ℕ → Cursor → Stepped
 stepList t x s c =
     orElse (refuseStep c) (refuseIf (badStore x s) BadStore)
-    (orElse (refuseStep c) (refuseIf (ltb 8 (c .height)) (Damaged none))
+    (orElse (refuseStep c) (refuseIf (ltb 8 (c .height)) (Damaged none TooHigh))
     (cond (sameIndices (beginFrames c) (endFrames c)) (staying c step.Ended)
     (onward (t .cmp) (fetchPage t x s) c (openFrames (fetchPage t x s) (beginFrames c)))))
 

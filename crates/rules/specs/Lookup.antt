@@ -46,7 +46,7 @@ pub data Finding : Type 0 where
 unfoldable pub afterLook : ℕ → Look → Finding → Finding
 afterLook i (met p j) rest = found (Repeated i)
 afterLook i (absent p) rest = rest
-afterLook i (lost p f) rest = found (Damaged p)
+afterLook i (lost p f) rest = found (Damaged p f)
 
 -- "insert looks every batch datom up along its path, in batch order", from a root of level l that was read as r
 unfoldable pub lookupAll : Env → ℕ → PageId → Fetched → ℕ → List Datom → Finding

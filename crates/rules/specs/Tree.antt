@@ -8,7 +8,7 @@ use Rattle.store.specs.declared.PageId.{PageId}
 use Rattle.store.specs.Page.{page, none}
 use Rattle.datom.specs.declared.Datom.{Datom}
 use Rattle.answer.specs.declared.Fault.{Fault}
-use Rattle.answer.specs.declared.Fault.the-variants.{WrongLevel}
+use Rattle.answer.specs.declared.Fault.the-variants.{WrongLevel, EqualDatoms}
 use Rattle.answer.specs.declared.Refusal.{Refusal}
 use Rattle.answer.specs.declared.Refusal.the-variants.{Damaged, TooTall, NoRoom}
 use Rattle.rules.specs.Page.{Node}
@@ -92,11 +92,11 @@ flushAll e ins (suc k) n o =
     elim (isOver e n && anyPending (n .children))
     [ false ↦ go n o | true ↦ then (flush ins n o) λ m o₁. flushAll e ins k m o₁ ]
 
--- "Insert into a page merges, then ..", or is Damaged
+-- "Insert into a page merges, then ..", or is Damaged, with the reader's own answer or "equal datoms met"
 unfoldable pub insertMerged : Env → PageId → List Datom → (Node → List Node → Stage Node) → Fetched → List Node → Stage Node
-insertMerged e p ds k (faulty f) o = stop (Damaged p) o
+insertMerged e p ds k (faulty f) o = stop (Damaged p f) o
 insertMerged e p ds k (fine n) o =
-    cond (meets (e .cmp) (n .datoms) ds) (stop (Damaged p) o)
+    cond (meets (e .cmp) (n .datoms) ds) (stop (Damaged p EqualDatoms) o)
     (then (k (mergeNode (e .cmp) n ds) o) λ m o₁. settle e m o₁)
 
 -- "Flush calls insert on a child, and insert calls flush, one level lower each time."

@@ -17,6 +17,8 @@ use Rattle.store.specs.Laws.{apart}
 use Rattle.store.specs.Cells.{patch-none}
 use Rattle.datom.specs.declared.Datom.{Datom}
 use Rattle.index.specs.Order.{DatomOrd}
+use Rattle.answer.specs.declared.Fault.{Fault}
+use Rattle.answer.specs.declared.Fault.the-variants.{EqualDatoms}
 use Rattle.answer.specs.declared.Refusal.{Refusal}
 use Rattle.answer.specs.declared.Refusal.the-variants.{Damaged, NoRoom}
 use Rattle.answer.specs.declared.Answer.the-variants.{Done, Refused}
@@ -37,8 +39,8 @@ abbrev pub Within : {A : Type 0} → ℕ → Stage A → Type 0
 Within a (go x o) = length o ≤ a
 Within a (stop r o) = (length o ≤ a) × (r ≡ NoRoom → length o ≡ a) × Late r
 
-late-damaged : (p : PageId) → Late (Damaged p)
-late-damaged p = (omega arith, omega arith)
+late-damaged : (p : PageId) (f : Fault) → Late (Damaged p f)
+late-damaged p f = (omega arith, omega arith)
 
 then-within :
     {A B : Type 0} (a : ℕ) (s : Stage A) (k : A → List Node → Stage B) → Within a s → ((x : A) (o : List Node) → length o ≤ a → Within a (k x o)) →
@@ -94,11 +96,11 @@ module _ (e : Env) where
       (k : Node → List Node → Stage Node) → ((n : Node) (o : List Node) → length o ≤ e .allow → Within (e .allow) (k n o)) → (p : PageId)
       (ds : List Datom) (r : Fetched) (o : List Node) → length o ≤ e .allow → Within (e .allow) (insertMerged e p ds k r o)
   unfolding insertMerged
-  merged-within k f p ds (faulty x) o h = (h, λ q. absurd (apart (cc)), late-damaged p)
+  merged-within k f p ds (faulty x) o h = (h, λ q. absurd (apart (cc)), late-damaged p x)
   merged-within k f p ds (fine n) o h = side (meets (e .cmp) (n .datoms) ds) refl
     where
       side : (a : Bool) → meets (e .cmp) (n .datoms) ds ≡ a → Within (e .allow) (insertMerged e p ds k (fine n) o)
-      side true x = rw x (h, λ q. absurd (apart (cc)), late-damaged p)
+      side true x = rw x (h, λ q. absurd (apart (cc)), late-damaged p EqualDatoms)
       side false x = rw x (then-within (e .allow) _ _ (f _ o h) λ m o₁ h₁. settle-within m o₁ h₁)
 
   into-within : (l : ℕ) → BelowWithin (insertInto e l)
@@ -165,7 +167,7 @@ module _ (t : DatomOrd) (x : Extent) (s : List ℕ) where
 
   at-writes : (root : PageId) (ds : List Datom) (r : Fetched) → Writes allowed (insertAt (envOf t x s) root ds r)
   unfolding insertAt
-  at-writes root ds (faulty f) = refuse-writes allowed (Damaged root)
+  at-writes root ds (faulty f) = refuse-writes allowed (Damaged root f)
   at-writes root ds (fine n) =
       check-writes allowed (lookupAll (envOf t x s) (n .level) root (fine n) 0 ds) _
       (stage-writes allowed _ (tree-within (envOf t x s) (n .level) root ds [] (omega arith)))

@@ -2,12 +2,15 @@
 
 use std::collections::BTreeSet;
 
-use harness::{capacity, compare, readable_damage, Datom, Node, Oracle, Plan, Verdict, Which, MAX_VALUE, NONE};
+use harness::{capacity, compare, readable_damage, Datom, Node, Oracle, Plan, Verdict, Which, NONE};
 
+use super::breaking::{misplaced, Broken};
 use super::reading::Reading;
 use super::{ask, node, path, History, MOST};
 use crate::library::{bytes_of, Answer, Entry};
-use crate::reader::Fault;
+use crate::model::Model;
+use crate::names::{Damaged, Fault};
+use crate::reader::Difference;
 
 /// How many pages beside the paths of a batch are tried until the Rust reads one.
 const BESIDE: usize = 12;
@@ -17,12 +20,17 @@ const STEPS: usize = 200;
 
 /// A page as it was written, and as it is.
 pub struct Damage {
-    page: u64,
+    pub page: u64,
     old: Vec<u8>,
     new: Vec<u8>,
 }
 
 impl Damage {
+    /// The level at which the page belongs.
+    pub fn level(&self) -> usize {
+        Node::decode(&self.old).expect("a page as it was written").level as usize
+    }
+
     /// As commands of the oracle's driver.
     pub fn commands(&self) -> String {
         let changed = self.old.iter().zip(&self.new).enumerate().filter(|(_, (old, new))| old != new);
@@ -46,7 +54,7 @@ impl History<'_> {
     }
 
     /// A page that stays readable: the check finds what the Rust's finds, and names the page that the Rust's panic names.
-    pub(super) fn readable_damage(&mut self) -> Result<(), Fault> {
+    pub(super) fn readable_damage(&mut self) -> Result<(), Difference> {
         let at = self.some_tree();
         let root = self.trees[at].root;
         let damage = match self.random.one_in(3) {
@@ -61,11 +69,13 @@ impl History<'_> {
         let oracle = Oracle { which: Which::Patched, order: self.shape.order };
         let by_rust = match oracle.check(&self.patched, root) {
             Verdict::Sound => None,
-            Verdict::Unsound(page, _) => Some(page),
+            // The message names bounds and a page, or the two levels that it compared.
+            Verdict::Unsound(page, message) if message.contains("Violation at page") => Some(Damaged { page, fault: Fault::OutOfBounds }),
+            Verdict::Unsound(page, _) => Some(Damaged { page, fault: Fault::WrongLevel }),
         };
         let found = self.reader().check(root)?;
         if found != by_rust {
-            return Err(format!("the check's page is {:?}, and the Rust's {:?}", found, by_rust));
+            return Err(format!("the check finds {:?}, and the Rust {:?}", found, by_rust));
         }
         self.tally.damaged_readable += 1;
         self.read_damaged(at)
@@ -96,24 +106,23 @@ impl History<'_> {
     }
 
     /// A page that breaks one of the rules of a readable one.
-    pub(super) fn unreadable_damage(&mut self) -> Result<(), Fault> {
+    pub(super) fn unreadable_damage(&mut self) -> Result<(), Difference> {
         let at = self.some_tree();
         let root = self.trees[at].root;
         let sought = self.supply.any(&mut self.random);
         let way = path(&self.patched, root, &sought);
         let page = self.random.pick(&way);
-        let new = self.unreadable(page);
-        self.damage(page, new);
+        self.break_page(page);
         self.reading = Some(Reading::Check(root));
         if self.reader().check(root)?.is_none() {
             return Err(format!("page {} cannot be read, and the tree is called sound", page));
         }
-        self.tally.damaged_unreadable += 1;
         self.read_damaged(at)
     }
 
-    /// Listings, made-up cursors and batches that are asked for over the damaged page, by the rules; then it is repaired.
-    fn read_damaged(&mut self, at: usize) -> Result<(), Fault> {
+    /// Listings, made-up cursors, batches that are asked for and lookups of inserts over the damaged page, by the rules; then it is
+    /// repaired.
+    fn read_damaged(&mut self, at: usize) -> Result<(), Difference> {
         let root = self.trees[at].root;
         for _ in 0..3 {
             let (lower, upper) = self.bounds(at);
@@ -123,53 +132,74 @@ impl History<'_> {
         self.made_up_cursors()?;
         for _ in 0..3 {
             let batch = self.asked_batch(at);
-            self.ask_for(root, &batch)?;
+            // Any answer of the rules will do.
+            let _ = self.ask_for(root, &batch)?;
         }
+        self.look_up_damaged(at)?;
         self.repair();
         Ok(())
     }
 
-    /// The page with one rule broken.
-    fn unreadable(&mut self, page: u64) -> Vec<u8> {
+    /// A batch whose lookups do not come to their end: 6 and 7 in whichever order they are met.
+    fn look_up_damaged(&mut self, at: usize) -> Result<(), Difference> {
+        let entry = Entry::Insert(self.trees[at].root);
+        let Some(datoms) = self.some_batch(at) else {
+            return Ok(());
+        };
+        match (Model { pages: &self.patched }).first_met(self.trees[at].root, &datoms) {
+            Err(damaged) => self.refuse_damaged(entry, &datoms, damaged),
+            Ok(Some(index)) => self.refuse(entry, &datoms, 6, index),
+            Ok(None) => Ok(()),
+        }
+    }
+
+    /// A page on the path of the first datom that cannot be read or has a wrong level.
+    pub(super) fn damaged(&mut self) -> Result<(), Difference> {
+        let at = self.some_tree();
+        let root = self.trees[at].root;
+        let Some(datoms) = self.some_batch(at) else {
+            return Ok(());
+        };
+        let path = path(&self.patched, root, &datoms[0]);
+        let page = self.random.pick(&path);
+        let damaged = self.close_page(page, page != root);
+        self.refuse_damaged(Entry::Insert(root), &datoms, damaged)?;
+        self.compare_whole()?;
+        self.repair();
+        Ok(())
+    }
+
+    fn refuse_damaged(&mut self, entry: Entry, datoms: &[Datom], damaged: Damaged) -> Result<(), Difference> {
+        let (more, rest) = (self.random.below(60), self.random.below(64));
+        let told = self.call(entry, &bytes_of(datoms), more, rest)?;
+        self.expect_damaged(told, entry, damaged, &[])
+    }
+
+    /// Damages a page so that it cannot be read.
+    fn break_page(&mut self, page: u64) {
         let old = self.patched.page(page).expect("a page in use").to_vec();
-        let capacity = capacity(old.len()).expect("a known page size");
-        let header = 40 * capacity + 8;
-        let rule = self.random.below(7);
-        let mut new = old;
-        match rule {
-            0 => new[header] = self.random.pick(&[8, 9, 255]),
-            1 => new[header + 1] = self.random.pick(&[capacity as u8 + 1, 255]),
-            _ => {
-                let mut node = node(&self.patched, page);
-                self.break_rule(&mut node, page, rule);
-                node.encode_over(&mut new);
-                if node.is_readable(page) {
-                    // The rule that was chosen asks nothing of this page.
-                    new[header] = 8;
-                }
-            }
-        }
-        new
+        let broken = Broken::of(&old, page, &mut self.random);
+        self.tally.damaged_unreadable += 1;
+        self.tally.broken_twice += (broken.rules > 1) as u64;
+        self.tally.broken_elsewhere += broken.is_elsewhere as u64;
+        self.damage(page, broken.bytes);
     }
 
-    fn break_rule(&mut self, node: &mut Node, page: u64, rule: usize) {
-        let count = node.datoms.len();
-        let place = self.random.below(count + 1);
-        match rule {
-            2 if count > 0 => {
-                let malformed = [MAX_VALUE, 1 << 62, 3 << 62, 0x8100_0000_0000_6161, 0x8800_0000_0000_0000];
-                node.datoms[place.min(count - 1)][2] = self.random.pick(&malformed);
-            }
-            3 if count > 1 => node.datoms.swap(0, place.clamp(1, count - 1)),
-            4 if count > 1 => node.datoms[place.clamp(1, count - 1)] = node.datoms[place.clamp(1, count - 1) - 1],
-            5 => node.children[count] = if node.level == 0 { page.saturating_sub(1) } else { NONE },
-            _ => node.children[place] = self.random.pick(&[page, page + 1, NONE - 1]),
+    /// Damages a page so that it cannot be read, or has another level where one is asked for; and what that is called.
+    fn close_page(&mut self, page: u64, is_level_asked: bool) -> Damaged {
+        let old = self.patched.page(page).expect("a page in use").to_vec();
+        let level = node(&self.patched, page).level as usize;
+        let is_misplaced = is_level_asked && self.random.one_in(5);
+        match misplaced(&old, page, &mut self.random).filter(|_| is_misplaced) {
+            Some(new) => self.damage(page, new),
+            None => self.break_page(page),
         }
+        Model { pages: &self.patched }.node_of_level(page, level).expect_err("a page that is damaged")
     }
 
-    /// A page that cannot be read, beside the paths of a batch: the insert is refused when it comes there, and has written what the
+    /// A page that cannot be read or has a wrong level, beside the paths of a batch: the insert is refused when it comes there, and has written what the
     /// Rust writes until it reads that page.
-    pub(super) fn lost_while_writing(&mut self) -> Result<(), Fault> {
+    pub(super) fn lost_while_writing(&mut self) -> Result<(), Difference> {
         let at = self.some_tree();
         let root = self.trees[at].root;
         let Some(datoms) = self.some_batch(at) else {
@@ -184,10 +214,9 @@ impl History<'_> {
             let written = self.patched.bytes_from(before).to_vec();
             self.patched.truncate(before);
             if outcome.is_err() {
-                let new = self.unreadable(page);
-                self.damage(page, new);
+                let damaged = self.close_page(page, true);
                 self.tally.lost_while_writing += 1;
-                return self.refuse_after(Entry::Insert(root), &datoms, page, &written);
+                return self.refuse_after(Entry::Insert(root), &datoms, damaged, &written);
             }
         }
         Ok(())
@@ -205,7 +234,7 @@ impl History<'_> {
 
     /// A datom pending above is in the page that it will be sent to, too: a merge into that page is Damaged, as it is a panic of the
     /// Rust, with the same pages written until then. A batch that merges elsewhere goes in on both sides.
-    pub(super) fn equal_while_writing(&mut self) -> Result<(), Fault> {
+    pub(super) fn equal_while_writing(&mut self) -> Result<(), Difference> {
         let at = self.some_tree();
         let root = self.trees[at].root;
         let Some(datoms) = self.some_batch(at) else {
@@ -223,7 +252,8 @@ impl History<'_> {
         match outcome {
             Err(panic) => {
                 self.tally.equal_while_writing += 1;
-                self.refuse_after(Entry::Insert(root), &datoms, panic.last_read, &written)
+                let damaged = Damaged { page: panic.last_read, fault: Fault::EqualDatoms };
+                self.refuse_after(Entry::Insert(root), &datoms, damaged, &written)
             }
             Ok(root_after) => {
                 let count = written.len() / self.shape.page_size;
@@ -262,12 +292,12 @@ impl History<'_> {
         Some((page, new))
     }
 
-    /// Damaged with a page, after these pages were written.
-    fn refuse_after(&mut self, entry: Entry, datoms: &[Datom], page: u64, written: &[u8]) -> Result<(), Fault> {
+    /// Damaged, after these pages were written.
+    fn refuse_after(&mut self, entry: Entry, datoms: &[Datom], damaged: Damaged, written: &[u8]) -> Result<(), Difference> {
         let more = written.len() / self.shape.page_size + 1 + self.random.below(40);
         self.store.make_room(more, &mut self.random);
-        let answer = self.call(entry, &bytes_of(datoms), more, 0)?;
-        self.expect(answer, entry.refused(7, page), written)?;
+        let told = self.call(entry, &bytes_of(datoms), more, 0)?;
+        self.expect_damaged(told, entry, damaged, written)?;
         self.tally.pages_before_damage += (written.len() / self.shape.page_size) as u64;
         self.store.restore();
         self.repair();

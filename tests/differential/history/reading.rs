@@ -4,8 +4,8 @@ use harness::{compare, Datom, Held, Oracle, Plan, Random, Verdict, Which, MAX_VA
 
 use super::{History, MOST};
 use crate::library::Lent;
-use crate::model::{Cursor, End, Model, Step};
-use crate::reader::{Fault, Reader};
+use crate::model::{Cursor, End, Looked, Model, Step};
+use crate::reader::{Difference, Reader};
 
 /// How many held datoms there are around most pairs of bounds.
 const WINDOW: usize = 60;
@@ -38,7 +38,7 @@ impl Reading {
 
 impl History<'_> {
     /// Calls that read, on the store as it is or with a damaged page.
-    pub(super) fn readings(&mut self) -> Result<(), Fault> {
+    pub(super) fn readings(&mut self) -> Result<(), Difference> {
         if self.trees.is_empty() {
             return Ok(());
         }
@@ -50,8 +50,8 @@ impl History<'_> {
             4 => self.made_up_cursors(),
             5 => self.wrong_readings(),
             6 | 7 => self.readable_damage(),
-            8 => self.unreadable_damage(),
-            9 => self.lost_while_writing(),
+            8 | 13 => self.unreadable_damage(),
+            9 | 14 => self.lost_while_writing(),
             10 => self.equal_while_writing(),
             _ => Ok(()),
         }
@@ -63,7 +63,7 @@ impl History<'_> {
     }
 
     /// The datoms between two bounds at a newer or older root: what the steps hand out, what the Rust lists and what was put in.
-    fn list_between(&mut self) -> Result<(), Fault> {
+    fn list_between(&mut self) -> Result<(), Difference> {
         let at = self.some_tree();
         let (lower, upper) = self.bounds(at);
         let root = self.trees[at].root;
@@ -82,7 +82,7 @@ impl History<'_> {
         Ok(())
     }
 
-    fn list_by_rust(&mut self, root: u64, lower: &Datom, upper: &Datom, put_in: &[Datom]) -> Result<(), Fault> {
+    fn list_by_rust(&mut self, root: u64, lower: &Datom, upper: &Datom, put_in: &[Datom]) -> Result<(), Difference> {
         let order = self.shape.order;
         for (which, pages) in [(Which::Patched, Some(&self.patched)), (Which::Plain, self.plain.as_ref())] {
             let Some(pages) = pages else {
@@ -116,7 +116,7 @@ impl History<'_> {
     }
 
     /// A tree that these calls built is sound, by the Rust too.
-    fn check_some(&mut self) -> Result<(), Fault> {
+    fn check_some(&mut self) -> Result<(), Difference> {
         let at = self.some_tree();
         let root = if self.random.one_in(20) { NONE } else { self.trees[at].root };
         self.reading = Some(Reading::Check(root));
@@ -128,19 +128,19 @@ impl History<'_> {
         }
         match self.reader().check(root)? {
             None => Ok(()),
-            Some(page) => Err(format!("the check finds a fault at page {}", page)),
+            Some(damaged) => Err(format!("the check finds {:?}", damaged)),
         }
     }
 
     /// A batch is held exactly if each of its datoms was put in on the way to the root; else the first that was not is named.
-    fn ask_some(&mut self) -> Result<(), Fault> {
+    fn ask_some(&mut self) -> Result<(), Difference> {
         let at = self.some_tree();
         let batch = self.asked_batch(at);
         let (root, held) = match self.random.one_in(20) {
             true => (NONE, self.supply.nothing_held()),
             false => (self.trees[at].root, self.trees[at].held.clone()),
         };
-        let put_in = batch.iter().position(|&i| !held[i]).map_or((0, 0), |first| (16, first as u64));
+        let put_in = Ok(batch.iter().position(|&i| !held[i]).map(|first| first as u64));
         let told = self.ask_for(root, &batch)?;
         if told != put_in {
             return Err(format!("a batch that is asked for is answered {:?}, and by what was put in it is {:?}", told, put_in));
@@ -148,7 +148,7 @@ impl History<'_> {
         Ok(())
     }
 
-    pub(super) fn ask_for(&mut self, root: u64, batch: &[usize]) -> Result<(u64, u64), Fault> {
+    pub(super) fn ask_for(&mut self, root: u64, batch: &[usize]) -> Result<Looked, Difference> {
         let datoms = self.supply.datoms(batch);
         self.reading = Some(Reading::Held(root, datoms.clone()));
         self.reader().held(root, &datoms)
@@ -177,7 +177,7 @@ impl History<'_> {
     }
 
     /// Pages below the count and past it.
-    fn fetch_some(&mut self) -> Result<(), Fault> {
+    fn fetch_some(&mut self) -> Result<(), Difference> {
         let count = self.patched.count();
         for page in [0, count - 1, count, count + 1, NONE, NONE - 1, self.random.below(count as usize) as u64] {
             self.reading = Some(Reading::Other(format!("fetch {}", page)));
@@ -187,9 +187,10 @@ impl History<'_> {
     }
 
     /// Steps from cursors that no start gave.
-    pub(super) fn made_up_cursors(&mut self) -> Result<(), Fault> {
+    pub(super) fn made_up_cursors(&mut self) -> Result<(), Difference> {
         for _ in 0..6 {
-            let made = if self.random.one_in(3) { self.cursor_of_pages() } else { self.altered_cursor() };
+            let mut made = if self.random.one_in(3) { self.cursor_of_pages() } else { self.altered_cursor() };
+            self.lead_to_damage(&mut made);
             let mut cursor = Lent::new(&made.bytes(), &mut self.random);
             let mut datom = Lent::of_length(32, &mut self.random);
             for _ in 0..4 {
@@ -201,6 +202,18 @@ impl History<'_> {
             }
         }
         Ok(())
+    }
+
+    /// Half of the cursors over a damaged page stand in it, at the level where it belongs or at another.
+    fn lead_to_damage(&mut self, cursor: &mut Cursor) {
+        let Some(damage) = &self.damage else {
+            return;
+        };
+        if self.random.one_in(2) {
+            let any = self.random.below(cursor.height.clamp(1, 8) as usize);
+            let level = if self.random.one_in(3) { any } else { damage.level() };
+            cursor.begin.pages[level] = damage.page;
+        }
     }
 
     /// A cursor on its way through a tree, with some words changed.

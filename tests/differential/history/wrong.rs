@@ -6,7 +6,7 @@ use super::reading::Reading;
 use super::{History, MOST};
 use crate::library::{bytes_of, datoms_of, Answer, Asked, Lent};
 use crate::model::{Cursor, CURSOR_BYTES};
-use crate::reader::{same, Fault};
+use crate::reader::{same, Difference};
 
 /// What the calls are given. Each number is 0 where a call has nothing to refuse here.
 struct Wrong<'a> {
@@ -77,7 +77,7 @@ impl Wrong<'_> {
     }
 
     /// Makes the calls that are to be refused, and says how many there were.
-    fn compare(&self, random: &mut Random) -> Result<[u64; 5], Fault> {
+    fn compare(&self, random: &mut Random) -> Result<[u64; 5], Difference> {
         let (held, index) = self.number_of_held();
         let numbers = [self.number_of_check(), self.number_of_fetch(), self.number_of_start(), self.number_of_step(), held];
         let [check, fetch, start, step, _] = numbers;
@@ -108,7 +108,7 @@ impl Wrong<'_> {
 }
 
 impl History<'_> {
-    pub(super) fn wrong_readings(&mut self) -> Result<(), Fault> {
+    pub(super) fn wrong_readings(&mut self) -> Result<(), Difference> {
         let at = self.some_tree();
         let (lower, upper) = self.bounds(at);
         let batch = self.asked_batch(at);

@@ -1,6 +1,16 @@
 //! The oracle's driver: runs both builds of noblit's tree by command, and records their answers.
 
+#[path = "../../differential/history/breaking.rs"]
+mod breaking;
+mod harm;
 mod history;
+mod judge;
+#[path = "../../differential/model.rs"]
+mod model;
+#[allow(dead_code)]
+#[path = "../../differential/names.rs"]
+mod names;
+mod naming;
 mod record;
 mod recording;
 mod replay;
@@ -8,14 +18,19 @@ mod run;
 mod selftest;
 mod text;
 
+/// The model's names are told in the library's answers; here these are the recorded ones.
+mod library {
+    pub use crate::recording::Answer;
+}
+
 use std::env;
 use std::process::exit;
 
 const USAGE: &str = "usage:
   oracle run [--echo]   answer the commands on standard input
-  oracle selftest       compare noblit's order with the one written to document 01
-  oracle record FILE    record the fixed list of answers
-  oracle replay FILE    replay a recorded list on both oracles";
+  oracle selftest       compare noblit's order with the one written to document 01, and the format of records with its text
+  oracle record FILE    record the fixed list of answers, and behind it those with names of faults
+  oracle replay FILE    replay a recorded list on both oracles, and the names of faults on the model";
 
 fn main() {
     let arguments: Vec<String> = env::args().skip(1).collect();

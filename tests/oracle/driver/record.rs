@@ -5,6 +5,9 @@ use std::fs;
 use harness::{Kind, Plan};
 
 use crate::history::{record_history, Shape};
+use crate::names::Names;
+use crate::naming::{record_merge, record_names, Planted};
+use crate::recording::Record;
 
 const SEED: u64 = 20_190_607;
 
@@ -17,15 +20,40 @@ const AROUND_568: &[usize] = &[0, 1, 1, 6, 7, 8, 12, 13, 14, 15, 25, 26, 27, 28,
 const AROUND_4096: &[usize] = &[0, 1, 13, 50, 51, 52, 101, 102, 103, 104, 127, 128];
 
 pub fn record(file: &str) -> Result<(), String> {
-    let mut bytes = Vec::new();
-    for (number, shape) in (1..).zip(shapes()) {
-        for record in record_history(number, SEED, shape) {
-            bytes.extend(record.encode());
-        }
-    }
+    let shapes = shapes();
+    let first_naming = shapes.len() as u64 + 1;
+    let by_oracles = (1..).zip(shapes).flat_map(|(number, shape)| record_history(number, SEED, shape));
+    let mut bytes: Vec<u8> = by_oracles.flat_map(|record| record.encode()).collect();
+    let by_oracles_alone = bytes.len();
+    bytes.extend(naming(first_naming)?.iter().flat_map(Record::encode));
     fs::write(file, &bytes).map_err(|error| format!("{}: {}", file, error))?;
-    println!("{} bytes recorded with seed {} in {}", bytes.len(), SEED, file);
+    let named = bytes.len() - by_oracles_alone;
+    println!("{} bytes recorded with seed {} in {}, the last {} with names of faults", bytes.len(), SEED, file, named);
     Ok(())
+}
+
+/// The histories with names of faults, from this number on. Each call must have given each name that it can give.
+fn naming(first: u64) -> Result<Vec<Record>, String> {
+    let mut names = Names::default();
+    let mut records = record_merge(first, &mut names);
+    for (number, planted) in (first + 1..).zip(planted()) {
+        records.extend(record_names(number, SEED, planted, &mut names));
+    }
+    match names.missing() {
+        missing if !missing.is_empty() => Err(format!("no record of {}", missing.join(", "))),
+        _ => Ok(records),
+    }
+}
+
+/// Trees of one to three levels, the higher ones with pending datoms above the leaves.
+fn planted() -> Vec<Planted> {
+    let plant = |page_size, kind, batches, height| Planted { page_size, kind, batches, height };
+    vec![
+        plant(256, Kind::Counted, &[3, 1], 1),
+        plant(256, Kind::Mixed, &[60, 3, 2], 3),
+        plant(568, Kind::Strings, &[128, 128, 4], 3),
+        plant(4096, Kind::Integers, &[120, 3], 2),
+    ]
 }
 
 fn shapes() -> Vec<Shape> {

@@ -37,6 +37,34 @@ pub struct Written {
     pub pages: Carried,
 }
 
+/// The four words that a call of the C interface answers.
+#[derive(Clone, Copy, Debug, PartialEq)]
+pub struct Answer {
+    pub number: u64,
+    pub root: u64,
+    /// Pages written, or the number of the fault that the answer names.
+    pub pages: u64,
+    pub detail: u64,
+}
+
+impl Answer {
+    /// The answer of a call that reads: a number, and an index or page.
+    pub fn told(number: u64, detail: u64) -> Answer {
+        Answer { number, root: 0, pages: 0, detail }
+    }
+}
+
+/// A call that names what is damaged, with what it is given besides the store and the root.
+#[derive(Clone, Debug, PartialEq)]
+pub enum Question {
+    Check,
+    Start { lower: Datom, upper: Datom },
+    /// The cursor's bytes; the root of a step is 0.
+    Step { cursor: Vec<u8> },
+    Held { batch: Vec<Datom> },
+    InsertNamed { batch: Vec<Datom> },
+}
+
 #[derive(Clone, Debug, PartialEq)]
 pub enum Record {
     Begin { page_size: u64, room: u64, history: u64 },
@@ -47,6 +75,7 @@ pub enum Record {
     Check { who: Who, root: u64, fault: Option<u64> },
     Poke { page: u64, bytes: Vec<u8> },
     End { count: u64, digest: u64 },
+    Named { root: u64, question: Question, answer: Answer },
 }
 
 /// h = (h * 31 + byte) mod 4294967291, from h = 0.
@@ -88,6 +117,10 @@ impl Record {
                 body.bytes.extend(bytes);
             }
             Record::End { count, digest } => body.words(&[7, *count, *digest]),
+            Record::Named { root, question, answer } => {
+                body.words(&[8, question.number(), *root, answer.number, answer.root, answer.pages, answer.detail]);
+                body.question(question);
+            }
         }
         assert!(body.bytes.len() <= LONGEST_RECORD, "a record of {} bytes is too long", body.bytes.len());
         let mut record = (body.bytes.len() as u64).to_le_bytes().to_vec();
@@ -120,6 +153,18 @@ impl Who {
     }
 }
 
+impl Question {
+    fn number(&self) -> u64 {
+        match self {
+            Question::Check => 1,
+            Question::Start { .. } => 2,
+            Question::Step { .. } => 3,
+            Question::Held { .. } => 4,
+            Question::InsertNamed { .. } => 5,
+        }
+    }
+}
+
 /// A record being written.
 #[derive(Default)]
 struct Body {
@@ -139,6 +184,15 @@ impl Body {
     fn written(&mut self, written: &Written) {
         self.words(&[written.root, written.count]);
         self.carried(&written.pages);
+    }
+
+    fn question(&mut self, question: &Question) {
+        match question {
+            Question::Check => {}
+            Question::Start { lower, upper } => self.bytes.extend(datom_bytes(&[*lower, *upper])),
+            Question::Step { cursor } => self.bytes.extend(cursor),
+            Question::Held { batch } | Question::InsertNamed { batch } => self.bytes.extend(datom_bytes(batch)),
+        }
     }
 
     fn carried(&mut self, carried: &Carried) {
@@ -172,8 +226,23 @@ impl<'a> Fields<'a> {
             5 => Record::Check { who: self.who()?, root: self.word()?, fault: self.fault()? },
             6 => Record::Poke { page: self.word()?, bytes: self.rest() },
             7 => Record::End { count: self.word()?, digest: self.word()? },
+            8 => self.named()?,
             kind => return Err(format!("there is no kind {}", kind)),
         })
+    }
+
+    fn named(&mut self) -> Result<Record, String> {
+        let (call, root) = (self.word()?, self.word()?);
+        let answer = Answer { number: self.word()?, root: self.word()?, pages: self.word()?, detail: self.word()? };
+        let question = match call {
+            1 => Question::Check,
+            2 => Question::Start { lower: self.datom()?, upper: self.datom()? },
+            3 => Question::Step { cursor: self.rest() },
+            4 => Question::Held { batch: self.datoms_left()? },
+            5 => Question::InsertNamed { batch: self.datoms_left()? },
+            call => return Err(format!("there is no call {}", call)),
+        };
+        Ok(Record::Named { root, question, answer })
     }
 
     fn word(&mut self) -> Result<u64, String> {
@@ -188,6 +257,14 @@ impl<'a> Fields<'a> {
 
     fn batch(&mut self) -> Result<Vec<Datom>, String> {
         (0..self.word()?).map(|_| self.datom()).collect()
+    }
+
+    fn datoms_left(&mut self) -> Result<Vec<Datom>, String> {
+        let mut datoms = Vec::new();
+        while !self.0.is_empty() {
+            datoms.push(self.datom()?);
+        }
+        Ok(datoms)
     }
 
     fn who(&mut self) -> Result<Who, String> {

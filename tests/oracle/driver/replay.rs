@@ -1,12 +1,14 @@
 //! Replays a file of recorded answers on both oracles.
 
-use std::collections::BTreeMap;
+use std::collections::{BTreeMap, BTreeSet};
 use std::fmt;
 use std::fs;
 
-use harness::{Datom, Node, Oracle, Order, Pages, Panic, Verdict, Which, PAGE_SIZES};
+use harness::{Datom, Oracle, Order, Pages, Panic, Verdict, Which, PAGE_SIZES};
 
-use crate::recording::{datom_bytes, digest, Record, Who, Written};
+use crate::judge::{is_readable, judge};
+use crate::names::{Names, Naming};
+use crate::recording::{datom_bytes, digest, Answer, Question, Record, Who, Written};
 
 // The answers were recorded with noblit's own order; here the one written to document 01 must give them too.
 const PATCHED: Oracle = Oracle { which: Which::Patched, order: Order::Rule };
@@ -35,6 +37,8 @@ struct Stores {
     patched: Pages,
     /// Given up at the first answer that only the patched oracle gave.
     plain: Option<Pages>,
+    /// Pages that cannot be read at present: the Rust has no such notion, and is asked nothing.
+    unreadable: BTreeSet<u64>,
     room: u64,
 }
 
@@ -86,6 +90,18 @@ fn step(store: &mut Option<Stores>, summary: &mut Summary, record: &Record) -> R
             expect(found == *count && found <= room && digest(stores.patched.bytes()) == *expected, "the store at the end")?;
             *store = None;
         }
+        Record::Named { root, question, answer } => name(stores, summary, *root, question, answer)?,
+    }
+    Ok(())
+}
+
+/// A call that names what is damaged, judged anew.
+fn name(stores: &Stores, summary: &mut Summary, root: u64, question: &Question, answer: &Answer) -> Result<(), String> {
+    let judged = judge(&stores.patched, root, question)?;
+    expect(judged.answer == *answer, "what a call names")?;
+    match judged.named {
+        Some(damaged) => summary.names.add(question.naming(), damaged.fault),
+        None => *summary.nameless.entry((question.naming() as usize, answer.number)).or_default() += 1,
     }
     Ok(())
 }
@@ -106,7 +122,7 @@ impl Stores {
         if !PAGE_SIZES.contains(&size) {
             return Err(format!("there is no page size {}", page_size));
         }
-        Ok(Stores { patched: Pages::new(size), plain: Some(Pages::new(size)), room })
+        Ok(Stores { patched: Pages::new(size), plain: Some(Pages::new(size)), unreadable: BTreeSet::new(), room })
     }
 
     fn write<Call>(&mut self, who: Who, written: &Written, call: Call) -> Result<(), String>
@@ -133,6 +149,9 @@ impl Stores {
 
     /// A history's plain answers stop at the first that only the patched oracle gave.
     fn drop_plain(&mut self, who: Who) -> Result<(), String> {
+        if let Some(page) = self.unreadable.first() {
+            return Err(format!("page {} is unreadable, where the Rust has no rule", page));
+        }
         match who {
             Who::Patched => self.plain = None,
             Who::Both if self.plain.is_none() => return Err("the plain oracle was given up before".to_string()),
@@ -145,11 +164,13 @@ impl Stores {
         if page >= self.patched.count() || bytes.len() != self.patched.page_size() {
             return Err(format!("{} bytes cannot replace page {}", bytes.len(), page));
         }
-        if !Node::decode(bytes).map_or(false, |node| node.is_readable(page)) {
-            return Err(format!("the damage leaves page {} unreadable, where the Rust's check has no rule", page));
-        }
         self.patched.replace(page, bytes);
         self.plain.iter_mut().for_each(|plain| plain.replace(page, bytes));
+        if is_readable(&self.patched, page) {
+            self.unreadable.remove(&page);
+        } else {
+            self.unreadable.insert(page);
+        }
         Ok(())
     }
 }
@@ -172,6 +193,9 @@ struct Summary {
     pokes: usize,
     /// How many roots of each height were written, by page size.
     heights: [BTreeMap<u8, usize>; PAGE_SIZES.len()],
+    names: Names,
+    /// How many calls that can name a fault answered another number, by call and number.
+    nameless: BTreeMap<(usize, u64), usize>,
 }
 
 impl Summary {
@@ -196,9 +220,15 @@ impl fmt::Display for Summary {
         write!(
             out,
             "{} histories agree (all, of these by both oracles): initialise {}, {}; insert {}, {}; list {}, {}; \
-             sound {}, {}; unsound {}, {}; pages damaged or repaired {}; roots by height at {:?} bytes {:?}",
+             sound {}, {}; unsound {}, {}; pages damaged or repaired {}; roots by height at {:?} bytes {:?}\n\
+             {} faults named, by call\n{}",
             self.histories, all.initialise, both.initialise, all.insert, both.insert, all.list, both.list,
             all.sound, both.sound, all.unsound, both.unsound, self.pokes, PAGE_SIZES, self.heights,
-        )
+            self.names.total(), self.names,
+        )?;
+        for (&(call, number), times) in &self.nameless {
+            write!(out, "\n  {:?} answered {}, with no name: {}", Naming::ALL[call], number, times)?;
+        }
+        Ok(())
     }
 }

@@ -1,9 +1,12 @@
-//! Compares noblit's order and byte strings with those written to document 01, on random pairs.
+//! Compares noblit's order and byte strings with those written to document 01, on random pairs, and the records of named faults with
+//! the text of their format.
 
 use std::cmp::Ordering;
 
 use harness::{byte_string, compare, is_bound, Datom, Oracle, Order, Random, Value, Which, MAX_VALUE};
 
+use crate::model::Cursor;
+use crate::recording::{Answer, Question, Record};
 use crate::text::show_datom;
 
 const SEED: u64 = 1;
@@ -23,6 +26,31 @@ pub fn selftest() -> Result<(), String> {
         }
     }
     println!("{} pairs agree: {} less, {} equal, {} greater", PAIRS, less, equal, greater);
+    let batch = vec![[31, 32, 33, 34], [35, 36, 37, 38]];
+    let cursor = Cursor { height: 31, ..Cursor::default() }.bytes();
+    agreed_record(1, Question::Check, &[])?;
+    agreed_record(2, Question::Start { lower: batch[0], upper: batch[1] }, &[31, 32, 33, 34, 35, 36, 37, 38])?;
+    agreed_record(3, Question::Step { cursor }, &[&[31][..], &[0; 32]].concat())?;
+    agreed_record(4, Question::Held { batch: batch.clone() }, &[31, 32, 33, 34, 35, 36, 37, 38])?;
+    agreed_record(5, Question::InsertNamed { batch }, &[31, 32, 33, 34, 35, 36, 37, 38])?;
+    println!("5 calls that name a fault are recorded as docs/ORACLE.md says");
+    Ok(())
+}
+
+/// The words of a NAMED record stand where docs/ORACLE.md has them, and are read back from there; cut short there is none.
+fn agreed_record(call: u64, question: Question, given: &[u64]) -> Result<(), String> {
+    let record = Record::Named { root: 21, question, answer: Answer { number: 22, root: 23, pages: 24, detail: 25 } };
+    let content = [&[8, call, 21, 22, 23, 24, 25][..], given].concat();
+    let words = [&[8 * content.len() as u64][..], &content].concat();
+    let bytes: Vec<u8> = words.iter().flat_map(|word| word.to_le_bytes()).collect();
+    if record.encode() != bytes {
+        return Err(format!("{:?} is recorded as {:x?}", record, record.encode()));
+    }
+    let mut rest = &bytes[..];
+    let read = Record::decode(&mut rest)?;
+    if read != record || !rest.is_empty() || Record::decode(&mut &bytes[..bytes.len() - 8]).is_ok() {
+        return Err(format!("{:?} is read as {:?}, or also when cut short", record, read));
+    }
     Ok(())
 }
 

@@ -68,7 +68,7 @@ fn damage(node: &mut Node, id: u64, cap: usize, supply: &Supply, random: &mut Ra
 }
 
 /// Another level, with the children that a page of that level must have to be readable.
-fn relevel(node: &mut Node, id: u64, random: &mut Random) {
+pub fn relevel(node: &mut Node, id: u64, random: &mut Random) {
     node.level = random.below(8) as u8;
     let last = node.children.len() - 1;
     if node.level == 0 {

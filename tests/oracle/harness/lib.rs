@@ -15,9 +15,9 @@ mod panics;
 mod random;
 mod supply;
 
-pub use damage::readable_damage;
+pub use damage::{readable_damage, relevel};
 pub use datom::{byte_string, compare, is_bound, is_storable, Datom, Value, MAX_VALUE};
-pub use node::{capacity, Node, PAGE_SIZES};
+pub use node::{capacity, Node, Rule, PAGE_SIZES};
 pub use oracle::{Oracle, Order, Verdict, Which};
 pub use pages::{Pages, NONE};
 pub use panics::Panic;

@@ -19,6 +19,24 @@ pub fn capacity(page_size: usize) -> Option<usize> {
     }
 }
 
+/// A rule of document 01's "Readable", with the number that document 02, One, gives it.
+#[derive(Clone, Copy, Debug, PartialEq)]
+pub enum Rule {
+    Level = 1,
+    Count = 2,
+    Form = 3,
+    Order = 4,
+    LeafChild = 5,
+    LastChild = 6,
+    ChildId = 7,
+}
+
+impl Rule {
+    /// "Checked in this order."
+    pub const ALL: [Rule; 7] =
+        [Rule::Level, Rule::Count, Rule::Form, Rule::Order, Rule::LeafChild, Rule::LastChild, Rule::ChildId];
+}
+
 /// What a page holds: one child more than datoms.
 #[derive(Clone, Debug, PartialEq)]
 pub struct Node {
@@ -61,14 +79,36 @@ impl Node {
         page[40 * cap + 9] = self.datoms.len() as u8;
     }
 
+    /// What the page with this id holds, or the first rule that it breaks.
+    pub fn read(page: &[u8], id: u64) -> Result<Node, Rule> {
+        let cap = capacity(page.len()).expect("a page of known size");
+        if page[40 * cap + 8] > HIGHEST_LEVEL {
+            return Err(Rule::Level);
+        }
+        let node = Node::decode(page).ok_or(Rule::Count)?;
+        node.broken_rule(id).map_or(Ok(node), Err)
+    }
+
     /// Document 01's "Readable" for the page with this id, apart from the count, which `decode` tests.
     pub fn is_readable(&self, id: u64) -> bool {
-        let real = |&child: &u64| child != NONE;
-        self.level <= HIGHEST_LEVEL
-            && self.datoms.iter().all(is_storable)
-            && self.datoms.windows(2).all(|pair| compare(&pair[0], &pair[1]) == Ordering::Less)
-            && (self.level > 0 || !self.children.iter().any(real))
-            && (self.level == 0 || self.children.last().map_or(false, real))
-            && self.children.iter().filter(|child| real(child)).all(|&child| child < id)
+        self.broken_rule(id).is_none()
+    }
+
+    fn broken_rule(&self, id: u64) -> Option<Rule> {
+        Rule::ALL.into_iter().find(|&rule| self.breaks(rule, id))
+    }
+
+    /// Whether the page with this id breaks a rule. The order is asked only of datoms that are well formed.
+    pub fn breaks(&self, rule: Rule, id: u64) -> bool {
+        let is_real = |&child: &u64| child != NONE;
+        match rule {
+            Rule::Level => self.level > HIGHEST_LEVEL,
+            Rule::Count => false,
+            Rule::Form => !self.datoms.iter().all(is_storable),
+            Rule::Order => self.datoms.windows(2).any(|pair| compare(&pair[0], &pair[1]) != Ordering::Less),
+            Rule::LeafChild => self.level == 0 && self.children.iter().any(is_real),
+            Rule::LastChild => self.level > 0 && !self.children.last().is_some_and(is_real),
+            Rule::ChildId => self.children.iter().filter(|child| is_real(child)).any(|&child| child >= id),
+        }
     }
 }

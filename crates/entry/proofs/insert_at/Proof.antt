@@ -16,20 +16,11 @@ use Rattle.entry.proofs.insert_at.Tie as tie
 node-at-requires : tie.Need-node-at-requires
 node-at-requires c κs = search needs
 
+enum-known-fault : tie.Need-enum-known-fault
+enum-known-fault c = search needs
+
 enum-known-level : tie.Need-enum-known-level
 enum-known-level c = search needs
-
-enum-told : tie.Need-enum-told
-enum-told c = search needs
-
-same-length : tie.Need-same-length
-same-length c = search needs
-
-returns : tie.Need-returns
-returns c =
-    let a = c .before .before .before .before .before .before .before .args in
-    let e = told-faulty eavt (a .extent) (a .store .now) (a .root) _ (sym (ap (told (a .extent) (a .store .now) (a .root)) (c .enum-told .given .1)) ∙ c .before .before .node-at .ensures) in
-    replies-refused _ _ _ _ (at-bad eavt (a .extent) (a .store .now) (a .root) (datomsOf (a .n) (a .b .now)) _ e)
 
 lookup-all-requires : tie.Need-lookup-all-requires
 lookup-all-requires c κs =
@@ -41,8 +32,8 @@ lookup-all-requires c κs =
 enum-known-refusal : tie.Need-enum-known-refusal
 enum-known-refusal c = search needs
 
-enum-told-2 : tie.Need-enum-told-2
-enum-told-2 c = search needs
+enum-told : tie.Need-enum-told
+enum-told c = search needs
 
 under-requires : tie.Need-under-requires
 under-requires c κs =
@@ -52,6 +43,15 @@ under-requires c κs =
 
 answer-of-requires : tie.Need-answer-of-requires
 answer-of-requires c κs = search needs
+
+same-length : tie.Need-same-length
+same-length c = search needs
+
+returns : tie.Need-returns
+returns c =
+    let a = c .before .before .before .before .before .before .before .before .args in
+    let e = told-faulty eavt (a .extent) (a .store .now) (a .root) _ (sym (ap (told (a .extent) (a .store .now) (a .root)) (c .before .fault .given .1)) ∙ c .before .before .before .node-at .ensures) in
+    replies-refused _ _ _ _ (at-bad eavt (a .extent) (a .store .now) (a .root) (datomsOf (a .n) (a .b .now)) _ e)
 
 same-length-2 : tie.Need-same-length-2
 same-length-2 c = search needs
@@ -72,7 +72,7 @@ returns-3 : tie.Need-returns-3
 returns-3 c =
     let a = c .before .before .before .before .before .before .before .before .before .before .before .before .before .before .before .before .before .before .before .before .args in
     let e = told-fine eavt (a .extent) (a .store .now) (a .root) _ _ (sym (ap (told (a .extent) (a .store .now) (a .root)) (c .before .before .before .before .before .before .before .before .before .before .before .before .before .level .given .1)) ∙ c .before .before .before .before .before .before .before .before .before .before .before .before .before .before .before .node-at .ensures) in
-    let free = sym (ap findingOf (c .before .before .before .before .before .before .before .before .enum-told2 .given .1)) ∙ c .before .before .before .before .before .before .before .before .before .before .lookup-all .ensures in
+    let free = sym (ap findingOf (c .before .before .before .before .before .before .before .before .enum-told .given .1)) ∙ c .before .before .before .before .before .before .before .before .before .before .lookup-all .ensures in
     rw (c .answer-of .ensures, at-clear eavt (a .extent) (a .store .now) (a .root) (datomsOf (a .n) (a .b .now)) _ _ e free) (replies _ _ _ _ _ (c .before .before .before .before .before .under .ensures [] refl))
 
 pub insert-at-spec : {M : Type 1} → statement M
@@ -80,15 +80,15 @@ insert-at-spec =
     tie.close
     (tie.spec
     node-at-requires
+    enum-known-fault
     enum-known-level
-    enum-told
-    same-length
-    returns
     lookup-all-requires
     enum-known-refusal
-    enum-told-2
+    enum-told
     under-requires
     answer-of-requires
+    same-length
+    returns
     same-length-2
     returns-2
     same-length-3

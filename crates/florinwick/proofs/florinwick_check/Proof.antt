@@ -14,14 +14,17 @@ check-requires c κs = search needs
 enum-told : tie.Need-enum-told
 enum-told c = search needs
 
+plain-requires : tie.Need-plain-requires
+plain-requires c κs = search needs
+
+enum-known-page : tie.Need-enum-known-page
+enum-known-page c = search needs
+
+number-requires : tie.Need-number-requires
+number-requires c κs = search needs
+
 put-words-requires : tie.Need-put-words-requires
 put-words-requires c κs = search needs
-
-enum-known-fault : tie.Need-enum-known-fault
-enum-known-fault c = search needs
-
-put-words-requires-2 : tie.Need-put-words-requires-2
-put-words-requires-2 c κs = search needs
 
 enum-known-refusal : tie.Need-enum-known-refusal
 enum-known-refusal c = search needs
@@ -37,19 +40,20 @@ returns-2 c =
     let if1 = c .before .before .before .before .before .before .before .if1 in
     let check = c .before .before .before .before .before .before .check in
     let enum-told = c .before .before .before .before .enum-told in
-    let put-words = c .before .before .put-words in
-    rw (← check .ensures, enum-told .given .1) (answered _ _ _ _ (if1 .left) refl (put-words .ensures))
+    let t = c .before .before .plain .ensures in
+    rw (← check .ensures, enum-told .given .1) (answered _ _ _ _ (if1 .left) (t .0) (t .1))
 
 same-length-2 : tie.Need-same-length-2
 same-length-2 c = search needs
 
 returns-3 : tie.Need-returns-3
 returns-3 c =
-    let if1 = c .before .before .before .before .before .before .before .before .if1 in
-    let check = c .before .before .before .before .before .before .before .check in
-    let fault = c .before .before .before .before .before .fault in
-    let put-words2 = c .before .before .put-words2 in
-    rw (← check .ensures, fault .given .1) (answered _ _ _ _ (if1 .left) refl (put-words2 .ensures))
+    let if1 = c .before .before .before .before .before .before .before .before .before .if1 in
+    let check = c .before .before .before .before .before .before .before .before .check in
+    let page = c .before .before .before .before .before .before .page in
+    let number = c .before .before .before .number in
+    let put-words = c .before .before .put-words in
+    rw (← check .ensures, page .given .1) (answered _ _ _ _ (if1 .left) refl (rw (number .ensures) at (put-words .ensures)))
 
 same-length-3 : tie.Need-same-length-3
 same-length-3 c = search needs
@@ -69,9 +73,10 @@ florinwick-check-spec =
     returns
     check-requires
     enum-told
+    plain-requires
+    enum-known-page
+    number-requires
     put-words-requires
-    enum-known-fault
-    put-words-requires-2
     enum-known-refusal
     refuse-requires
     same-length

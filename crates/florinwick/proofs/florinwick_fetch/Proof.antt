@@ -1,5 +1,4 @@
 -- `florinwick_fetch` meets its contract on every input. Assumes nothing.
-use mathlib.Core.Path.{refl}
 use Rattle.florinwick.specs.Words.{not-answered, answered}
 use borrow.Author.Needs.{needs}
 use Rattle.florinwick.proofs.florinwick_fetch.Statement.{statement}
@@ -14,8 +13,8 @@ fetch-refusal-requires c κs = search needs
 enum-told : tie.Need-enum-told
 enum-told c = search needs
 
-put-words-requires : tie.Need-put-words-requires
-put-words-requires c κs = search needs
+plain-requires : tie.Need-plain-requires
+plain-requires c κs = search needs
 
 enum-known-refusal : tie.Need-enum-known-refusal
 enum-known-refusal c = search needs
@@ -31,8 +30,8 @@ returns-2 c =
     let if1 = c .before .before .before .before .before .before .before .if1 in
     let fetch-refusal = c .before .before .before .before .before .before .fetch-refusal in
     let enum-told = c .before .before .before .before .enum-told in
-    let put-words = c .before .before .put-words in
-    rw (← fetch-refusal .ensures, enum-told .given .1) (answered _ _ _ _ (if1 .left) refl (put-words .ensures))
+    let t = c .before .before .plain .ensures in
+    rw (← fetch-refusal .ensures, enum-told .given .1) (answered _ _ _ _ (if1 .left) (t .0) (t .1))
 
 same-length-2 : tie.Need-same-length-2
 same-length-2 c = search needs
@@ -52,7 +51,7 @@ florinwick-fetch-spec =
     returns
     fetch-refusal-requires
     enum-told
-    put-words-requires
+    plain-requires
     enum-known-refusal
     refuse-requires
     same-length

@@ -1,5 +1,4 @@
 -- `florinwick_held` meets its contract on every input. Assumes nothing.
-use mathlib.Core.Path.{refl}
 use Rattle.florinwick.specs.Words.{not-answered, answered}
 use borrow.Author.Needs.{needs}
 use Rattle.florinwick.proofs.florinwick_held.Statement.{statement}
@@ -14,14 +13,14 @@ held-requires c κs = search needs
 enum-told : tie.Need-enum-told
 enum-told c = search needs
 
-put-words-requires : tie.Need-put-words-requires
-put-words-requires c κs = search needs
+plain-requires : tie.Need-plain-requires
+plain-requires c κs = search needs
 
 enum-known-refusal : tie.Need-enum-known-refusal
 enum-known-refusal c = search needs
 
-refuse-requires : tie.Need-refuse-requires
-refuse-requires c κs = search needs
+refuse-named-requires : tie.Need-refuse-named-requires
+refuse-named-requires c κs = search needs
 
 same-length : tie.Need-same-length
 same-length c = search needs
@@ -31,8 +30,8 @@ returns-2 c =
     let if1 = c .before .before .before .before .before .before .before .if1 in
     let held = c .before .before .before .before .before .before .held in
     let enum-told = c .before .before .before .before .enum-told in
-    let put-words = c .before .before .put-words in
-    rw (← held .ensures, enum-told .given .1) (answered _ _ _ _ (if1 .left) refl (put-words .ensures))
+    let t = c .before .before .plain .ensures in
+    rw (← held .ensures, enum-told .given .1) (answered _ _ _ _ (if1 .left) (t .0) (t .1))
 
 same-length-2 : tie.Need-same-length-2
 same-length-2 c = search needs
@@ -42,7 +41,7 @@ returns-3 c =
     let if1 = c .before .before .before .before .before .before .before .before .if1 in
     let held = c .before .before .before .before .before .before .before .held in
     let refusal = c .before .before .before .before .before .refusal in
-    let t = c .before .before .refuse .ensures in
+    let t = c .before .before .refuse-named .ensures in
     rw (← held .ensures, refusal .given .1) (answered _ _ _ _ (if1 .left) (t .0) (t .1))
 
 pub florinwick-held-spec : {M : Type 1} → statement M
@@ -52,9 +51,9 @@ florinwick-held-spec =
     returns
     held-requires
     enum-told
-    put-words-requires
+    plain-requires
     enum-known-refusal
-    refuse-requires
+    refuse-named-requires
     same-length
     returns-2
     same-length-2

@@ -12,17 +12,11 @@ use Rattle.held.proofs.held_at.Tie as tie
 node-at-requires : tie.Need-node-at-requires
 node-at-requires c κs = search needs
 
+enum-known-fault : tie.Need-enum-known-fault
+enum-known-fault c = search needs
+
 enum-known-level : tie.Need-enum-known-level
 enum-known-level c = search needs
-
-enum-told : tie.Need-enum-told
-enum-told c = search needs
-
-returns : tie.Need-returns
-returns c =
-    let a = c .before .before .before .before .before .args in
-    let e = told-faulty eavt (a .extent) (a .store .now) (a .root) _ (sym (ap (told (a .extent) (a .store .now) (a .root)) (c .enum-told .given .1)) ∙ c .before .before .node-at .ensures) in
-    at-bad eavt (a .extent) (a .store .now) (a .root) (datomsOf (a .n) (a .b .now)) _ e
 
 held-all-requires : tie.Need-held-all-requires
 held-all-requires c κs =
@@ -30,6 +24,12 @@ held-all-requires c κs =
     let P = c .before .before .before .before .before .before .pre in
     let e = told-fine eavt (a .extent) (a .store .now) (a .root) _ _ (sym (ap (told (a .extent) (a .store .now) (a .root)) (c .before .level .given .1)) ∙ c .before .before .before .node-at .ensures) in
     (P .0, P .1, e, P .2)
+
+returns : tie.Need-returns
+returns c =
+    let a = c .before .before .before .before .before .before .args in
+    let e = told-faulty eavt (a .extent) (a .store .now) (a .root) _ (sym (ap (told (a .extent) (a .store .now) (a .root)) (c .before .fault .given .1)) ∙ c .before .before .before .node-at .ensures) in
+    at-bad eavt (a .extent) (a .store .now) (a .root) (datomsOf (a .n) (a .b .now)) _ e
 
 returns-2 : tie.Need-returns-2
 returns-2 c =
@@ -40,4 +40,4 @@ returns-2 c =
 pub held-at-spec : {M : Type 1} → statement M
 held-at-spec =
     tie.close
-    (tie.spec node-at-requires enum-known-level enum-told returns held-all-requires returns-2)
+    (tie.spec node-at-requires enum-known-fault enum-known-level held-all-requires returns returns-2)

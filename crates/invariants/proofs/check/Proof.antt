@@ -40,37 +40,41 @@ capacity-of-requires c κs = search needs
 node-at-requires : tie.Need-node-at-requires
 node-at-requires c κs = (sym (c .before .before .before .before .before .before .is-bad .ensures) ∙ c .before .before .before .before .before .if1 .left, c .capacity-of .ensures)
 
-enum-known-found : tie.Need-enum-known-found
-enum-known-found c = search needs
+enum-known-fault : tie.Need-enum-known-fault
+enum-known-fault c = search needs
 
-enum-told : tie.Need-enum-told
-enum-told c = search needs
-
-returns-4 : tie.Need-returns-4
-returns-4 c =
-    let a = c .before .before .before .before .before .before .before .before .before .before .before .args in
-    let ok = sym (c .before .before .before .before .before .before .before .before .before .is-bad .ensures) ∙ c .before .before .before .before .before .before .before .before .if1 .left in
-    let known = sym (c .before .before .before .before .before .before .before .is-bad-root .ensures) ∙ c .before .before .before .before .before .before .if2 .left in
-    let real = sym (c .before .before .before .before .before .is-none .ensures) ∙ c .before .before .before .before .if3 .left in
-    check-faulty eavt (a .extent) (a .store .now) (a .root) ok known real _
-    (told-faulty eavt (a .extent) (a .store .now) (a .root) _ (sym (ap (told (a .extent) (a .store .now) (a .root)) (c .enum-told .given .1)) ∙ c .before .before .node-at .ensures))
+enum-known-level : tie.Need-enum-known-level
+enum-known-level c = search needs
 
 check-at-requires : tie.Need-check-at-requires
 check-at-requires c κs =
-    let a = c .before .before .before .before .before .before .before .before .before .before .before .before .args in
-    let ok = sym (c .before .before .before .before .before .before .before .before .before .before .is-bad .ensures) ∙ c .before .before .before .before .before .before .before .before .before .if1 .left in
-    (ok, c .before .before .before .before .capacity-of .ensures, sym (ap (told (a .extent) (a .store .now) (a .root)) (c .before .found .given .1)) ∙ c .before .before .before .node-at .ensures)
+    let n = c .before .before .before in
+    let a = n .before .before .before .before .before .before .before .before .before .args in
+    let ok = sym (n .before .before .before .before .before .before .before .is-bad .ensures) ∙ n .before .before .before .before .before .before .if1 .left in
+    let g = c .before .level .given in
+    (ok, n .before .capacity-of .ensures, told-fine eavt (a .extent) (a .store .now) (a .root) (g .0 .0) (g .0 .1 .0) (sym (ap (told (a .extent) (a .store .now) (a .root)) (g .1)) ∙ n .node-at .ensures))
+
+returns-4 : tie.Need-returns-4
+returns-4 c =
+    let n = c .before .before .before in
+    let a = n .before .before .before .before .before .before .before .before .before .args in
+    let ok = sym (n .before .before .before .before .before .before .before .is-bad .ensures) ∙ n .before .before .before .before .before .before .if1 .left in
+    let known = sym (n .before .before .before .before .before .is-bad-root .ensures) ∙ n .before .before .before .before .if2 .left in
+    let real = sym (n .before .before .before .is-none .ensures) ∙ n .before .before .if3 .left in
+    check-faulty eavt (a .extent) (a .store .now) (a .root) ok known real _
+    (told-faulty eavt (a .extent) (a .store .now) (a .root) _ (sym (ap (told (a .extent) (a .store .now) (a .root)) (c .before .fault .given .1)) ∙ n .node-at .ensures))
 
 returns-5 : tie.Need-returns-5
 returns-5 c =
-    let a = c .before .before .before .before .before .before .before .before .before .before .before .before .before .args in
-    let ok = sym (c .before .before .before .before .before .before .before .before .before .before .before .is-bad .ensures) ∙ c .before .before .before .before .before .before .before .before .before .before .if1 .left in
-    let known = sym (c .before .before .before .before .before .before .before .before .before .is-bad-root .ensures) ∙ c .before .before .before .before .before .before .before .before .if2 .left in
-    let real = sym (c .before .before .before .before .before .before .before .is-none .ensures) ∙ c .before .before .before .before .before .before .if3 .left in
-    let g = c .before .before .found .given in
+    let n = c .before .before .before .before in
+    let a = n .before .before .before .before .before .before .before .before .before .args in
+    let ok = sym (n .before .before .before .before .before .before .before .is-bad .ensures) ∙ n .before .before .before .before .before .before .if1 .left in
+    let known = sym (n .before .before .before .before .before .is-bad-root .ensures) ∙ n .before .before .before .before .if2 .left in
+    let real = sym (n .before .before .before .is-none .ensures) ∙ n .before .before .if3 .left in
+    let g = c .before .before .level .given in
     c .check-at .ensures
     ∙ check-read eavt (a .extent) (a .store .now) (a .root) ok known real (g .0 .0) (g .0 .1 .0)
-    (told-fine eavt (a .extent) (a .store .now) (a .root) (g .0 .0) (g .0 .1 .0) (sym (ap (told (a .extent) (a .store .now) (a .root)) (g .1)) ∙ c .before .before .before .before .node-at .ensures))
+    (told-fine eavt (a .extent) (a .store .now) (a .root) (g .0 .0) (g .0 .1 .0) (sym (ap (told (a .extent) (a .store .now) (a .root)) (g .1)) ∙ n .node-at .ensures))
 
 pub check-spec : {M : Type 1} → statement M
 check-spec =
@@ -84,8 +88,8 @@ check-spec =
     returns-3
     capacity-of-requires
     node-at-requires
-    enum-known-found
-    enum-told
-    returns-4
+    enum-known-fault
+    enum-known-level
     check-at-requires
+    returns-4
     returns-5)

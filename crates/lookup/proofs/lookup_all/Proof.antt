@@ -80,7 +80,7 @@ returns-2 c =
     let w = c .before .before .before .before .before .before .loop in
     let at = datoms-from (a .n) (w .i) (a .b .now) (omega arith) in
     let q = sym (c .before .look .given .1) ∙ (rw (c .before .before .before .before .datom-at .ensures) at (c .before .before .before .lookup-one .ensures .0)) in
-    sym (all-lost _ _ _ _ (w .i) at _ q) ∙ w .inv .1
+    sym (all-lost _ _ _ _ (w .i) at _ _ q) ∙ w .inv .1
 
 returns-3 : tie.Need-returns-3 Inv-loop μ-loop
 returns-3 c = let w = c .before .loop in sym (all-end _ _ _ _ (w .i) _ _ (omega arith)) ∙ w .inv .1

@@ -85,7 +85,7 @@ returns-3 c =
     let w = c .before .before .before .before .before .before .before .before .before .before .loop in
     let m = met-is (w .inv) (c .before .before .before .before .before .before .before .before .before .part-of .ensures) (c .before .before .before .before .before .before .before .before .first-not-below .ensures) (c .before .before .before .before .before .before .before .is-met .ensures) (c .before .before .before .before .before .before .if1 .left) in
     let n = next-is (w .inv) (c .before .before .before .before .before .before .before .before .before .part-of .ensures) (c .before .before .before .before .before .before .before .before .first-not-below .ensures) (c .before .before .before .before .before .before .before .before .before .before .before .before .pre .1) (c .before .before .before .next-midpoint .ensures) (c .before .enum-told .given .1) in
-    (rw (c .max .ensures) (going-stuck (w .inv) m (c .before .before .before .before .if2 .left) (omega (arith, c .before .before .before .before .before .before .before .before .before .before .before .before .good .1 .0)) n), w .inv .kept, lost-leaves _ _ _ _ _ _ _ _)
+    (rw (c .max .ensures) (going-stuck (w .inv) m (c .before .before .before .before .if2 .left) (omega (arith, c .before .before .before .before .before .before .before .before .before .before .before .before .good .1 .0)) n), w .inv .kept, lost-leaves _ _ _ _ _ _ _ _ _)
 
 sub-l : tie.Need-sub-l Inv-loop μ-loop
 sub-l c = search needs
@@ -100,17 +100,6 @@ open-at-requires c κs =
 
 enum-known-n : tie.Need-enum-known-n Inv-loop μ-loop
 enum-known-n c = search needs
-
-enum-told-2 : tie.Need-enum-told-2 Inv-loop μ-loop
-enum-told-2 c = search needs
-
-returns-4 : tie.Need-returns-4 Inv-loop μ-loop
-returns-4 c =
-    let a = c .before .before .before .before .before .before .before .before .before .before .before .before .before .before .before .args in
-    let w = c .before .before .before .before .before .before .before .before .before .before .before .before .before .loop in
-    let m = met-is (w .inv) (c .before .before .before .before .before .before .before .before .before .before .before .before .part-of .ensures) (c .before .before .before .before .before .before .before .before .before .before .before .first-not-below .ensures) (c .before .before .before .before .before .before .before .before .before .before .is-met .ensures) (c .before .before .before .before .before .before .before .before .before .if1 .left) in
-    let n = next-is (w .inv) (c .before .before .before .before .before .before .before .before .before .before .before .before .part-of .ensures) (c .before .before .before .before .before .before .before .before .before .before .before .first-not-below .ensures) (c .before .before .before .before .before .before .before .before .before .before .before .before .before .before .before .pre .1) (c .before .before .before .before .before .before .next-midpoint .ensures) (c .before .before .before .before .child .given .1) in
-    (going-lost (w .inv) m (c .before .before .before .before .before .before .before .if2 .left) n (sym (c .enum-told2 .given .1) ∙ c .before .before .open-at .ensures), w .inv .kept, lost-leaves _ _ _ _ _ _ _ _)
 
 mul-child : tie.Need-mul-child Inv-loop μ-loop
 mul-child c =
@@ -153,6 +142,17 @@ loop-again c =
     let n = next-is (w .inv) (c .before .before .before .before .before .before .before .before .before .before .before .before .before .part-of .ensures) (c .before .before .before .before .before .before .before .before .before .before .before .before .first-not-below .ensures) (c .before .before .before .before .before .before .before .before .before .before .before .before .before .before .before .before .pre .1) (c .before .before .before .before .before .before .before .next-midpoint .ensures) (c .before .before .before .before .before .child .given .1) in
     rw g (going-down (w .inv) m (c .before .before .before .before .before .before .before .before .if2 .left) n eavt-preorder (sym (c .before .n .given .1) ∙ c .before .before .before .open-at .ensures) (omega (arith, o .low)))
 
+enum-known-fault : tie.Need-enum-known-fault Inv-loop μ-loop
+enum-known-fault c = search needs
+
+returns-4 : tie.Need-returns-4 Inv-loop μ-loop
+returns-4 c =
+    let a = c .before .before .before .before .before .before .before .before .before .before .before .before .before .before .before .before .args in
+    let w = c .before .before .before .before .before .before .before .before .before .before .before .before .before .before .loop in
+    let m = met-is (w .inv) (c .before .before .before .before .before .before .before .before .before .before .before .before .before .part-of .ensures) (c .before .before .before .before .before .before .before .before .before .before .before .before .first-not-below .ensures) (c .before .before .before .before .before .before .before .before .before .before .before .is-met .ensures) (c .before .before .before .before .before .before .before .before .before .before .if1 .left) in
+    let n = next-is (w .inv) (c .before .before .before .before .before .before .before .before .before .before .before .before .before .part-of .ensures) (c .before .before .before .before .before .before .before .before .before .before .before .before .first-not-below .ensures) (c .before .before .before .before .before .before .before .before .before .before .before .before .before .before .before .before .pre .1) (c .before .before .before .before .before .before .before .next-midpoint .ensures) (c .before .before .before .before .before .child .given .1) in
+    (going-lost (w .inv) m (c .before .before .before .before .before .before .before .before .if2 .left) n (sym (c .before .fault .given .1) ∙ c .before .before .before .open-at .ensures), w .inv .kept, lost-leaves _ _ _ _ _ _ _ _ _)
+
 pub lookup-one-spec : {M : Type 1} → statement M
 lookup-one-spec =
     tie.close
@@ -174,11 +174,11 @@ lookup-one-spec =
     sub-l
     open-at-requires
     enum-known-n
-    enum-told-2
-    returns-4
     mul-child
     element-set-from-child
     mul-path
     element-write-path
     loop-less
-    loop-again)
+    loop-again
+    enum-known-fault
+    returns-4)

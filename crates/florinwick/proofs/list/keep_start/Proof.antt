@@ -11,14 +11,14 @@ enum-told c = search needs
 put-cursor-requires : tie.Need-put-cursor-requires
 put-cursor-requires c κs = search needs
 
-put-words-requires : tie.Need-put-words-requires
-put-words-requires c κs = search needs
+plain-requires : tie.Need-plain-requires
+plain-requires c κs = search needs
 
 enum-known-answer : tie.Need-enum-known-answer
 enum-known-answer c = search needs
 
-refuse-requires : tie.Need-refuse-requires
-refuse-requires c κs = search needs
+refuse-named-requires : tie.Need-refuse-named-requires
+refuse-named-requires c κs = search needs
 
 same-length : tie.Need-same-length
 same-length c = search needs
@@ -31,15 +31,15 @@ unfolding cursorStarted
 returns c =
     let enum-told = c .before .before .before .before .before .before .before .before .enum-told in
     let put-cursor = c .before .before .before .before .before .before .put-cursor in
-    let put-words = c .before .before .put-words in
-    rw (enum-told .given .1) ((refl, put-words .ensures), put-cursor .ensures)
+    let plain = c .before .before .plain in
+    rw (enum-told .given .1) (plain .ensures, put-cursor .ensures)
 
 same-length-3 : tie.Need-same-length-3
 same-length-3 c = search needs
 
 returns-2 : tie.Need-returns-2
 unfolding cursorStarted
-returns-2 c = rw (c .before .before .before .before .before .answer .given .1) (c .before .before .refuse .ensures, refl)
+returns-2 c = rw (c .before .before .before .before .before .answer .given .1) (c .before .before .refuse-named .ensures, refl)
 
 pub keep-start-spec : {M : Type 1} → statement M
 keep-start-spec =
@@ -47,9 +47,9 @@ keep-start-spec =
     (tie.spec
     enum-told
     put-cursor-requires
-    put-words-requires
+    plain-requires
     enum-known-answer
-    refuse-requires
+    refuse-named-requires
     same-length
     same-length-2
     returns

@@ -124,7 +124,7 @@ module _ {M : Type 1} (𝓤 : URA M) (H : Heap 𝓤) (A : Atoms 𝓤) (W : Given
 
   -- what the rules give
   abbrev replied : Outcome → Reply
-  replied = reply (extentOf size count) st rs (page root)
+  replied o = reply (extentOf size count) st rs (page root) o
 
   abbrev Says : List ℕ → List ℕ → ℕ → Type 0
   Says z a r = Replied r z a (replied (insert eavt (extentOf size count) st (length xs) (page root) ys))

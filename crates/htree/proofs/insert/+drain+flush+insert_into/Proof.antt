@@ -379,8 +379,8 @@ flush-returns-2 t c =
 insert-into-load-requires : (t : ℕ) → insert-into-lts.Need-load-requires (insert-into-calls t) (insert-into-at t) insert-into.Post
 insert-into-load-requires t c κs = search needs
 
-insert-into-enum-told : (t : ℕ) → insert-into-lts.Need-enum-told (insert-into-calls t) (insert-into-at t) insert-into.Post
-insert-into-enum-told t c = search needs
+insert-into-enum-known-fault : (t : ℕ) → insert-into-lts.Need-enum-known-fault (insert-into-calls t) (insert-into-at t) insert-into.Post
+insert-into-enum-known-fault t c = search needs
 
 insert-into-enum-known-count : (t : ℕ) → insert-into-lts.Need-enum-known-count (insert-into-calls t) (insert-into-at t) insert-into.Post
 insert-into-enum-known-count t c = search needs
@@ -446,8 +446,8 @@ insert-into-same-length-4 t c = search needs
 
 insert-into-returns-2 : (t : ℕ) → insert-into-lts.Need-returns-2 (insert-into-calls t) (insert-into-at t) insert-into.Post
 insert-into-returns-2 t c =
-    let a = c .before .before .before .before .before .before .before .before .before .args in
-    insert-bad eavt (a .extent) (a .store .now) (a .c) (a .written) (a .level) (a .page) (a .s .now) (a .m) (a .n) _ (c .before .before .before .before .before .before .before .before .before .pre .1 .0) (rw (c .enum-told .given .1) at (c .before .before .before .before .load .ensures)) _
+    let a = c .before .before .before .before .before .before .before .before .before .before .args in
+    insert-bad eavt (a .extent) (a .store .now) (a .c) (a .written) (a .level) (a .page) (a .s .now) (a .m) (a .n) _ (c .before .before .before .before .before .before .before .before .before .before .pre .1 .0) _ (rw (c .before .fault .given .1) at (c .before .before .before .before .before .load .ensures)) _
 
 insert-into-same-length-5 : (t : ℕ) → insert-into-lts.Need-same-length-5 (insert-into-calls t) (insert-into-at t) insert-into.Post
 insert-into-same-length-5 t c = search needs
@@ -567,7 +567,7 @@ pub +drain+flush+insert-into-spec : {M : Type 1} → statement M
     (insert-into-at t)
     insert-into.Post
     (insert-into-load-requires t)
-    (insert-into-enum-told t)
+    (insert-into-enum-known-fault t)
     (insert-into-enum-known-count t)
     (insert-into-settle-requires t)
     (insert-into-same-length t)

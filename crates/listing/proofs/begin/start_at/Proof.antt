@@ -29,7 +29,7 @@ returns c =
     let a = c .before .before .before .before .before .before .before .before .args in
     let lower = downOf eavt (a .extent) (a .store .now) (testOf eavt (NotBelow (a .lower))) (a .level) (a .root) in
     let upper = downOf eavt (a .extent) (a .store .now) (testOf eavt (NotBelow (a .upper))) (a .level) (a .root) in
-    c .refused .ensures ∙ was-lost (a .level) _ (descend .result) _ lower (descend .ensures) (begin-end .given .1) upper
+    c .refused .ensures ∙ was-lost (a .level) _ (descend .result) _ _ lower (descend .ensures) (begin-end .given .1) upper
 
 enum-told : tie.Need-enum-told
 enum-told c = search needs
@@ -59,7 +59,7 @@ returns-2 c =
     let upper = downOf eavt (a .extent) (a .store .now) (testOf eavt (NotBelow (a .upper))) (a .level) (a .root) in
     let D = came-down (a .level) _ (descend .result) lower (descend .ensures) (enum-told .given .1) (pre .1 .1) (full-of _ (empty .ensures))
     (down-long eavt (a .extent) (a .store .now) (testOf eavt (NotBelow (a .lower))) (a .level) (a .root)) in
-    c .refused2 .ensures ∙ upper-lost (a .level) _ _ (descend .result) (descend2 .result) lower upper D _ (descend2 .ensures) (end-end .given .1)
+    c .refused2 .ensures ∙ upper-lost (a .level) _ _ (descend .result) (descend2 .result) lower upper D _ _ (descend2 .ensures) (end-end .given .1)
 
 enum-told-2 : tie.Need-enum-told-2
 enum-told-2 c = search needs

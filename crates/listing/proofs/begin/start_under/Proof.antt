@@ -25,25 +25,14 @@ capacity-of-requires c κs = search needs
 node-at-requires : tie.Need-node-at-requires
 node-at-requires c κs = (c .before .before .before .before .pre, c .capacity-of .ensures)
 
-enum-known-level : tie.Need-enum-known-level
-enum-known-level c = search needs
-
-enum-told : tie.Need-enum-told
-enum-told c = search needs
+enum-known-fault : tie.Need-enum-known-fault
+enum-known-fault c = search needs
 
 refused-requires : tie.Need-refused-requires
 refused-requires c κs = search needs
 
-returns-2 : tie.Need-returns-2
-returns-2 c =
-    let is-any-between = c .before .before .before .before .before .before .is-any-between in
-    let if1 = c .before .before .before .before .before .if1 in
-    let node-at = c .before .before .before .node-at in
-    let a = c .before .before .before .before .before .before .before .before .args in
-    let e = told-faulty eavt (a .extent) (a .store .now) (a .root) _
-    (sym (ap (told (a .extent) (a .store .now) (a .root)) (c .before .enum-told .given .1)) ∙ node-at .ensures) in
-    c .refused .ensures ∙ under-damaged eavt (a .extent) (a .store .now) (a .root) (a .lower) (a .upper)
-    (sym (is-any-between .ensures) ∙ not-false _ (if1 .left)) _ e
+enum-known-level : tie.Need-enum-known-level
+enum-known-level c = search needs
 
 start-at-requires : tie.Need-start-at-requires
 start-at-requires c κs =
@@ -55,6 +44,17 @@ start-at-requires c κs =
     let e = told-fine eavt (a .extent) (a .store .now) (a .root) (g .0 .0) (g .0 .1 .0)
     (sym (ap (told (a .extent) (a .store .now) (a .root)) (g .1)) ∙ node-at .ensures) in
     (pre, (capacity-of .ensures, opens eavt (a .extent) (a .store .now) (a .root) (g .0 .0) (g .0 .1 .0) pre e .low))
+
+returns-2 : tie.Need-returns-2
+returns-2 c =
+    let is-any-between = c .before .before .before .before .before .before .before .is-any-between in
+    let if1 = c .before .before .before .before .before .before .if1 in
+    let node-at = c .before .before .before .before .node-at in
+    let a = c .before .before .before .before .before .before .before .before .before .args in
+    let e = told-faulty eavt (a .extent) (a .store .now) (a .root) _
+    (sym (ap (told (a .extent) (a .store .now) (a .root)) (c .before .before .fault .given .1)) ∙ node-at .ensures) in
+    c .refused .ensures ∙ under-damaged eavt (a .extent) (a .store .now) (a .root) (a .lower) (a .upper)
+    (sym (is-any-between .ensures) ∙ not-false _ (if1 .left)) _ e
 
 returns-3 : tie.Need-returns-3
 returns-3 c =
@@ -77,9 +77,9 @@ start-under-spec =
     returns
     capacity-of-requires
     node-at-requires
-    enum-known-level
-    enum-told
+    enum-known-fault
     refused-requires
-    returns-2
+    enum-known-level
     start-at-requires
+    returns-2
     returns-3)

@@ -21,20 +21,20 @@ loop-holds c = (c .before .pre .1 .1, refl)
 place-in-requires : tie.Need-place-in-requires Inv-loop μ-loop
 place-in-requires c κs = (c .before .before .pre .0, c .before .before .pre .1 .0)
 
-enum-known-index : tie.Need-enum-known-index Inv-loop μ-loop
-enum-known-index c = search needs
-
-enum-told : tie.Need-enum-told Inv-loop μ-loop
-enum-told c = search needs
+enum-known-fault : tie.Need-enum-known-fault Inv-loop μ-loop
+enum-known-fault c = search needs
 
 lost-at-requires : tie.Need-lost-at-requires Inv-loop μ-loop
 lost-at-requires c κs = search needs
 
 returns : tie.Need-returns Inv-loop μ-loop
-returns c = let a = c .before .before .before .before .before .before .args in
-    let w = c .before .before .before .before .loop in
+returns c = let a = c .before .before .before .before .before .before .before .args in
+    let w = c .before .before .before .before .before .loop in
     c .lost-at .ensures
-    ∙ down-lost eavt (a .extent) (a .store .now) (testOf eavt (a .seek)) (w .l) (w .filled) (w .p) (sym (c .before .enum-told .given .1) ∙ c .before .before .before .place-in .ensures) ∙ w .inv .1
+    ∙ down-lost eavt (a .extent) (a .store .now) (testOf eavt (a .seek)) (w .l) (w .filled) (w .p) _ (sym (c .before .before .fault .given .1) ∙ c .before .before .before .before .place-in .ensures) ∙ w .inv .1
+
+enum-known-index : tie.Need-enum-known-index Inv-loop μ-loop
+enum-known-index c = search needs
 
 mul-filled : tie.Need-mul-filled Inv-loop μ-loop
 mul-filled c = search needs
@@ -58,8 +58,8 @@ returns-2 c = let a = c .before .before .before .before .before .before .before 
 enum-known-next : tie.Need-enum-known-next Inv-loop μ-loop
 enum-known-next c = search needs
 
-enum-told-2 : tie.Need-enum-told-2 Inv-loop μ-loop
-enum-told-2 c = search needs
+enum-told : tie.Need-enum-told Inv-loop μ-loop
+enum-told c = search needs
 
 max-requires : tie.Need-max-requires Inv-loop μ-loop
 max-requires c κs = search needs
@@ -75,7 +75,7 @@ returns-3 c =
     let e = sym (k .before .before .index .given .1) ∙ k .before .before .before .before .place-in .ensures in
     let word = k .before .before .before .before .before .before .before .good .1 .0 in
     c .lost-at2 .ensures
-    ∙ rw (c .before .max .ensures) (down-stuck eavt (a .extent) (a .store .now) (testOf eavt (a .seek)) (w .l) (w .filled) (w .p) _ _ e (k .if1 .left) (omega (arith, word)) (c .before .before .enum-told2 .given .1) ∙ w .inv .1)
+    ∙ rw (c .before .max .ensures) (down-stuck eavt (a .extent) (a .store .now) (testOf eavt (a .seek)) (w .l) (w .filled) (w .p) _ _ e (k .if1 .left) (omega (arith, word)) (c .before .before .enum-told .given .1) ∙ w .inv .1)
 
 sub-l : tie.Need-sub-l Inv-loop μ-loop
 sub-l c = search needs
@@ -99,17 +99,17 @@ descend-spec =
     μ-loop
     loop-holds
     place-in-requires
-    enum-known-index
-    enum-told
+    enum-known-fault
     lost-at-requires
     returns
+    enum-known-index
     mul-filled
     element-write-filled
     mul-p
     element-set-from-p
     returns-2
     enum-known-next
-    enum-told-2
+    enum-told
     max-requires
     lost-at-requires-2
     returns-3

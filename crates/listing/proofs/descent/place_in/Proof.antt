@@ -12,14 +12,11 @@ use Rattle.listing.proofs.descent.place_in.Tie as tie
 open-at-requires : tie.Need-open-at-requires
 open-at-requires c κs = search needs
 
+enum-known-fault : tie.Need-enum-known-fault
+enum-known-fault c = search needs
+
 enum-known-k : tie.Need-enum-known-k
 enum-known-k c = search needs
-
-enum-told : tie.Need-enum-told
-enum-told c = search needs
-
-returns : tie.Need-returns
-returns c = let a = c .before .before .before .before .args in place-lost eavt (a .extent) (a .store .now) (a .page) (testOf eavt (a .seek)) (a .level) (sym (c .enum-told .given .1) ∙ c .before .before .open-at .ensures)
 
 fetch-requires : tie.Need-fetch-requires
 fetch-requires c κs = search needs
@@ -40,6 +37,11 @@ next-from-requires c κs =
     let w = opens eavt (a .extent) (a .store .now) (a .page) (a .level) k (c .before .before .before .before .before .before .before .pre .0) e in
     rw (c .before .fetch .ensures, w .bytes, c .before .before .before .before .before .before .before .pre .1) (w .few, omega (arith, w .wide))
 
+returns : tie.Need-returns
+returns c =
+    let a = c .before .before .before .before .before .args in
+    place-lost eavt (a .extent) (a .store .now) (a .page) (testOf eavt (a .seek)) (a .level) _ (sym (c .before .fault .given .1) ∙ c .before .before .before .open-at .ensures)
+
 returns-2 : tie.Need-returns-2
 returns-2 c =
     let a = c .before .before .before .before .before .before .before .before .args in
@@ -54,10 +56,10 @@ place-in-spec =
     tie.close
     (tie.spec
     open-at-requires
+    enum-known-fault
     enum-known-k
-    enum-told
-    returns
     fetch-requires
     index-in-requires
     next-from-requires
+    returns
     returns-2)

@@ -3,7 +3,6 @@ use borrow.Author.Needs.{needs}
 use Prim.Native.Nat.{_≤_}
 use native.Mathlib.Omega.{arith}
 use mathlib.Core.Path.{_≡_, refl, sym, _∙_}
-use borrow.Author.Tests.{not-true, not-false}
 use Rattle.index.specs.Order.{eavt}
 use Rattle.rules.specs.Store.{fetchPage}
 use Rattle.listing.specs.Opening.{openBelow, open-none, open-on, open-bad}
@@ -31,34 +30,42 @@ mul-page c = search needs
 element-copy-out-page : tie.Need-element-copy-out-page Inv-loop μ-loop
 element-copy-out-page c = search needs
 
-mul-is-open : tie.Need-mul-is-open Inv-loop μ-loop
-mul-is-open c = search needs
+mul-index : tie.Need-mul-index Inv-loop μ-loop
+mul-index c = search needs
 
-element-copy-out-is-open : tie.Need-element-copy-out-is-open Inv-loop μ-loop
-element-copy-out-is-open c = search needs
+element-copy-out-index : tie.Need-element-copy-out-index Inv-loop μ-loop
+element-copy-out-index c = search needs
 
-is-open-requires : tie.Need-is-open-requires Inv-loop μ-loop
-is-open-requires c κs = (c .before .before .before .before .before .pre .0, c .before .before .before .before .before .pre .1 .0)
+open-one-requires : tie.Need-open-one-requires Inv-loop μ-loop
+open-one-requires c κs = (c .before .before .before .before .before .pre .0, c .before .before .before .before .before .pre .1 .0)
+
+enum-known-fault : tie.Need-enum-known-fault Inv-loop μ-loop
+enum-known-fault c = search needs
 
 returns : tie.Need-returns Inv-loop μ-loop
 returns c =
-    let test = c .before .before .before .before .loop-test in
-    let a = c .before .before .before .before .before .before .before .args in
+    let open-one = c .before .before .before .open-one in
+    let test = c .before .before .before .before .before .before .loop-test in
+    let a = c .before .before .before .before .before .before .before .before .before .args in
     let u = a .t4 in
-    let w = c .before .before .before .before .before .loop in
-    open-bad (fetchPage eavt (a .extent) (a .store .now)) (u .«begin_indices») (u .«begin_pages») (w .level) (test .taken)
-    (sym (c .before .is-open .ensures) ∙ not-true _ (c .if1 .taken)) ∙ w .inv .1
+    let w = c .before .before .before .before .before .before .before .loop in
+    open-bad (fetchPage eavt (a .extent) (a .store .now)) (u .«begin_indices») (u .«begin_pages») (w .level) (test .taken) _
+    (sym (open-one .ensures) ∙ c .before .fault .given .1) ∙ w .inv .1
+
+enum-told : tie.Need-enum-told Inv-loop μ-loop
+enum-told c = search needs
 
 loop-less : tie.Need-loop-less Inv-loop μ-loop
 loop-less c = search needs
 
 loop-again : tie.Need-loop-again Inv-loop μ-loop
 loop-again c =
-    let test = c .before .before .before .before .loop-test in
-    let a = c .before .before .before .before .before .before .before .args in
+    let open-one = c .before .before .open-one in
+    let test = c .before .before .before .before .before .loop-test in
+    let a = c .before .before .before .before .before .before .before .before .args in
     let u = a .t4 in
-    let w = c .before .before .before .before .before .loop in
-    (omega (arith, w .inv .0), open-on (fetchPage eavt (a .extent) (a .store .now)) (u .«begin_indices») (u .«begin_pages») (w .level) (test .taken) (sym (c .before .is-open .ensures) ∙ not-false _ (c .if1 .left)) ∙ w .inv .1)
+    let w = c .before .before .before .before .before .before .loop in
+    (omega (arith, w .inv .0), open-on (fetchPage eavt (a .extent) (a .store .now)) (u .«begin_indices») (u .«begin_pages») (w .level) (test .taken) (sym (open-one .ensures) ∙ c .enum-told .given .1) ∙ w .inv .1)
 
 returns-2 : tie.Need-returns-2 Inv-loop μ-loop
 returns-2 c = let a = c .before .before .before .args in
@@ -76,10 +83,12 @@ open-all-spec =
     sub-level
     mul-page
     element-copy-out-page
-    mul-is-open
-    element-copy-out-is-open
-    is-open-requires
+    mul-index
+    element-copy-out-index
+    open-one-requires
+    enum-known-fault
     returns
+    enum-told
     loop-less
     loop-again
     returns-2)

@@ -32,7 +32,7 @@ returns c =
     let a = c .before .before .before .before .before .before .before .args in
     let u = a .cursor in
     c .refused .ensures
-    ∙ on-damaged eavt (a .extent) (a .store .now) u _ (openFrames (fetchPage eavt (a .extent) (a .store .now)) (beginFrames u))
+    ∙ on-damaged eavt (a .extent) (a .store .now) u _ _ (openFrames (fetchPage eavt (a .extent) (a .store .now)) (beginFrames u))
     (sym (page .given .1) ∙ open-all .ensures)
 
 enum-told : tie.Need-enum-told

@@ -21,7 +21,7 @@ returns c =
     let a = c .before .before .before .before .before .before .before .before .before .before .before .args in
     let advance = c .before .before .before .before .before .advance in
     let bottom = c .before .before .bottom in
-    c .refused .ensures ∙ yield-lost (a .cursor) (a .datom) (advance .result) _ (advance .ensures) _ (bottom .given .1)
+    c .refused .ensures ∙ yield-lost (a .cursor) (a .datom) (advance .result) _ (advance .ensures) _ _ (bottom .given .1)
 
 enum-told : tie.Need-enum-told
 enum-told c = search needs

@@ -1,0 +1,332 @@
+//! Histories that show the names of faults: a small tree that the patched oracle builds, its pages damaged one at a time, and what the
+//! calls that name a fault then answer, by the judge.
+
+use harness::{compare, Datom, Held, Kind, Node, Oracle, Order, Pages, Plan, Random, Rule, Supply, Which, MAX_VALUE, NONE};
+
+use crate::harm::{doubled, out_of_bounds, read, real_children, Harm, Harmed, PAIRS};
+use crate::judge::judge;
+use crate::model::{Cursor, Model, Step};
+use crate::names::{Fault, Names};
+use crate::recording::{digest, Carried, Question, Record, Who, Written};
+
+const PATCHED: Oracle = Oracle { which: Which::Patched, order: Order::Eavt };
+
+/// Among so many bounds or batches one is sought that meets the damage.
+const CANDIDATES: usize = 200;
+
+/// After one damage in so many a call is recorded that does not meet it.
+const BESIDE_EVERY: usize = 4;
+
+/// How often damage is sought that a step meets as an equal datom.
+const DOUBLINGS: usize = 20;
+
+const LOWEST: Datom = [0; 4];
+const HIGHEST: Datom = [u64::MAX, u64::MAX, MAX_VALUE, u64::MAX];
+
+/// The tree of a history.
+#[derive(Clone, Copy)]
+pub struct Planted {
+    pub page_size: usize,
+    pub kind: Kind,
+    /// The sizes of the batches, the first one's that of initialise. There are two or more, so that the root is not page 0.
+    pub batches: &'static [usize],
+    pub height: usize,
+}
+
+struct Scene<'a> {
+    random: Random,
+    supply: Supply,
+    pages: Pages,
+    root: u64,
+    held: Held,
+    /// Those of a listing of the whole tree, before any damage.
+    cursors: Vec<Cursor>,
+    records: Vec<Record>,
+    names: &'a mut Names,
+}
+
+/// Records the history with this number, which also seeds its random numbers.
+pub fn record_names(number: u64, seed: u64, planted: Planted, names: &mut Names) -> Vec<Record> {
+    let mut random = Random::new(seed.wrapping_mul(1_000_003).wrapping_add(number));
+    let supply = Supply::new(planted.kind, 3 * planted.batches.iter().sum::<usize>(), &mut random);
+    let mut scene = Scene::new(planted.page_size, supply, random, names);
+    scene.plant(planted);
+    scene.ask_all(1);
+    scene.ask_at_none();
+    scene.ask_made_up();
+    for (page, bytes) in scene.harms(planted.height) {
+        scene.harmed(page, bytes);
+    }
+    scene.finish(number)
+}
+
+/// Document 01's Damaged by "a merge into that page meets an equal datom": d0 is pending above page 0, which holds it, and a batch of
+/// five more sends it there.
+pub fn record_merge(number: u64, names: &mut Names) -> Vec<Record> {
+    let example = |k: u64| [k, 1, k, 3];
+    let mut random = Random::new(number);
+    let supply = Supply::new(Kind::Counted, 8, &mut random);
+    let mut scene = Scene::new(256, supply, random, names);
+    scene.write((0..7).map(example).collect());
+    scene.write(vec![example(7)]);
+    let node = Node { level: 1, datoms: vec![example(0), example(3)], children: vec![NONE, 0, 1] };
+    let mut bytes = vec![0; 256];
+    node.encode_over(&mut bytes);
+    let old = scene.poke(3, bytes);
+    let batch: Vec<Datom> = (0..5).map(|k| [0, 2, k, 3]).collect();
+    scene.ask(3, Question::InsertNamed { batch: batch.clone() }).expect("equal datoms are met");
+    // The tree is sound, and holds none of the batch.
+    scene.ask(3, Question::Check).expect("an answer to any check");
+    scene.ask(3, Question::Held { batch }).expect("an answer to any batch");
+    scene.poke(3, old);
+    scene.finish(number)
+}
+
+impl<'a> Scene<'a> {
+    fn new(page_size: usize, supply: Supply, random: Random, names: &'a mut Names) -> Scene<'a> {
+        let (pages, held) = (Pages::new(page_size), supply.nothing_held());
+        Scene { random, supply, pages, root: NONE, held, cursors: Vec::new(), records: Vec::new(), names }
+    }
+
+    fn plant(&mut self, planted: Planted) {
+        for &size in planted.batches {
+            let batch = self.supply.batch(&self.held, Plan::Scattered, size, &mut self.random);
+            batch.iter().for_each(|&i| self.held[i] = true);
+            self.write(self.supply.datoms(&batch));
+        }
+        assert_eq!(read(&self.pages, self.root).level as usize + 1, planted.height, "the height that is asked for");
+        self.cursors = self.listed();
+    }
+
+    /// Initialise at first, then insert at the newest root.
+    fn write(&mut self, batch: Vec<Datom>) {
+        let (given, before, who) = (self.root, self.pages.count(), Who::Patched);
+        let root = match given {
+            NONE => PATCHED.initialise(&mut self.pages, &batch),
+            _ => PATCHED.insert(&mut self.pages, given, &batch),
+        };
+        self.root = root.expect("the patched Rust takes any batch in its domain");
+        let pages = Carried::Digest(digest(self.pages.bytes_from(before)));
+        let written = Written { root: self.root, count: self.pages.count() - before, pages };
+        self.records.push(match given {
+            NONE => Record::Initialise { who, batch, written },
+            _ => Record::Insert { who, root: given, batch, written },
+        });
+    }
+
+    /// Every cursor of a listing of the whole tree, that at the end too.
+    fn listed(&self) -> Vec<Cursor> {
+        let model = Model { pages: &self.pages };
+        let mut cursors = vec![model.start(self.root, &LOWEST, &HIGHEST).expect("a sound tree")];
+        while let Step::Yields(_, next) = model.step(&cursors[cursors.len() - 1]) {
+            cursors.push(next);
+        }
+        cursors
+    }
+
+    /// Every rule of a readable page at every level, and what else can be wrong with a page.
+    fn harms(&mut self, height: usize) -> Vec<Harmed> {
+        let mut wanted: Vec<(usize, Harm)> = Vec::new();
+        for level in 0..height {
+            wanted.extend(Rule::ALL.map(|rule| (level, Harm::One(rule))));
+            wanted.extend([(level, Harm::Elsewhere(Rule::Form)), (level, Harm::Misplaced)]);
+        }
+        // A leaf has no child to keep but the last.
+        let twice = PAIRS.into_iter().filter(|&(rule, _)| height > 1 || rule != Rule::LastChild);
+        wanted.extend(twice.enumerate().map(|(i, (rule, behind))| (i % height, Harm::Two(rule, behind))));
+        let mut harms = Vec::new();
+        for (level, harm) in wanted {
+            let page = self.some_page(level);
+            harms.push(harm.of(&self.pages, page, &mut self.random).unwrap_or_else(|| panic!("no {:?} of page {}", harm, page)));
+        }
+        if height > 1 {
+            harms.extend(self.harms_between_pages(height));
+        }
+        harms
+    }
+
+    /// What can be wrong with a page only beside another.
+    fn harms_between_pages(&mut self, amount: usize) -> Vec<Harmed> {
+        let mut harms = vec![self.doubled().expect("a pending datom that the page below it has room for")];
+        for _ in 0..amount {
+            harms.push(out_of_bounds(&self.pages, self.root, &self.supply, &mut self.random).expect("bounds to be broken"));
+        }
+        harms
+    }
+
+    /// A page of this level on some way down, but not page 0, of which any child breaks the rule of child ids.
+    fn some_page(&mut self, level: usize) -> u64 {
+        let mut page = self.root;
+        loop {
+            let node = read(&self.pages, page);
+            if node.level as usize == level {
+                return page;
+            }
+            let children: Vec<u64> = real_children(&node).into_iter().filter(|&child| child > 0).collect();
+            page = self.random.pick(&children);
+        }
+    }
+
+    /// Damage that a step of the whole listing meets as an equal datom.
+    fn doubled(&mut self) -> Option<Harmed> {
+        (0..DOUBLINGS).find_map(|_| {
+            let (page, bytes) = doubled(&self.pages, self.root, &mut self.random)?;
+            let mut pages = self.pages.clone();
+            pages.replace(page, &bytes);
+            let model = Model { pages: &pages };
+            let meets = |cursor: &Cursor| matches!(model.step(cursor), Step::Refused(damaged) if damaged.fault == Fault::EqualDatoms);
+            if self.cursors.iter().any(meets) { Some((page, bytes)) } else { None }
+        })
+    }
+
+    /// The calls while a page is damaged; then it is repaired.
+    fn harmed(&mut self, page: u64, bytes: Vec<u8>) {
+        let old = self.poke(page, bytes);
+        self.ask_all(BESIDE_EVERY);
+        self.poke(page, old);
+    }
+
+    /// The page's bytes before.
+    fn poke(&mut self, page: u64, bytes: Vec<u8>) -> Vec<u8> {
+        let old = self.pages.page(page).expect("a page in use").to_vec();
+        self.pages.replace(page, &bytes);
+        self.records.push(Record::Poke { page, bytes });
+        old
+    }
+
+    /// Of each call one that names a fault, if there is one, and now and then one that does not.
+    fn ask_all(&mut self, beside_every: usize) {
+        for questions in [self.checks(), self.starts(), self.steps(), self.asked(), self.inserts()] {
+            let is_beside = self.random.one_in(beside_every);
+            for is_naming in [true, false] {
+                let fits = |(root, question): &&(u64, Question)| {
+                    judge(&self.pages, *root, question).is_ok_and(|judged| judged.named.is_some() == is_naming)
+                };
+                if let Some((root, question)) = questions.iter().find(fits).filter(|_| is_naming || is_beside) {
+                    self.ask(*root, question.clone()).expect("an answer, as before");
+                }
+            }
+        }
+    }
+
+    /// At the root; and at other pages, each of which is the root of the tree below it.
+    fn checks(&mut self) -> Vec<(u64, Question)> {
+        let count = self.pages.count() as usize;
+        let roots = (0..CANDIDATES).map(|i| if i == 0 { self.root } else { self.random.below(count) as u64 });
+        roots.map(|root| (root, Question::Check)).collect()
+    }
+
+    fn starts(&mut self) -> Vec<(u64, Question)> {
+        (0..CANDIDATES).map(|_| {
+            let one = self.supply.bound(&self.held, &mut self.random);
+            let other = self.supply.bound(&self.held, &mut self.random);
+            let (lower, upper) = if compare(&one, &other).is_le() { (one, other) } else { (other, one) };
+            (self.root, Question::Start { lower, upper })
+        }).collect()
+    }
+
+    /// With cursors that were good before the damage.
+    fn steps(&mut self) -> Vec<(u64, Question)> {
+        let mut cursors = self.cursors.clone();
+        self.random.shuffle(&mut cursors);
+        cursors.into_iter().map(step_of).collect()
+    }
+
+    fn asked(&mut self) -> Vec<(u64, Question)> {
+        self.batches().into_iter().map(|batch| (self.root, Question::Held { batch })).collect()
+    }
+
+    /// Inserts that their lookups refuse: one that comes to writing may need room, and the store has none.
+    fn inserts(&mut self) -> Vec<(u64, Question)> {
+        let mut batches = self.batches();
+        batches.retain(|batch| Model { pages: &self.pages }.first_met(self.root, batch) != Ok(None));
+        batches.into_iter().map(|batch| (self.root, Question::InsertNamed { batch })).collect()
+    }
+
+    /// Batches that the tree held before the damage, or did not hold, or held in part, in turns.
+    fn batches(&mut self) -> Vec<Vec<Datom>> {
+        let not_held: Held = self.held.iter().map(|is_held| !is_held).collect();
+        let none = self.supply.nothing_held();
+        (0..CANDIDATES).map(|i| {
+            let left_out = [&not_held, &self.held, &none][i % 3];
+            let size = 1 + self.random.below(4);
+            self.supply.datoms(&self.supply.batch(left_out, Plan::Scattered, size, &mut self.random))
+        }).collect()
+    }
+
+    /// Root none reads no page.
+    fn ask_at_none(&mut self) {
+        let batch = vec![self.supply.any(&mut self.random)];
+        let (lower, upper) = (LOWEST, HIGHEST);
+        for question in [Question::Check, Question::Start { lower, upper }, Question::Held { batch }] {
+            self.ask(NONE, question).expect("an answer at root none");
+        }
+    }
+
+    /// Cursors that no listing of this tree makes, and the two ways in which one has ended.
+    fn ask_made_up(&mut self) {
+        let good = self.cursors[self.random.below(self.cursors.len() - 1)];
+        for cursor in self.made_up(good) {
+            let (root, question) = step_of(cursor);
+            self.ask(root, question).expect("an answer to any cursor");
+        }
+    }
+
+    fn made_up(&self, good: Cursor) -> Vec<Cursor> {
+        let (top, count) = (good.height as usize - 1, self.pages.count());
+        let with = |change: &dyn Fn(&mut Cursor)| {
+            let mut cursor = good;
+            change(&mut cursor);
+            cursor
+        };
+        let raised = |index: u64| with(&|cursor| {
+            cursor.height = good.height + 1;
+            (cursor.begin.pages[top + 1], cursor.begin.indices[top + 1]) = (good.begin.pages[top], index);
+            cursor.end.indices[top + 1] = 1;
+        });
+        let counts: Vec<u64> = good.begin.pages[..top + 1].iter().map(|&page| read(&self.pages, page).datoms.len() as u64).collect();
+        vec![
+            with(&|cursor| cursor.height = 9),
+            with(&|cursor| cursor.height = u64::MAX),
+            Cursor { height: 9, ..Cursor::default() },
+            with(&|cursor| cursor.begin.pages[top] = count),
+            with(&|cursor| cursor.begin.pages[0] = NONE),
+            with(&|cursor| cursor.begin.indices[top] = counts[top] + 1),
+            with(&|cursor| cursor.begin.indices[0] = u64::MAX),
+            // Two pages are at fault: the higher one is opened first.
+            with(&|cursor| (cursor.begin.indices[top], cursor.begin.pages[0]) = (counts[top] + 1, NONE)),
+            // The page of the top level one level higher; the level is asked before the index.
+            raised(0),
+            raised(u64::MAX),
+            // Behind every datom, and yet not at the end.
+            with(&|cursor| {
+                cursor.begin.indices[..top + 1].copy_from_slice(&counts);
+                cursor.end.indices[0] = counts[0] + 1;
+            }),
+            // Places past the height are not used.
+            with(&|cursor| (cursor.begin.indices[7], cursor.begin.pages[7]) = (77, 777)),
+            with(&|cursor| cursor.end = cursor.begin),
+            Cursor::default(),
+        ]
+    }
+
+    /// Records what the judge answers.
+    fn ask(&mut self, root: u64, question: Question) -> Result<(), String> {
+        let judged = judge(&self.pages, root, &question)?;
+        if let Some(damaged) = judged.named {
+            self.names.add(question.naming(), damaged.fault);
+        }
+        self.records.push(Record::Named { root, question, answer: judged.answer });
+        Ok(())
+    }
+
+    fn finish(self, number: u64) -> Vec<Record> {
+        let (page_size, room) = (self.pages.page_size() as u64, self.pages.count());
+        let end = Record::End { count: room, digest: digest(self.pages.bytes()) };
+        [Record::Begin { page_size, room, history: number }].into_iter().chain(self.records).chain([end]).collect()
+    }
+}
+
+fn step_of(cursor: Cursor) -> (u64, Question) {
+    (0, Question::Step { cursor: cursor.bytes() })
+}

@@ -202,6 +202,59 @@ void answers() {
     EXPECT(std::string(name_of(static_cast<Number>(11))) == "unknown");
 }
 
+// The words of an answer, as the library writes them.
+Answer answer_of(std::uint64_t number, std::uint64_t second) {
+    std::uint8_t words[FLORINWICK_ANSWER_BYTES] = {};
+    put_word(words, number);
+    put_word(words + 16, second);
+    put_word(words + 24, 5);
+    return Answer::read(words);
+}
+
+// A fault stands where the number is Damaged or Unsound, and nowhere else; a number that has no name here is none.
+void faults() {
+    static_assert(name(Fault::Level) == "Level" && name(Fault::NothingLeft) == "NothingLeft" && text(Fault::Level) == "its level is over 7");
+    static_assert(fault_of(1) == Fault::Level && fault_of(7) == Fault::ChildId && fault_of(14) == Fault::NothingLeft);
+    static_assert(!fault_of(0) && !fault_of(15) && !fault_of(UINT64_MAX));
+    std::vector<std::string_view> names, texts;
+    for (std::uint64_t number = 1; number <= 14; ++number) {
+        names.push_back(name(*fault_of(number)));
+        texts.push_back(text(*fault_of(number)));
+        const Answer damaged = answer_of(7, number), unsound = answer_of(33, number);
+        EXPECT(damaged.fault == fault_of(number) && damaged.pages == 0 && damaged.detail == 5 && !damaged.done());
+        EXPECT(unsound.fault == fault_of(number) && unsound.pages == 0 && unsound.detail == 5);
+    }
+    for (auto *words : {&names, &texts}) {
+        std::sort(words->begin(), words->end());
+        EXPECT(std::adjacent_find(words->begin(), words->end()) == words->end());
+        EXPECT(std::find(words->begin(), words->end(), "unknown") == words->end());
+    }
+    EXPECT(name(static_cast<Fault>(15)) == "unknown" && text(static_cast<Fault>(0)) == "unknown");
+    EXPECT(!answer_of(7, 0).fault && !answer_of(7, 15).fault && !answer_of(33, UINT64_MAX).fault && answer_of(7, 15).pages == 0);
+    for (unsigned number : {0u, 1u, 2u, 3u, 4u, 5u, 6u, 8u, 9u, 10u, 16u, 32u}) EXPECT(!answer_of(number, 3).fault && answer_of(number, 3).pages == 3);
+}
+
+// Every call of the wrapper that reads pages passes the fault on; a batch in any form.
+void damaged_pages() {
+    Tree tree(16);
+    EXPECT(tree.store.insert(run(0, 7)).root == 2);
+    const std::uint8_t before = tree.bytes[256 + 249];
+    tree.bytes[256 + 249] = 200;
+    const auto names_count = [](const Answer &answer, Number number) {
+        return answer.number == number && answer.fault == Fault::Count && answer.detail == 1 && answer.pages == 0;
+    };
+    const std::vector<Datom> batch = {d(20)};
+    EXPECT(names_count(tree.store.insert(batch), Number::Damaged) && names_count(tree.store.insert_at(2, batch), Number::Damaged));
+    EXPECT(names_count(tree.store.insert(records_of(batch)), Number::Damaged) && names_count(tree.store.insert(bytes_of(batch)), Number::Damaged));
+    EXPECT(tree.store.root() == 2 && tree.store.page_count() == 3);
+    const Reader reader = tree.store.reader();
+    EXPECT(names_count(reader.held(2, batch), Number::Damaged) && names_count(reader.check(2), Number::Unsound));
+    EXPECT(names_count(reader.list(2, d(5)).answer(), Number::Damaged));
+    tree.bytes[256 + 249] = before;
+    EXPECT(!reader.check(2).fault && !reader.held(2, batch).fault && !tree.store.insert(run(6, 1)).fault && !reader.list(2).answer().fault);
+    EXPECT(tree.store.insert(records_of(batch)).pages == 1 && BatchArgument(records_of(batch)).records().size() == 1);
+}
+
 // Every datom, and how the listing ended.
 std::vector<std::uint64_t> listed(Listing listing, Answer &last) {
     std::vector<std::uint64_t> entities;
@@ -264,7 +317,7 @@ void trees() {
     EXPECT(listed(damaged.reader().list(4), last).size() == 20 && last.number == Number::Ended);
     bytes[256 + 249] = 200;
     EXPECT((listed(damaged.reader().list(4), last) == std::vector<std::uint64_t>{0, 1, 2, 3, 4}));
-    EXPECT(last.number == Number::Damaged && last.detail == 1);
+    EXPECT(last.number == Number::Damaged && last.detail == 1 && last.fault == Fault::Count);
     EXPECT(damaged.reader().check(4).number == Number::Unsound && damaged.reader().check(4).detail == 1);
 }
 
@@ -372,6 +425,8 @@ int main() {
     other_bytes();
     temporaries();
     answers();
+    faults();
+    damaged_pages();
     trees();
     forms_of_a_batch();
     iterators();

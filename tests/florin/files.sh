@@ -191,7 +191,7 @@ for at in 30:4126 $((size - 1)) $((size - 200)); do
     expect 68 'BadHead \(68\): bad.fw, a store of format 1, is damaged' upgrade bad.fw three.fw
 done
 cp one.fw bad.fw; poke bad.fw $((8192 + 1 * 256 + 249)) c8
-expect 33 'Unsound \(33\): page 1, root 2 \(@1\)\. No store was made' upgrade bad.fw three.fw
+expect 33 'Unsound \(33\): page 1, root 2 \(@1\)\. No store was made\. +The fault is Count: it counts .*next: restore' upgrade bad.fw three.fw
 exec 9< one.fw; flock -x 9; expect 73 'Busy' upgrade one.fw three.fw; exec 9<&-
 equal "$(ls three.fw* 2> /dev/null)" '' 'files that a refused upgrade leaves'
 

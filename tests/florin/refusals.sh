@@ -53,14 +53,14 @@ unchanged r.fw expect 6 'Repeated \(6\): datom 1, batch 1, line 2: 5 1 5 2 asser
 cp r.fw damaged.fw
 poke damaged.fw $((pages + 1 * 256 + 249)) c8
 before=$(shown damaged.fw)
-expect 7 'Damaged \(7\): page 1, batch 1\. .*next: run florin check' insert damaged.fw one.txt
+expect 7 'Damaged \(7\): page 1, batch 1\. +The fault is Count: .*next: restore' insert damaged.fw one.txt
 equal "$(shown damaged.fw)" "$before" 'the head after Damaged'
 expect 7 'Damaged \(7\): page 1, root 2\.' list damaged.fw --from 5
 list damaged.fw --to 3 > listed; d 0 2 > expected; same listed expected 'the part that is not damaged'
 unchanged damaged.fw expect 33 'Unsound \(33\): page 1, root 2\. .*next: restore' check damaged.fw
-expect 33 '@1 root 2: Unsound, page 1 .*Unsound \(33\)' check damaged.fw --all
-expect 33 '^\{"receipt":1,"sound":false,"error":"Unsound","page":1,"root":2\} \{"error":"Unsound","status":33,"page":1,"root":2,' check damaged.fw --all --json
-expect 0 'page 1: level 0, 200 of 6 datoms; no page can have these' page damaged.fw 1
+expect 33 '@1 root 2: Unsound, page 1, Count .*Unsound \(33\)' check damaged.fw --all
+expect 33 '^\{"receipt":1,"sound":false,"error":"Unsound","page":1,"fault":\{"number":2,[^}]*\},"root":2\} \{"error":"Unsound","status":33,"page":1,"fault":\{"number":2,[^}]*\},"root":2,' check damaged.fw --all --json
+expect 0 'page 1: level 0, 200 of 6 datoms; no page can have these its fault is Count: .* at byte' page damaged.fw 1
 expect 0 'page 1 cannot be followed: run florin check' tree damaged.fw
 expect 0 'drew' tree damaged.fw --svg damaged.svg
 holds 'the picture of a damaged tree tells of it' grep -q '1 link cannot be followed: run florin check' damaged.svg

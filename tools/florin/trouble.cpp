@@ -1,5 +1,7 @@
 #include "trouble.h"
 
+#include "fault_words.h"
+
 #include <cerrno>
 #include <cstdio>
 #include <cstring>
@@ -62,7 +64,7 @@ Words words_of(Number number) {
             return {"The tree holds it already. Nothing of the batch was written.",
                     "send what florin missing prints: the part of the input that the tree does not hold."};
         case Number::Damaged:
-            return {"The page is missing, unreadable or of the wrong level. Root and pages are as they were.",
+            return {"Root and pages are as they were.",
                     "run florin check; older roots that do not reach the page can still be listed. Restore the file from a backup."};
         case Number::TooTall:
             return {"The tree would get more than 8 levels. Root and pages are as they were.",
@@ -72,7 +74,7 @@ Words words_of(Number number) {
         case Number::BadBound:
             return {"The value of a bound is neither an integer below 2^62, nor a string of at most 7 bytes, nor max.", "correct --from or --to."};
         case Number::Unsound:
-            return {"The check met its first fault in that page.",
+            return {"It is the first page with a fault that the check met.",
                     "restore the file from a backup; florin check --all says which roots are sound."};
         default:
             return {"This answer is not known.", "build florin anew with the library that it is linked to."};
@@ -89,12 +91,14 @@ std::string carried(const Answer &answer) {
 }
 
 Json carried_json(const Answer &answer) {
+    Json json;
     switch (answer.carries()) {
-        case Carries::Index: return {{"datom", answer.detail}};
-        case Carries::Page: return {{"page", page_json(answer.detail)}};
+        case Carries::Index: json.put("datom", answer.detail); break;
+        case Carries::Page: json.put("page", page_json(answer.detail)); break;
         case Carries::Nothing: break;
     }
-    return {};
+    if (answer.fault) json.put("fault", fault_json(*answer.fault));
+    return json;
 }
 
 }  // namespace
@@ -102,8 +106,14 @@ Json carried_json(const Answer &answer) {
 Trouble refusal(const Answer &answer, const std::string &place) {
     const Words words = words_of(answer.number);
     const std::string where = carried(answer) + (place.empty() ? "" : ", " + place);
-    const std::string name = answer.name();
-    return {static_cast<int>(answer.number), name, (where.empty() ? "" : where.substr(2) + ".\n  ") + words.what, words.next, carried_json(answer)};
+    const std::string begin = where.empty() ? "" : where.substr(2) + ".\n  ";
+    Trouble trouble{static_cast<int>(answer.number), answer.name(), begin + words.what, words.next, carried_json(answer), answer.fault};
+    if (answer.fault) {
+        // What to do about a page depends on its fault.
+        trouble.what = begin + "The fault is " + fault_text(*answer.fault) + ". " + words.what;
+        trouble.next = fault_words(*answer.fault).advice;
+    }
+    return trouble;
 }
 
 std::string statuses_text() {

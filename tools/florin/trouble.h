@@ -5,6 +5,7 @@
 #include "florinwick.hpp"
 #include "json.h"
 
+#include <optional>
 #include <string>
 
 namespace florin {
@@ -35,7 +36,8 @@ struct Trouble {
     std::string name;
     std::string what;
     std::string next;
-    Json more = {};      // what --json tells besides: batch, line, datom, page
+    Json more = {};      // what --json tells besides: batch, line, datom, page, fault
+    std::optional<florinwick::Fault> fault = {};   // which rule the page broke, of Damaged and Unsound
 };
 
 // The trouble of a system call that failed on a file, from errno's number.

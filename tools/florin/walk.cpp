@@ -22,6 +22,12 @@ std::optional<PageView> child_of(const Reader &reader, const PageView &parent, u
     return view;
 }
 
+// The library reads a page before all others when it looks for a datom under it.
+std::optional<florinwick::Fault> broken_rule_of(const Reader &reader, std::uint64_t id) {
+    const florinwick::Answer answer = reader.held(id, {florinwick::Datom::min()});
+    return answer.detail == id ? answer.fault : std::nullopt;
+}
+
 namespace {
 
 // In a damaged store one page may be a child many times over. A tree has no more pages than the store, and the walk ends there.

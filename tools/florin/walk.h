@@ -14,6 +14,9 @@ std::optional<PageView> page_of(const florinwick::Reader &reader, std::uint64_t 
 // A child that lies where one may: below its parent in number, and one level lower.
 std::optional<PageView> child_of(const florinwick::Reader &reader, const PageView &parent, unsigned at);
 
+// Which of the reader's rules a page in use breaks by itself, whatever leads to it; nothing if it can be read.
+std::optional<florinwick::Fault> broken_rule_of(const florinwick::Reader &reader, std::uint64_t id);
+
 // How many pages and datoms a tree has.
 struct Shape {
     std::vector<std::uint64_t> pages;    // by level

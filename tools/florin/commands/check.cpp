@@ -1,6 +1,7 @@
 #include "commands/command.h"
 #include "commands/options.h"
 #include "datom_text.h"
+#include "fault_words.h"
 #include "progress.h"
 #include "walk.h"
 
@@ -46,7 +47,7 @@ std::vector<bool> unvouched_pages(const StoreFile &store) {
 }
 
 // The library's rules first, then the checksums of the pages that the tree has.
-std::optional<Trouble> fault_of(const StoreFile &store, std::uint64_t root, const std::vector<bool> &unvouched) {
+std::optional<Trouble> trouble_of(const StoreFile &store, std::uint64_t root, const std::vector<bool> &unvouched) {
     const Answer answer = store.reader().check(root);
     if (!answer.done()) {
         Trouble trouble = refusal(answer, "root " + page_text(root));
@@ -66,9 +67,9 @@ std::optional<Trouble> fault_of(const StoreFile &store, std::uint64_t root, cons
 void check_one(const StoreFile &store, std::uint64_t root, Output &out) {
     Progress progress;
     progress.announce("checking root " + page_text(root));
-    const auto fault = fault_of(store, root, unvouched_pages(store));
+    const auto trouble = trouble_of(store, root, unvouched_pages(store));
     progress.clear();
-    if (fault) throw *fault;
+    if (trouble) throw *trouble;
     const std::uint64_t pages = pages_under(store.reader(), root).size();
     out.tell("Sound: root " + page_text(root) + ", " + counted(pages, "page") + " as written",
              {{"sound", true}, {"root", page_json(root)}, {"pages", pages}});
@@ -90,6 +91,15 @@ Trouble altered_aside(std::uint64_t page) {
             "look at the disk. florin dump and load make a store without the damage.", {{"page", page}}};
 }
 
+// One line for a root that is not sound; the first of them is told in full at the end.
+void tell_of_root(std::uint64_t number, std::uint64_t root, const Trouble &trouble, Output &out) {
+    Json object = {{"receipt", number}, {"sound", false}, {"error", trouble.name}};
+    object.put_all(trouble.more);
+    const std::string fault = trouble.fault ? ", " + fault_words(*trouble.fault).name : "";
+    out.tell("@" + std::to_string(number) + " root " + page_text(root) + ": " + trouble.name + ", page " + trouble.more["page"].text() + fault,
+             object);
+}
+
 // A tree all of whose pages are as accepted inserts of a history left them is sound: that is proved (crates/demand, `sound`). So each page
 // is compared once, and walked by the library are the newest root and those that reach an altered page; with --walk all.
 void check_all(const StoreFile &store, bool walk, Output &out) {
@@ -108,14 +118,11 @@ void check_all(const StoreFile &store, bool walk, Output &out) {
         number += 1;
         if (!walk && number < receipts.size() && !reaches[receipt.root]) continue;
         walked += 1;
-        const auto fault = fault_of(store, receipt.root, unvouched);
-        if (!fault) continue;
+        const auto trouble = trouble_of(store, receipt.root, unvouched);
+        if (!trouble) continue;
         progress.clear();
-        Json object = {{"receipt", number}, {"sound", false}, {"error", fault->name}};
-        object.put_all(fault->more);
-        const std::string page = fault->more["page"].text();
-        out.tell("@" + std::to_string(number) + " root " + page_text(receipt.root) + ": " + fault->name + ", page " + page, object);
-        if (!first) first = *fault;
+        tell_of_root(number, receipt.root, *trouble, out);
+        if (!first) first = *trouble;
     }
     progress.clear();
     out.flush();
@@ -148,7 +155,12 @@ Run define_check(Words &words) {
     words.flag("--walk", given->walk, "with --all: walk every root by itself");
     words.footer("Of a tree: the rules of every page, the levels, the bounds between pages, and that every page has the checksum it was\n"
                "written with. With --all every page in use is compared with its checksum once, and the library walks the newest root and\n"
-               "those that reach an altered page: the others are what accepted inserts left, and those are proved to be sound.\n");
+               "those that reach an altered page: the others are what accepted inserts left, and those are proved to be sound.\n"
+               "\n"
+               "Damaged and Unsound name a page and its fault, the first that was met:\n"
+               "\n" + faults_text() + "\n"
+               "Where there is no backup, florin list STORE --root @N --every 128 prints a root that is sound as batches, and\n"
+               "florin insert takes them into a new store.\n");
     return [given](Output &out) { check(*given, out); };
 }
 

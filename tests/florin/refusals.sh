@@ -61,7 +61,7 @@ unchanged damaged.fw expect 33 'Unsound \(33\): page 1, root 2\. .*next: restore
 expect 33 '@1 root 2: Unsound, page 1, Count .*Unsound \(33\)' check damaged.fw --all
 expect 33 '^\{"receipt":1,"sound":false,"error":"Unsound","page":1,"fault":\{"number":2,[^}]*\},"root":2\} \{"error":"Unsound","status":33,"page":1,"fault":\{"number":2,[^}]*\},"root":2,' check damaged.fw --all --json
 expect 0 'page 1: level 0, 200 of 6 datoms; no page can have these its fault is Count: .* at byte' page damaged.fw 1
-expect 0 'page 1 cannot be followed: run florin check' tree damaged.fw
+expect 0 'page 1 cannot be followed: Count: it counts more datoms than a page of its size holds; run florin check' tree damaged.fw
 expect 0 'drew' tree damaged.fw --svg damaged.svg
 holds 'the picture of a damaged tree tells of it' grep -q '1 link cannot be followed: run florin check' damaged.svg
 holds 'the picture of a damaged tree' xmllint --noout damaged.svg
@@ -82,12 +82,13 @@ expect 33 'Unsound \(33\): page 1, root 2' check unsound.fw
 cp r.fw loop.fw
 poke loop.fw $((pages + 2 * 256 + 192)) 02
 expect 33 'Unsound \(33\): page 2' check loop.fw
-expect 0 'page 2 cannot be followed' tree loop.fw
+expect 0 'page 2 cannot be followed: run florin check' tree loop.fw
 expect 0 'drew' tree loop.fw --svg loop.svg
 cp r.fw level.fw
 poke level.fw $((pages + 2 * 256 + 248)) 02
 expect 33 'Unsound \(33\): page 0' check level.fw
-expect 0 'cannot be followed' tree level.fw
+expect 0 'page 0 cannot be followed: WrongLevel: .*; run florin check' tree level.fw
+expect 0 'root 1 cannot be read: Count: .*; run florin check' tree damaged.fw --root 1
 
 # 75 Altered: a bit of a price that no rule of the tree tells of. Every bit of every page is covered, and each root is told that reaches it.
 "$florin" create price.fw --page-size 256 --from seven.txt > /dev/null

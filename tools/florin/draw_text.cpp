@@ -1,6 +1,7 @@
 #include "draw.h"
 
 #include "datom_text.h"
+#include "fault_words.h"
 
 #include <algorithm>
 
@@ -25,6 +26,11 @@ std::string line_of(const PageView &page) {
            std::to_string(page.capacity()) + " datoms";
 }
 
+// The fault before what to do, if there is a name for it.
+std::string named(std::optional<florinwick::Fault> fault) {
+    return fault ? fault_text(*fault) + "; " : "";
+}
+
 class Outline {
 public:
     Outline(std::FILE *out, const Subject &subject) : out_(out), subject_(subject) {}
@@ -47,7 +53,9 @@ private:
         const char *branch = last ? "└─" : "├─";
         const auto child = subject_.child(page, at);
         if (!child || ++shown_ >= subject_.reader.page_count()) {
-            std::fprintf(out_, "%s%s page %s cannot be followed: run florin check\n", indent.c_str(), branch, page_text(page.child(at)).c_str());
+            const auto fault = child ? std::nullopt : fault_of_child(subject_.reader, page, at);
+            std::fprintf(out_, "%s%s page %s cannot be followed: %srun florin check\n", indent.c_str(), branch, page_text(page.child(at)).c_str(),
+                         named(fault).c_str());
             return;
         }
         std::fprintf(out_, "%s%s %s\n", indent.c_str(), branch, line_of(*child).c_str());
@@ -77,8 +85,9 @@ void draw_page(std::FILE *out, const PageView &page) {
 void draw_text(std::FILE *out, const Subject &subject) {
     const auto root = subject.page(subject.root);
     if (!root) {
-        std::fprintf(out, "root %s %s\n", page_text(subject.root).c_str(),
-                     subject.root == florinwick::none ? "has no datoms" : "cannot be read: run florin check");
+        const bool none = subject.root == florinwick::none;
+        const std::string why = none ? "has no datoms" : "cannot be read: " + named(broken_rule_of(subject.reader, subject.root)) + "run florin check";
+        std::fprintf(out, "root %s %s\n", page_text(subject.root).c_str(), why.c_str());
         return;
     }
     const Shape shape = Shape::of(subject.reader, subject.root);

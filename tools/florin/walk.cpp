@@ -28,6 +28,11 @@ std::optional<florinwick::Fault> broken_rule_of(const Reader &reader, std::uint6
     return answer.detail == id ? answer.fault : std::nullopt;
 }
 
+std::optional<florinwick::Fault> fault_of_child(const Reader &reader, const PageView &parent, unsigned at) {
+    if (parent.child(at) >= parent.id()) return std::nullopt;
+    return broken_rule_of(reader, parent.child(at)).value_or(florinwick::Fault::WrongLevel);
+}
+
 namespace {
 
 // In a damaged store one page may be a child many times over. A tree has no more pages than the store, and the walk ends there.

@@ -17,6 +17,10 @@ std::optional<PageView> child_of(const florinwick::Reader &reader, const PageVie
 // Which of the reader's rules a page in use breaks by itself, whatever leads to it; nothing if it can be read.
 std::optional<florinwick::Fault> broken_rule_of(const florinwick::Reader &reader, std::uint64_t id);
 
+// Why a child that child_of does not give cannot be followed, as far as the child itself shows it. One whose number is not below its
+// parent's is the parent's fault.
+std::optional<florinwick::Fault> fault_of_child(const florinwick::Reader &reader, const PageView &parent, unsigned at);
+
 // How many pages and datoms a tree has.
 struct Shape {
     std::vector<std::uint64_t> pages;    // by level

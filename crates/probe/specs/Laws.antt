@@ -19,6 +19,7 @@ use Rattle.datom.specs.Laws.{datoms-from}
 use Rattle.index.specs.declared.Order.{Order}
 use Rattle.index.specs.Order.{DatomOrd, named}
 use Rattle.answer.specs.declared.Rule.{Rule}
+use Rattle.answer.specs.Names.{ruleNumber}
 use Rattle.rules.specs.Page.{Node, Read, broken, good, nodeOf, levelOf, encodePage, rising, readPage, childAt, childrenOf}
 use Rattle.rules.specs.Node.{partOf}
 use Rattle.rules.specs.SplitLaws.{whole-part}
@@ -27,7 +28,7 @@ use Rattle.memory_store.specs.declared.reader.Reading.the-variants as reading
 use Rattle.memory_store.specs.Reading.{said}
 use Rattle.probe.specs.declared.Look.{Look}
 use Rattle.probe.specs.declared.Look.the-variants.{Unread, Good}
-use Rattle.probe.specs.Seen.{unread, holds, nothing, ruleNumber, seen, shown, ofNode, headWord, ofDatom, orderNumber, orderOf, wroteOf, rewritten}
+use Rattle.probe.specs.Seen.{unread, holds, nothing, seen, shown, ofNode, headWord, ofDatom, orderNumber, orderOf, wroteOf, rewritten}
 
 -- bytes that a page may have hold its header
 pub look-fits : (s : List ℕ) (c : ℕ) → c ≡ capacity (length s) → (c ≡ 0 → ⊥) → 40 * c + 10 ≤ length s

@@ -12,8 +12,7 @@ use Rattle.datom.specs.Datom.{datomOf}
 use Rattle.index.specs.declared.Order.{Order}
 use Rattle.index.specs.declared.Order.the-variants.{Less, Equal, Greater}
 use Rattle.index.specs.Order.{DatomOrd, named}
-use Rattle.answer.specs.declared.Rule.{Rule}
-use Rattle.answer.specs.declared.Rule.the-variants as rule
+use Rattle.answer.specs.Names.{ruleNumber}
 use Rattle.rules.specs.Page.{Node, Read, broken, good, nodeOf, encodePage, readPage}
 use Rattle.rules.specs.Node.{rank, nextMidpoint}
 use Rattle.rules.specs.Lookup as lookup
@@ -22,16 +21,6 @@ use Rattle.probe.specs.declared.Look.the-variants.{Unread, Good}
 
 abbrev pub nothing : ℕ
 nothing = 0xffff_ffff_ffff_ffff
-
--- in document 01's order
-abbrev pub ruleNumber : Rule → ℕ
-ruleNumber rule.Level = 1
-ruleNumber rule.Count = 2
-ruleNumber rule.Form = 3
-ruleNumber rule.Order = 4
-ruleNumber rule.LeafChild = 5
-ruleNumber rule.LastChild = 6
-ruleNumber rule.ChildId = 7
 
 -- a page that is not readable, with the number of the first broken rule, or what it holds
 pub data Seen : Type 0 where

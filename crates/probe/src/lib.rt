@@ -2,7 +2,6 @@
 // where there is nothing to say the answer is 2^64-1.
 use answer::Fetch;
 use answer::NextMidpoint;
-use answer::Rule;
 use index::Order;
 use memory_store::reader::Reading;
 use store::Extent;
@@ -11,7 +10,7 @@ ghost use mathlib.Core.Path.{_≡_};
 ghost use Rattle.index.specs.Order.{eavt};
 ghost use Rattle.answer.specs.Table.{fetchWords};
 ghost use Rattle.rules.specs.Store.{fetchAnswer};
-ghost use Rattle.probe.specs.Seen.{seen, shown, ruleNumber, ruleOf, levelOf, countOf, wordOf, childOf, nextOf, firstOf, orderOf, wroteOf, rewritten};
+ghost use Rattle.probe.specs.Seen.{seen, shown, ruleOf, levelOf, countOf, wordOf, childOf, nextOf, firstOf, orderOf, wroteOf, rewritten};
 
 const NOTHING: u64 = 0xffff_ffff_ffff_ffff;
 
@@ -19,21 +18,6 @@ const NOTHING: u64 = 0xffff_ffff_ffff_ffff;
 enum Look {
     Unread(u64),
     Good(usize, usize),
-}
-
-// 1 to 7 in document 01's order.
-fn number(rule: Rule) -> u64
-    ensures { λ r. ⌜ r ≡ ruleNumber rule ⌝ }
-{
-    match rule {
-        Rule::Level => 1,
-        Rule::Count => 2,
-        Rule::Form => 3,
-        Rule::Order => 4,
-        Rule::LeafChild => 5,
-        Rule::LastChild => 6,
-        Rule::ChildId => 7,
-    }
 }
 
 fn look_at(bytes: &[u8], id: u64) -> Look
@@ -44,7 +28,7 @@ fn look_at(bytes: &[u8], id: u64) -> Look
         return Look::Unread(NOTHING);
     }
     match memory_store::reader::read_page(bytes, c, PageId(id)) {
-        Reading::Broken(rule) => Look::Unread(number(rule)),
+        Reading::Broken(rule) => Look::Unread(rule.number()),
         Reading::Good { level, count } => Look::Good(level, count),
     }
 }

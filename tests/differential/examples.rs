@@ -1,8 +1,8 @@
 //! Document 01's examples k and l and the scratch need, by number.
 
-use harness::{Datom, Node, Random};
+use harness::{Answer, Datom, Node, Random};
 
-use crate::library::{bytes_of, call, scratch_need, Answer, Call, Entry, Lent};
+use crate::library::{bytes_of, call, scratch_need, Call, Entry, Lent};
 
 /// A page, its level, and which datoms it has where that is said.
 type Content = (u64, u8, Option<Vec<u64>>);

@@ -5,9 +5,9 @@ mod damage;
 mod reading;
 mod wrong;
 
-use harness::{compare, Datom, Held, Kind, Node, Oracle, Order, Pages, Panic, Plan, Random, Supply, Which, MAX_VALUE, NONE};
+use harness::{compare, Answer, Datom, Held, Kind, Node, Oracle, Order, Pages, Panic, Plan, Random, Supply, Which, MAX_VALUE, NONE};
 
-use crate::library::{bytes_of, call, call_named, datoms_of, scratch_need, Answer, Call, Entry, Lent};
+use crate::library::{bytes_of, call, call_named, datoms_of, scratch_need, Call, Entry, Lent};
 use crate::names::{Damaged, Naming};
 use crate::reader::{same, Difference};
 use crate::store::Store;

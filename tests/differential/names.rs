@@ -2,9 +2,7 @@
 
 use std::fmt;
 
-use harness::Rule;
-
-use crate::library::Answer;
+use harness::{Answer, Rule};
 
 /// Which rule was broken.
 #[derive(Clone, Copy, Debug, PartialEq)]

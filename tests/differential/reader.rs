@@ -1,8 +1,8 @@
 //! The library's calls that only read, each compared with the rules of documents 01 and 02.
 
-use harness::{Datom, Pages, Random, NONE};
+use harness::{Answer, Datom, Pages, Random, NONE};
 
-use crate::library::{bytes_of, datoms_of, Answer, Asked, Lent};
+use crate::library::{bytes_of, datoms_of, Asked, Lent};
 use crate::model::{Cursor, Looked, Model, Step, CURSOR_BYTES};
 use crate::names::{Damaged, Naming};
 use crate::tally::Tally;

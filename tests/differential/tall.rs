@@ -1,9 +1,9 @@
 //! The tallest tree: ascending batches of four until the next one would need a page of level 8.
 
-use harness::{Datom, Node, Oracle, Order, Pages, Random, Verdict, Which, MAX_VALUE};
+use harness::{Answer, Datom, Node, Oracle, Order, Pages, Random, Verdict, Which, MAX_VALUE};
 
 use crate::history::ask;
-use crate::library::{bytes_of, call, call_named, scratch_need, Answer, Call, Entry, Lent};
+use crate::library::{bytes_of, call, call_named, scratch_need, Call, Entry, Lent};
 use crate::reader::Reader;
 use crate::store::Store;
 use crate::tally::Tally;

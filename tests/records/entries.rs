@@ -1,8 +1,8 @@
 //! One call of both entries, with a store for each.
 
-use harness::{Datom, Random};
+use harness::{Answer, Datom, Random};
 
-use crate::library::{bytes_of, call, Answer, Call, Entry, Lent};
+use crate::library::{bytes_of, call, Call, Entry, Lent};
 
 /// A datom as a C or C++ program has it.
 #[repr(C)]

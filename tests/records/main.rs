@@ -11,8 +11,8 @@ mod recording;
 use std::{env, fs, process};
 
 use entries::{insert, Given};
-use harness::{capacity, Datom, Random, MAX_VALUE, NONE};
-use library::{bytes_of, call, scratch_need, Answer, Call, Entry, Lent};
+use harness::{capacity, Answer, Datom, Random, MAX_VALUE, NONE};
+use library::{bytes_of, call, scratch_need, Call, Entry, Lent};
 use recording::{Record, Written};
 
 const SEED: u64 = 20190607;

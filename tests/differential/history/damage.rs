@@ -2,12 +2,12 @@
 
 use std::collections::BTreeSet;
 
-use harness::{capacity, compare, readable_damage, Datom, Node, Oracle, Plan, Verdict, Which, NONE};
+use harness::{capacity, compare, readable_damage, Answer, Datom, Node, Oracle, Plan, Verdict, Which, NONE};
 
 use super::breaking::{misplaced, Broken};
 use super::reading::Reading;
 use super::{ask, node, path, History, MOST};
-use crate::library::{bytes_of, Answer, Entry};
+use crate::library::{bytes_of, Entry};
 use crate::model::Model;
 use crate::names::{Damaged, Fault};
 use crate::reader::Difference;

@@ -1,10 +1,10 @@
 //! Calls that read with wrong sizes, counts, areas, bounds, batches and roots, several at a time: the first number in document 01's order.
 
-use harness::{capacity, compare, is_bound, is_storable, Random, MAX_VALUE, NONE};
+use harness::{capacity, compare, is_bound, is_storable, Answer, Random, MAX_VALUE, NONE};
 
 use super::reading::Reading;
 use super::{History, MOST};
-use crate::library::{bytes_of, datoms_of, Answer, Asked, Lent};
+use crate::library::{bytes_of, datoms_of, Asked, Lent};
 use crate::model::{Cursor, CURSOR_BYTES};
 use crate::reader::{same, Difference};
 

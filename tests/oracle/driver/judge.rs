@@ -1,10 +1,10 @@
 //! What a call that names faults answers over any store, by the model of documents 01 and 02. Where the Rust has an answer, too, it must agree.
 
-use harness::{Datom, Node, Oracle, Order, Pages, Verdict, Which, NONE};
+use harness::{Answer, Datom, Node, Oracle, Order, Pages, Verdict, Which, NONE};
 
 use crate::model::{Cursor, Looked, Model, Step, CURSOR_BYTES};
 use crate::names::{Damaged, Fault, Naming};
-use crate::recording::{Answer, Question};
+use crate::recording::Question;
 
 /// How the Rust ends a merge that meets an equal datom.
 const EQUAL_MET: &str = "Encountered duplicate datom in htree.";

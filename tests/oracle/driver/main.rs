@@ -18,11 +18,6 @@ mod run;
 mod selftest;
 mod text;
 
-/// The model's names are told in the library's answers; here these are the recorded ones.
-mod library {
-    pub use crate::recording::Answer;
-}
-
 use std::env;
 use std::process::exit;
 

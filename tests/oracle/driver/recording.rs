@@ -1,6 +1,6 @@
 //! The file of recorded answers: a sequence of records of little-endian words (docs/ORACLE.md).
 
-use harness::Datom;
+use harness::{Answer, Datom};
 
 /// A reader may keep one record in memory, so none is longer, its length word not counted.
 pub const LONGEST_RECORD: usize = 65_536;
@@ -35,23 +35,6 @@ pub struct Written {
     pub root: u64,
     pub count: u64,
     pub pages: Carried,
-}
-
-/// The four words that a call of the C interface answers.
-#[derive(Clone, Copy, Debug, PartialEq)]
-pub struct Answer {
-    pub number: u64,
-    pub root: u64,
-    /// Pages written, or the number of the fault that the answer names.
-    pub pages: u64,
-    pub detail: u64,
-}
-
-impl Answer {
-    /// The answer of a call that reads: a number, and an index or page.
-    pub fn told(number: u64, detail: u64) -> Answer {
-        Answer { number, root: 0, pages: 0, detail }
-    }
 }
 
 /// A call that names what is damaged, with what it is given besides the store and the root.

@@ -4,11 +4,11 @@ use std::collections::{BTreeMap, BTreeSet};
 use std::fmt;
 use std::fs;
 
-use harness::{Datom, Oracle, Order, Pages, Panic, Verdict, Which, PAGE_SIZES};
+use harness::{Answer, Datom, Oracle, Order, Pages, Panic, Verdict, Which, PAGE_SIZES};
 
 use crate::judge::{is_readable, judge};
 use crate::names::{Names, Naming};
-use crate::recording::{datom_bytes, digest, Answer, Question, Record, Who, Written};
+use crate::recording::{datom_bytes, digest, Question, Record, Who, Written};
 
 // The answers were recorded with noblit's own order; here the one written to document 01 must give them too.
 const PATCHED: Oracle = Oracle { which: Which::Patched, order: Order::Rule };

@@ -3,10 +3,10 @@
 
 use std::cmp::Ordering;
 
-use harness::{byte_string, compare, is_bound, Datom, Oracle, Order, Random, Value, Which, MAX_VALUE};
+use harness::{byte_string, compare, is_bound, Answer, Datom, Oracle, Order, Random, Value, Which, MAX_VALUE};
 
 use crate::model::Cursor;
-use crate::recording::{Answer, Question, Record};
+use crate::recording::{Question, Record};
 use crate::text::show_datom;
 
 const SEED: u64 = 1;

@@ -6,6 +6,7 @@
 #[cfg(not(all(target_pointer_width = "64", target_endian = "little")))]
 compile_error!("the Rust stores datoms as the host has them: the oracle needs a 64-bit little-endian host");
 
+mod answer;
 mod damage;
 mod datom;
 mod node;
@@ -15,6 +16,7 @@ mod panics;
 mod random;
 mod supply;
 
+pub use answer::Answer;
 pub use damage::{readable_damage, relevel};
 pub use datom::{byte_string, compare, is_bound, is_storable, Datom, Value, MAX_VALUE};
 pub use node::{capacity, Node, Rule, PAGE_SIZES};

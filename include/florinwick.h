@@ -34,13 +34,13 @@
 #define FLORINWICK_H
 
 /*
- * The version of this interface: a call that is added, or a word that comes to say something where it was always 0, raises the second
- * number; one that changes otherwise the first.
+ * The version of this interface: a call or a page size that is added, or a word that comes to say something where it was always 0, raises
+ * the second number; one that changes otherwise the first.
  */
 #define FLORINWICK_VERSION_MAJOR 0
-#define FLORINWICK_VERSION_MINOR 3
+#define FLORINWICK_VERSION_MINOR 4
 #define FLORINWICK_VERSION_PATCH 0
-#define FLORINWICK_VERSION "0.3.0"
+#define FLORINWICK_VERSION "0.4.0"
 
 #include <stddef.h>
 #include <stdint.h>
@@ -101,8 +101,8 @@ enum florinwick_fault {
 #define FLORINWICK_LEVELS 8          /* a tree is at most so high */
 
 /*
- * How much scratch insert and initialise need with pages of this size: 62016, 81728 and 332352 bytes for 256, 568 and 4096.
- * 0 for a page size that is not known. What scratch holds before a call is of no matter, and what it holds afterwards is unsaid.
+ * How much scratch insert and initialise need with pages of this size: 62016 bytes for 256, 81728 for 568, 332352 for 4096 and 619584
+ * for 8192, which is since 0.4. 0 for a page size that is not known. What scratch holds before a call is of no matter, and what it holds afterwards is unsaid.
  */
 uint64_t florinwick_scratch_need(uint64_t page_size);
 

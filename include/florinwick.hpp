@@ -33,8 +33,11 @@
 
 namespace florinwick {
 
-// Of this header and florinwick.h, as "0.3.0". The archive is of the same one if both come from one install.
+// Of this header and florinwick.h, as "0.4.0". The archive is of the same one if both come from one install.
 inline constexpr std::string_view version = FLORINWICK_VERSION;
+
+// The sizes that a page may have, in bytes; all pages of a store have one. scratch_need is 0 for any other.
+inline constexpr std::uint64_t page_sizes[] = {256, 568, 4096, 8192};
 
 template <class T>
 class Span;

@@ -1,6 +1,6 @@
 //! The library, over its C interface.
 
-use crate::slab::{Slab, PAGE};
+use crate::slab::Slab;
 
 #[path = "../archive.rs"]
 mod archive;
@@ -15,17 +15,17 @@ pub struct Florinwick {
 
 impl Florinwick {
     pub fn new(slab: Slab, root: u64) -> Florinwick {
-        let need = unsafe { archive::florinwick_scratch_need(PAGE as u64) };
+        let need = unsafe { archive::florinwick_scratch_need(slab.page_size as u64) };
         Florinwick { slab, root, scratch: vec![0; need as usize] }
     }
 
     fn send(&mut self, root: u64, batch: &[u8]) -> [u64; 4] {
         let mut answer = [0u64; 4];
-        let count = self.slab.count;
+        let (size, count) = (self.slab.page_size as u64, self.slab.count);
         let store = self.slab.bytes_mut();
         unsafe {
             archive::florinwick_insert(
-                store.as_mut_ptr(), store.len(), PAGE as u64, count, root, batch.as_ptr(), batch.len(),
+                store.as_mut_ptr(), store.len(), size, count, root, batch.as_ptr(), batch.len(),
                 self.scratch.as_mut_ptr(), self.scratch.len(), answer.as_mut_ptr() as *mut u8, 32,
             );
         }
@@ -46,7 +46,7 @@ impl Florinwick {
 
     /// How many datoms a listing of everything hands out, step by step, and the sum of their entities.
     pub fn list(&self) -> (u64, u64) {
-        let (store, size, count) = (self.slab.bytes(), PAGE as u64, self.slab.count);
+        let (store, size, count) = (self.slab.bytes(), self.slab.page_size as u64, self.slab.count);
         let (mut cursor, mut datom, mut answer) = ([0u64; 33], [0u64; 4], [0u64; 4]);
         let (lower, upper) = ([0u64; 4], [u64::MAX; 4]);
         let (cursor, answer) = (cursor.as_mut_ptr() as *mut u8, answer.as_mut_ptr() as *mut u8);
@@ -72,7 +72,7 @@ impl Florinwick {
         let store = self.slab.bytes();
         let number = unsafe {
             archive::florinwick_check(
-                store.as_ptr(), store.len(), PAGE as u64, self.slab.count, self.root, answer.as_mut_ptr() as *mut u8, 32,
+                store.as_ptr(), store.len(), self.slab.page_size as u64, self.slab.count, self.root, answer.as_mut_ptr() as *mut u8, 32,
             )
         };
         assert_eq!(number, 0, "a tree of the feed is not sound");

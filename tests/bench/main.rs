@@ -26,11 +26,22 @@ const SINGLES_A_ROUND: usize = 2048;
 /// The store has room for so many pages past the tree that a round starts with.
 const MORE_PAGES: usize = 16384;
 
+/// The page sizes that are timed if not said. LMDB and SQLite stand beside the first.
+const FIRST: usize = 4096;
+const PAGE_SIZES: [usize; 2] = [FIRST, 8192];
+
+/// What a tree is grown of, how large, in pages of which size.
+#[derive(Clone, Copy, PartialEq)]
+struct Case {
+    keys: Keys,
+    tree: usize,
+    page_size: usize,
+}
+
 /// The times of one operation in every round, in nanoseconds.
 struct Times {
     what: &'static str,
-    keys: Keys,
-    tree: usize,
+    case: Case,
     side: &'static str,
     rounds: Vec<f64>,
 }
@@ -49,38 +60,36 @@ struct Bench {
 }
 
 impl Bench {
-    fn note(&mut self, what: &'static str, keys: Keys, tree: usize, side: &'static str, nanoseconds: f64) {
-        let is_it = |times: &&mut Times| times.what == what && times.keys == keys && times.tree == tree && times.side == side;
+    fn note(&mut self, what: &'static str, case: Case, side: &'static str, nanoseconds: f64) {
+        let is_it = |times: &&mut Times| times.what == what && times.case == case && times.side == side;
         match self.times.iter_mut().find(is_it) {
             Some(times) => times.rounds.push(nanoseconds),
-            None => self.times.push(Times { what, keys, tree, side, rounds: vec![nanoseconds] }),
+            None => self.times.push(Times { what, case, side, rounds: vec![nanoseconds] }),
         }
     }
 
-    fn tree(&mut self, keys: Keys, tree: usize) {
-        let mut feed = Feed::new(keys, 1);
-        let mut ours = grown(&mut feed, keys, tree);
+    fn tree(&mut self, case: Case) {
+        let mut feed = Feed::new(case.keys, 1);
+        let mut ours = grown(&mut feed, case);
         let mut theirs = Noblit { slab: Slab::copy_of(&ours.slab, MORE_PAGES), root: ours.root };
-        eprintln!("{:?}, {} datoms: {} pages", keys, tree, ours.slab.count);
+        eprintln!("{:?}, {} datoms: {} pages of {} bytes", case.keys, case.tree, ours.slab.count, case.page_size);
         for round in 0..self.rounds {
             let mut branch = feed.branch(2 + round as u64);
             let batches: Vec<Vec<Datom>> = (0..BATCHES_A_ROUND).map(|_| branch.batch(BATCH)).collect();
-            self.inserts("insert of 128", keys, tree, round, &batches, &mut ours, &mut theirs);
-            self.receipts("receipt for 128", keys, tree, &batches, &mut ours);
+            self.inserts("insert of 128", case, round, &batches, &mut ours, &mut theirs);
+            self.receipts("receipt for 128", case, &batches, &mut ours);
             let singles: Vec<Vec<Datom>> = (0..SINGLES_A_ROUND).map(|_| branch.batch(1)).collect();
-            self.inserts("insert of 1", keys, tree, round, &singles, &mut ours, &mut theirs);
-            self.receipts("receipt for 1", keys, tree, &singles, &mut ours);
+            self.inserts("insert of 1", case, round, &singles, &mut ours, &mut theirs);
+            self.receipts("receipt for 1", case, &singles, &mut ours);
         }
-        for round in 0..readings(self.rounds, tree) {
-            self.reads(keys, tree, round, &ours, &theirs);
+        for round in 0..readings(self.rounds, case.tree) {
+            self.reads(case, round, &ours, &theirs);
         }
     }
 
     /// The same batches on both sides, which take turns at being first; both must write the same bytes.
-    #[allow(clippy::too_many_arguments)]
     fn inserts(
-        &mut self, what: &'static str, keys: Keys, tree: usize, round: usize, batches: &[Vec<Datom>], ours: &mut Florinwick,
-        theirs: &mut Noblit,
+        &mut self, what: &'static str, case: Case, round: usize, batches: &[Vec<Datom>], ours: &mut Florinwick, theirs: &mut Noblit,
     ) {
         let bytes: Vec<Vec<u8>> = batches.iter().map(|batch| bytes_of(batch)).collect();
         let facts: Vec<Vec<_>> = batches.iter().map(|batch| batch.iter().map(fact).collect()).collect();
@@ -89,11 +98,11 @@ impl Bench {
             if (round + turn) % 2 == 0 {
                 ours.slab.rewind(count);
                 let time = timed(|| bytes.iter().for_each(|batch| ours.insert(batch)));
-                self.note(what, keys, tree, "Florinwick", time / batches.len() as f64);
+                self.note(what, case, "Florinwick", time / batches.len() as f64);
             } else {
                 theirs.slab.rewind(count);
                 let time = timed(|| facts.iter().for_each(|batch| theirs.insert(batch)));
-                self.note(what, keys, tree, "Rust", time / batches.len() as f64);
+                self.note(what, case, "Rust", time / batches.len() as f64);
             }
         }
         assert!(ours.root == theirs.root && ours.slab.bytes_from(count) == theirs.slab.bytes_from(count), "both write the same pages");
@@ -103,7 +112,7 @@ impl Bench {
     }
 
     /// Each batch again, at the root that it led to.
-    fn receipts(&mut self, what: &'static str, keys: Keys, tree: usize, batches: &[Vec<Datom>], ours: &mut Florinwick) {
+    fn receipts(&mut self, what: &'static str, case: Case, batches: &[Vec<Datom>], ours: &mut Florinwick) {
         let (count, root) = (ours.slab.count, ours.root);
         let mut sent = Vec::new();
         for batch in batches {
@@ -112,33 +121,35 @@ impl Bench {
             sent.push((bytes, ours.root));
         }
         let time = timed(|| sent.iter().for_each(|(batch, root)| ours.resend(batch, *root)));
-        self.note(what, keys, tree, "Florinwick", time / batches.len() as f64);
+        self.note(what, case, "Florinwick", time / batches.len() as f64);
         ours.root = root;
         ours.slab.rewind(count);
     }
 
-    fn reads(&mut self, keys: Keys, tree: usize, round: usize, ours: &Florinwick, theirs: &Noblit) {
+    fn reads(&mut self, case: Case, round: usize, ours: &Florinwick, theirs: &Noblit) {
         let (mut listed, mut by_rust) = ((0, 0), (0, 0));
+        let tree = case.tree;
         for turn in 0..2 {
             if (round + turn) % 2 == 0 {
                 let time = timed(|| listed = ours.list());
-                self.note("listed datom", keys, tree, "Florinwick", time / tree as f64);
+                self.note("listed datom", case, "Florinwick", time / tree as f64);
                 let time = timed(|| ours.check());
-                self.note("checked datom", keys, tree, "Florinwick", time / tree as f64);
+                self.note("checked datom", case, "Florinwick", time / tree as f64);
             } else {
                 let time = timed(|| by_rust = theirs.list());
-                self.note("listed datom", keys, tree, "Rust", time / tree as f64);
+                self.note("listed datom", case, "Rust", time / tree as f64);
                 let time = timed(|| theirs.check());
-                self.note("checked datom", keys, tree, "Rust", time / tree as f64);
+                self.note("checked datom", case, "Rust", time / tree as f64);
             }
         }
         assert!(listed == by_rust && listed.0 == tree as u64, "{:?} and {:?} are listed", listed, by_rust);
     }
 
     /// LMDB and SQLite grow while they are timed.
-    fn others(&mut self, keys: Keys, tree: usize) {
+    fn others(&mut self, case: Case) {
         let (mut lmdb, mut sqlite) = (Lmdb::new(), Sqlite::new());
-        let mut feed = Feed::new(keys, 1);
+        let mut feed = Feed::new(case.keys, 1);
+        let tree = case.tree;
         for _ in 0..tree / BATCH {
             let batch = feed.batch(BATCH);
             assert!(lmdb.insert(&batch) && sqlite.insert(&batch));
@@ -147,9 +158,9 @@ impl Bench {
             let (mut one, mut other) = ((0, 0), (0, 0));
             let listed = (tree / BATCH * BATCH) as f64;
             let time = timed(|| one = lmdb.list());
-            self.note("listed datom", keys, tree, "LMDB", time / listed);
+            self.note("listed datom", case, "LMDB", time / listed);
             let time = timed(|| other = sqlite.list());
-            self.note("listed datom", keys, tree, "SQLite", time / listed);
+            self.note("listed datom", case, "SQLite", time / listed);
             assert_eq!(one, other, "LMDB and SQLite list different datoms");
         }
         for _ in 0..self.rounds.div_ceil(8) {
@@ -159,21 +170,22 @@ impl Bench {
             ] {
                 let batches: Vec<Vec<Datom>> = (0..amount).map(|_| feed.batch(size)).collect();
                 let times = twice(&batches, |batch| lmdb.insert(batch));
-                self.note(what, keys, tree, "LMDB", times.0);
-                self.note(receipt, keys, tree, "LMDB", times.1);
+                self.note(what, case, "LMDB", times.0);
+                self.note(receipt, case, "LMDB", times.1);
                 let times = twice(&batches, |batch| sqlite.insert(batch));
-                self.note(what, keys, tree, "SQLite", times.0);
-                self.note(receipt, keys, tree, "SQLite", times.1);
+                self.note(what, case, "SQLite", times.0);
+                self.note(receipt, case, "SQLite", times.1);
             }
         }
     }
 
     fn report(&self) -> String {
-        let mut text = "what\tkeys\tdatoms\tside\tmedian\tquarter\tthree quarters\n".to_string();
+        let mut text = "what\tkeys\tdatoms\tpage size\tside\tmedian\tquarter\tthree quarters\n".to_string();
         for times in &self.times {
             let [low, median, high] = [1, 2, 3].map(|quarter| times.quartile(quarter));
-            let keys = times.keys.name();
-            text += &format!("{}\t{}\t{}\t{}\t{:.1}\t{:.1}\t{:.1}\n", times.what, keys, times.tree, times.side, median, low, high);
+            let Case { keys, tree, page_size } = times.case;
+            let which = format!("{}\t{}\t{}\t{}\t{}", times.what, keys.name(), tree, page_size, times.side);
+            text += &format!("{}\t{:.1}\t{:.1}\t{:.1}\n", which, median, low, high);
         }
         text
     }
@@ -211,10 +223,10 @@ fn twice(batches: &[Vec<Datom>], mut insert: impl FnMut(&[Datom]) -> bool) -> (f
 }
 
 /// A tree of so many datoms, by batches of 128, and room past it.
-fn grown(feed: &mut Feed, keys: Keys, datoms: usize) -> Florinwick {
-    let pages = if keys == Keys::Random { datoms } else { datoms / 16 };
-    let mut tree = Florinwick::new(Slab::new(pages + MORE_PAGES), NONE);
-    let mut left = datoms;
+fn grown(feed: &mut Feed, case: Case) -> Florinwick {
+    let bytes = FIRST * if case.keys == Keys::Random { case.tree } else { case.tree / 16 };
+    let mut tree = Florinwick::new(Slab::new(case.page_size, bytes / case.page_size + MORE_PAGES), NONE);
+    let mut left = case.tree;
     while left > 0 {
         let size = left.min(BATCH);
         tree.insert(&bytes_of(&feed.batch(size)));
@@ -224,14 +236,19 @@ fn grown(feed: &mut Feed, keys: Keys, datoms: usize) -> Florinwick {
 }
 
 fn main() {
-    let word = |i: usize| env::args().nth(i).unwrap_or_else(|| panic!("usage: bench ROUNDS LARGEST FILE"));
+    let word = |i: usize| env::args().nth(i).unwrap_or_else(|| panic!("usage: bench ROUNDS LARGEST FILE [PAGE_SIZE..]"));
     let number = |i: usize| word(i).parse::<usize>().unwrap_or_else(|_| panic!("{} is no number", word(i)));
+    let said: Vec<usize> = (4..env::args().count()).map(number).collect();
+    let page_sizes = if said.is_empty() { PAGE_SIZES.to_vec() } else { said };
     let mut bench = Bench { rounds: number(1), times: Vec::new() };
-    for keys in Keys::ALL {
-        for tree in [10_000, 100_000, 1_000_000] {
-            if tree <= number(2) {
-                bench.tree(keys, tree);
-                bench.others(keys, tree);
+    for page_size in page_sizes {
+        for keys in Keys::ALL {
+            for tree in [10_000, 100_000, 1_000_000].into_iter().filter(|&tree| tree <= number(2)) {
+                let case = Case { keys, tree, page_size };
+                bench.tree(case);
+                if page_size == FIRST {
+                    bench.others(case);
+                }
             }
         }
     }

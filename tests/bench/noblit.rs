@@ -1,21 +1,45 @@
 //! The Rust, patched so that it keeps every datom, over the same memory.
 
 use std::io;
+use std::marker::PhantomData;
 use std::ops::{Deref, DerefMut};
 
 use noblit_patched::datom::{Aid, Datom as Fact, Eid, Operation, Tid, Value};
 use noblit_patched::htree::HTree;
 use noblit_patched::index::Eavt;
 use noblit_patched::memory_store::MemoryHeap;
-use noblit_patched::store::{PageId, PageSize4096, Store, StoreMut};
+use noblit_patched::store::{PageId, PageSize, PageSize4096, Store, StoreMut};
 
 use crate::feed::Datom;
 use crate::slab::Slab;
 
-struct Lent<S>(S);
+/// Noblit has no pages of 8192 bytes; its trait is public.
+struct PageSize8192;
 
-impl<S: Deref<Target = Slab>> Store for Lent<S> {
-    type Size = PageSize4096;
+impl PageSize for PageSize8192 {
+    const SIZE: usize = 8192;
+    const CAPACITY: usize = 204;
+
+    fn new() -> PageSize8192 {
+        PageSize8192
+    }
+}
+
+/// Calls a method below with the page size as a type.
+macro_rules! at_size {
+    ($self:ident.$operation:ident($($argument:expr),*)) => {
+        match $self.slab.page_size {
+            4096 => $self.$operation::<PageSize4096>($($argument),*),
+            8192 => $self.$operation::<PageSize8192>($($argument),*),
+            size => panic!("no page size {} here", size),
+        }
+    };
+}
+
+struct Lent<S, Size>(S, PhantomData<Size>);
+
+impl<S: Deref<Target = Slab>, Size: PageSize> Store for Lent<S, Size> {
+    type Size = Size;
 
     fn get(&self, page: PageId) -> &[u8] {
         self.0.page(page.0)
@@ -26,7 +50,7 @@ impl<S: Deref<Target = Slab>> Store for Lent<S> {
     }
 }
 
-impl<S: DerefMut<Target = Slab>> StoreMut for Lent<S> {
+impl<S: DerefMut<Target = Slab>, Size: PageSize> StoreMut for Lent<S, Size> {
     fn write_page(&mut self, page: &[u8]) -> io::Result<PageId> {
         Ok(PageId(self.0.append(page)))
     }
@@ -43,12 +67,24 @@ pub struct Noblit {
 
 impl Noblit {
     pub fn insert(&mut self, batch: &[Fact]) {
-        let mut tree = HTree::new(PageId(self.root), Eavt, Lent(&mut self.slab), MemoryHeap::new());
-        self.root = tree.insert(batch).expect("a store in memory").0;
+        at_size!(self.insert_at(batch))
     }
 
     pub fn list(&self) -> (u64, u64) {
-        let (store, heap) = (Lent(&self.slab), MemoryHeap::new());
+        at_size!(self.list_at())
+    }
+
+    pub fn check(&self) {
+        at_size!(self.check_at())
+    }
+
+    fn insert_at<Size: PageSize>(&mut self, batch: &[Fact]) {
+        let mut tree = HTree::new(PageId(self.root), Eavt, Lent::<_, Size>(&mut self.slab, PhantomData), MemoryHeap::new());
+        self.root = tree.insert(batch).expect("a store in memory").0;
+    }
+
+    fn list_at<Size: PageSize>(&self) -> (u64, u64) {
+        let (store, heap) = (Lent::<_, Size>(&self.slab, PhantomData), MemoryHeap::new());
         let (lower, upper) = (Fact::new(Eid(0), Aid(0), Value(0), Tid(0), Operation::Retract), Fact::new(
             Eid(u64::MAX), Aid(u64::MAX), Value(u64::MAX), Tid(u64::MAX - 1), Operation::Assert,
         ));
@@ -61,7 +97,8 @@ impl Noblit {
         (listed, sum)
     }
 
-    pub fn check(&self) {
-        HTree::new(PageId(self.root), Eavt, Lent(&self.slab), MemoryHeap::new()).check_invariants().expect("a store in memory");
+    fn check_at<Size: PageSize>(&self) {
+        let store = Lent::<_, Size>(&self.slab, PhantomData);
+        HTree::new(PageId(self.root), Eavt, store, MemoryHeap::new()).check_invariants().expect("a store in memory");
     }
 }

@@ -1,7 +1,7 @@
 #!/usr/bin/env python3
 """Draws the times of a run as an SVG, without any library: plot.py TIMES.TSV OUT.SVG
 
-One panel for each operation and order of keys, one row for each size of tree. A dot is a median, its line the middle half of the
+One panel for each operation and order of keys, one row for each size of tree, in pages of 4096 bytes. A dot is a median, its line the middle half of the
 rounds. The number on the right is the library's time as a multiple of the Rust's; of a receipt, as a share of its insert.
 """
 import csv
@@ -25,7 +25,7 @@ LEFT, PANEL, GAP, ROW, HEAD, TOP = 200, 260, 110, 21, 32, 92
 
 def read(path):
     with open(path, newline="") as file:
-        rows = list(csv.DictReader(file, delimiter="\t"))
+        rows = [row for row in csv.DictReader(file, delimiter="\t") if row["page size"] == "4096"]
     times = {}
     for row in rows:
         key = (row["what"], row["keys"], int(row["datoms"]), row["side"])

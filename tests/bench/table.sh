@@ -13,10 +13,10 @@ awk -F '\t' '
     function at(what, row, side) { return ((what, row, side) in median) ? told(median[what, row, side]) : "-" }
     function ratio(over, under) { return over != "" && under != "" ? sprintf("%.2f", over / under) : "-" }
     NR > 1 {
-        row = $2 "\t" $3
+        row = $2 "\t" $3 "\t" $4
         if (!($1 in seen)) { seen[$1] = 1; whats[++n] = $1 }
         if (!(row in known)) { known[row] = 1; rows[++m] = row }
-        median[$1, row, $4] = $5
+        median[$1, row, $5] = $6
     }
     END {
         for (i = 1; i <= n; i++) {
@@ -29,7 +29,7 @@ awk -F '\t' '
                 split(rows[j], parts, "\t")
                 ours = median[what, rows[j], "Florinwick"]
                 under = is_receipt ? median[insert, rows[j], "Florinwick"] : median[what, rows[j], "Rust"]
-                print "| " parts[1] ", " parts[2] " datoms | " at(what, rows[j], "Florinwick") " | " at(what, rows[j], "Rust") " | " \
+                print "| " parts[1] ", " parts[2] " datoms, " parts[3] " bytes | " at(what, rows[j], "Florinwick") " | " at(what, rows[j], "Rust") " | " \
                     ratio(ours, under) " | " at(what, rows[j], "LMDB") " | " at(what, rows[j], "SQLite") " |"
             }
         }

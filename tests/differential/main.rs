@@ -40,12 +40,13 @@ fn main() {
     let mut random = Random::new(seed);
     let started = Instant::now();
     tell(examples::run(&mut Random::new(seed)), "document 01's examples");
-    let mut tallies = [Tally::default(), Tally::default(), Tally::default()];
+    let mut tallies = PAGE_SIZES.map(|_| Tally::default());
+    let share = batches.div_ceil(PAGE_SIZES.len() as u64);
     // The sizes take turns, and the first histories are short: the first difference is a small one.
     let mut turn = 0;
-    while tallies.iter().any(|tally| tally.batches * 3 < batches) {
+    while tallies.iter().any(|tally| tally.batches < share) {
         for (&page_size, tally) in PAGE_SIZES.iter().zip(&mut tallies) {
-            if tally.batches * 3 < batches {
+            if tally.batches < share {
                 let shape = shape(page_size, turn, &mut random);
                 run(shape, random.word(), tally);
             }
@@ -137,6 +138,7 @@ fn shape(page_size: usize, turn: usize, random: &mut Random) -> Shape {
     let largest = random.pick(&[1, 4, 8, 32, 64, 128, 128]);
     let room = match page_size {
         4096 => random.pick(&[1 << 20, 4 << 20, 8 << 20]),
+        8192 => random.pick(&[1 << 20, 8 << 20, 24 << 20]),
         _ => random.pick(&[1 << 19, 1 << 20, 4 << 20]),
     };
     Shape {

@@ -6,8 +6,9 @@
 #include "lent.h"
 #include "page.h"
 
-constexpr size_t STORE_ROOM = 1 << 16;
-constexpr size_t SCRATCH_ROOM = 332352 + GUARD;
+// Sixteen of the largest pages, and the scratch that these need.
+constexpr size_t STORE_ROOM = 1 << 17;
+constexpr size_t SCRATCH_ROOM = 619584 + GUARD;
 constexpr size_t CURSOR = 264;
 
 enum class Entry { Initialise, Insert, Fetch, Check, Start, Step, Held, Named };

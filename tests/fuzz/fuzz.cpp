@@ -118,9 +118,9 @@ struct World {
     std::vector<uint8_t> cursor;
 
     void begin(const uint8_t *data, size_t data_length) {
-        static const uint64_t sizes[] = {256, 256, 256, 568, 4096};
+        static const uint64_t sizes[] = {256, 256, 256, 568, 4096, 8192};
         script = Script(data, data_length);
-        size = sizes[script.below(5)];
+        size = sizes[script.below(std::size(sizes))];
         length = std::min(STORE_ROOM, script.below(8) * 32 * size + script.below(64));
         count = 0, is_sound = true, last_number = 0;
         roots.assign(1, NONE);

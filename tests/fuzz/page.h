@@ -44,7 +44,7 @@ inline bool is_below(const Datom &left, const Datom &right) {
 
 // How many datoms a page holds; 0 for an unknown size.
 inline size_t capacity(uint64_t page_size) {
-    return page_size == 256 ? 6 : page_size == 568 ? 13 : page_size == 4096 ? 102 : 0;
+    return page_size == 256 ? 6 : page_size == 568 ? 13 : page_size == 4096 ? 102 : page_size == 8192 ? 204 : 0;
 }
 
 inline size_t level_of(const uint8_t *page, uint64_t page_size) {

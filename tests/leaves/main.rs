@@ -183,15 +183,15 @@ fn seeks(page: &[u8], id: u64, node: &harness::Node, other: &[u8], random: &mut 
 
 /// Bytes of which no page has so many.
 fn lengths(tally: &mut Tally) {
-    for length in [0, 1, 31, 255, 257, 567, 569, 4095, 4097, 8192] {
+    for length in [0, 1, 31, 255, 257, 567, 569, 4095, 4097, 8191, 8193, 16384] {
         tally.expect(broken(&vec![0; length], 1, NOTHING));
     }
 }
 
 /// Fetches with good and bad records of the store.
 fn fetches(tally: &mut Tally, random: &mut Random) {
-    let store = vec![0; 4096 * 3 + 100];
-    for size in PAGE_SIZES.iter().map(|&size| size as u64).chain([0, 1, 255, 512, 8192, u64::MAX]) {
+    let store = vec![0; 8192 * 3 + 100];
+    for size in PAGE_SIZES.iter().map(|&size| size as u64).chain([0, 1, 255, 512, 8191, 16384, u64::MAX]) {
         let most = if size == 0 { 0 } else { store.len() as u64 / size };
         for count in [0, 1, most, most + 1, 1 << 52, 1 << 56, u64::MAX / 4096 + 1, u64::MAX, random.word()] {
             for page in [0, 1, count.wrapping_sub(1), count, count.wrapping_add(1), NONE, random.word()] {

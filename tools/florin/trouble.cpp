@@ -5,6 +5,7 @@
 #include <cerrno>
 #include <cstdio>
 #include <cstring>
+#include <iterator>
 
 namespace florin {
 
@@ -35,6 +36,15 @@ Trouble system_trouble(int error, const std::string &doing, const std::string &p
 
 Trouble usage_trouble(const std::string &what) { return {kUsage, "Usage", what + ".", ""}; }
 
+std::string page_sizes_text() {
+    std::string text;
+    for (const std::uint64_t &size : florinwick::page_sizes) {
+        const bool is_first = &size == std::begin(florinwick::page_sizes), is_last = &size + 1 == std::end(florinwick::page_sizes);
+        text += (is_first ? "" : is_last ? " or " : ", ") + std::to_string(size);
+    }
+    return text;
+}
+
 std::string page_text(std::uint64_t page) {
     return page == florinwick::none ? "none" : std::to_string(page);
 }
@@ -42,14 +52,14 @@ std::string page_text(std::uint64_t page) {
 namespace {
 
 struct Words {
-    const char *what;
-    const char *next;
+    std::string what;
+    std::string next;
 };
 
 Words words_of(Number number) {
     switch (number) {
         case Number::BadStore:
-            return {"The page size is not 256, 568 or 4096, or the pages do not fit into the store.", "choose one of these page sizes."};
+            return {"The page size is not " + page_sizes_text() + ", or the pages do not fit into the store.", "choose one of these page sizes."};
         case Number::TooMany:
             return {"A batch has at most 128 datoms. Nothing was written.", "cut it into batches: a line --- after each, or --every 128."};
         case Number::BadDatom:

@@ -52,6 +52,9 @@ Trouble refusal(const florinwick::Answer &answer, const std::string &place);
 // "none" for the page id that means it.
 std::string page_text(std::uint64_t page);
 
+// The page sizes, as a sentence has them.
+std::string page_sizes_text();
+
 // Every status with its name, as `florin --help` shows them.
 std::string statuses_text();
 

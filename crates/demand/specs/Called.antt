@@ -12,6 +12,7 @@ use lib.ListN.{length}
 use Rattle.store.specs.declared.PageId.{PageId}
 use Rattle.store.specs.declared.Extent.{Extent}
 use Rattle.store.specs.Words.{wordAt}
+use Rattle.store.specs.Size.{sizes}
 use Rattle.store.specs.Page.{isNone}
 use Rattle.store.specs.Laws.{apart, Known}
 use Rattle.index.specs.Order.{eavt}
@@ -32,7 +33,7 @@ use Rattle.history.specs.Statement.{Known as Root, Moment, Call, inserts, initi
 use Rattle.history.specs.Statement as history
 use Rattle.history.specs.Listing.{later-later}
 use Rattle.history.specs.Demand.{later-known}
-use Rattle.history.specs.Base.{sizes, base-beyond}
+use Rattle.history.specs.Base.{base-beyond}
 use Rattle.demand.specs.Area.{root-word, pages-word}
 use Rattle.demand.specs.Caller.{replyTo, Wrote, plainly, named, goesOn, CallerMove, ran, others}
 use Rattle.demand.specs.Runs.{Runs, start, then}

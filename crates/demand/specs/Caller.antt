@@ -9,6 +9,7 @@ use mathlib.Core.Path.{_≡_}
 use lib.Dec.{eqb}
 use lib.ListN.{length}
 use Rattle.store.specs.Words.{wordAt}
+use Rattle.store.specs.Size.{sizes}
 use Rattle.store.specs.Page.{page}
 use Rattle.datom.specs.declared.Datom.{Datom}
 use Rattle.datom.specs.Datom.{datomAt, datomBytes}
@@ -24,7 +25,6 @@ use Rattle.florinwick.specs.Words.{Replied, AreaReplied}
 use Rattle.florinwick.specs.Listing.{startIn, stepIn, Begins, Steps}
 use Rattle.history.specs.Statement.{Known, Moment, Call, inserts, initialises, givenRoot, givenBatch, Lent, Fair, beginning, gathered, Between, WellFormed}
 use Rattle.history.specs.More.{FirstShared, FirstNot}
-use Rattle.history.specs.Base.{sizes}
 use Rattle.demand.specs.Runs.{SameBelow, Runs}
 
 -- what `florinwick_insert` and `florinwick_initialise` promise of a call, given an area for the answer

@@ -8,6 +8,7 @@ use mathlib.Core.Path.{_≡_, sym, _∙_}
 use lib.ListN.{length}
 use Rattle.store.specs.declared.PageId.{PageId}
 use Rattle.store.specs.declared.Extent.{Extent}
+use Rattle.store.specs.Size.{sizes}
 use Rattle.datom.specs.declared.Datom.{Datom}
 use Rattle.datom.specs.Datom.{datomsBytes, WordSized}
 use Rattle.index.specs.Order.{eavt}
@@ -37,7 +38,7 @@ use Rattle.history.specs.Order.{same-self}
 use Rattle.history.specs.Asked.{asked-map}
 use Rattle.history.specs.Batch.{insert-records, initialise-records}
 use Rattle.demand.specs.Runs.{SameBelow, Runs, start, then}
-use Rattle.history.specs.Base.{sizes, base, base-beyond, shared-same}
+use Rattle.history.specs.Base.{base, base-beyond, shared-same}
 
 -- a call of `entry::insert` or `entry::initialise`, by its promise: it answered a and left the bytes s
 abbrev pub Gave : Moment → Call → Answer → List ℕ → Type 0

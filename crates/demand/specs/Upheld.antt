@@ -11,6 +11,7 @@ use Rattle.store.specs.declared.PageId.{PageId}
 use Rattle.store.specs.declared.Extent.{Extent}
 use Rattle.store.specs.Laws.{apart}
 use Rattle.store.specs.Words.{wordAt}
+use Rattle.store.specs.Size.{sizes}
 use Rattle.datom.specs.declared.Datom.{Datom}
 use Rattle.datom.specs.Datom.{datomAt, datomsBytes, WordSized}
 use Rattle.index.specs.Order.{eavt}
@@ -38,7 +39,7 @@ use Rattle.history.specs.Batch.{insert-records}
 use Rattle.history.specs.Listing.{later-later}
 use Rattle.history.specs.Asked.{not-in}
 use Rattle.history.specs.Again.{gathered-in}
-use Rattle.history.specs.Base.{sizes, base, base-beyond}
+use Rattle.history.specs.Base.{base, base-beyond}
 use Rattle.demand.specs.Area.{detail-word}
 use Rattle.demand.specs.Code.{literal, asked-in}
 use Rattle.demand.specs.Caller.{CallerHandsOut, HeldCall, CallerDemand3}

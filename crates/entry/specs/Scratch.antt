@@ -5,7 +5,7 @@ use native.Mathlib.Omega.{arith}
 use mathlib.Core.List.{List}
 use mathlib.Core.Path.{_≡_, refl}
 use Rattle.store.specs.declared.Extent.{Extent}
-use Rattle.store.specs.Size.{roomFor, scratchNeed}
+use Rattle.store.specs.Size.{mostDatoms, roomFor, scratchNeed}
 use Rattle.store.specs.Laws.{Known}
 use Rattle.memory_store.specs.FetchLaws.{InOrder, in-order}
 use Rattle.htree.specs.Told.{Ready}
@@ -23,7 +23,7 @@ module _ {x : Extent} {s : List ℕ} {c n L : ℕ} (R : Roomy x s c n L) where
   pub roomy-known : InOrder x s
   roomy-known = in-order x s (R .good)
 
-  pub roomy-few : c ≤ 102
+  pub roomy-few : c ≤ mostDatoms
   roomy-few = omega (arith, roomy-known .known .few, R .cap)
 
   -- before the first page
@@ -31,7 +31,7 @@ module _ {x : Extent} {s : List ℕ} {c n L : ℕ} (R : Roomy x s c n L) where
   roomy-ready = record { good = R .good; cap = R .cap; room = rw add-zero (roomy-known .holds) }
 
   module _ (m : ℕ) (e : m ≡ roomFor c) where
-    pub roomy-small : (n ≤ m) × (m ≤ 944)
+    pub roomy-small : (n ≤ m) × (m ≤ 8 * mostDatoms + 128)
     roomy-small = (omega (arith, room-is c, R .few), omega (arith, room-is c, roomy-few))
 
     pub roomy-area : 40 * m + 8 + 32 * m ≤ L

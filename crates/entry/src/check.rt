@@ -6,7 +6,7 @@ use store::Extent;
 ghost use mathlib.Core.Path.{_≡_};
 ghost use Prim.Native.Nat.{_*_, _≤_};
 ghost use lib.ListN.{length};
-ghost use Rattle.store.specs.Size.{roomFor, scratchNeed};
+ghost use Rattle.store.specs.Size.{mostDatoms, roomFor, scratchNeed};
 ghost use Rattle.datom.specs.Datom.{datomsOf};
 ghost use Rattle.index.specs.Order.{eavt};
 ghost use Rattle.batch.specs.Finding.{findingOf};
@@ -14,7 +14,7 @@ ghost use Rattle.entry.specs.Checks.{countFor, insertFault, initialiseFa
 
 // How many datoms a node in the scratch has room for.
 pub fn room_for(c: usize) -> usize
-    requires { ⌜ c ≤ 102 ⌝ }
+    requires { ⌜ c ≤ mostDatoms ⌝ }
     ensures { λ r. ⌜ r ≡ roomFor c ⌝ }
 {
     8 * c + batch::MOST
@@ -22,7 +22,7 @@ pub fn room_for(c: usize) -> usize
 
 // How many bytes of scratch a call needs.
 pub fn need_for(c: usize) -> usize
-    requires { ⌜ c ≤ 102 ⌝ }
+    requires { ⌜ c ≤ mostDatoms ⌝ }
     ensures { λ r. ⌜ r ≡ scratchNeed c ⌝ }
 {
     let m = room_for(c);

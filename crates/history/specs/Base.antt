@@ -1,32 +1,21 @@
--- The base: its one order and its three page sizes. Rests on Demand and on the order's laws.
+-- The base: its one order and its four page sizes. Rests on Demand and on the order's laws.
 use Prim.Native.Nat.{ℕ}
-use native.Mathlib.Omega.{arith}
 use mathlib.Core.Bool.{true}
-use mathlib.Core.List.{List, [], _∷_}
-use mathlib.Core.Logic.{inl, inr}
+use mathlib.Core.List.{List}
 use mathlib.Core.Path.{_≡_}
-use Rattle.store.specs.Size.{capacity}
+use Rattle.store.specs.Size.{sizes}
 use Rattle.datom.specs.declared.Datom.{Datom}
 use Rattle.index.specs.Order.{eavt}
 use Rattle.index.specs.Laws.{eavt-preorder, eavt-equal}
 use Rattle.index.specs.Form.{eavt-may}
 use Rattle.rules.specs.Insert.{sort}
 use Rattle.rules.specs.Lists.{In}
+use Rattle.rules.specs.KnownSizes.{size-known}
 use Rattle.history.specs.Statement.{Known, Moment, History, gathered, HandsOut, Shared, Demand3}
 use Rattle.history.specs.More.{Beyond3, Resending, StaysHeld, AcceptedFormed}
 use Rattle.history.specs.Sort.{within}
 use Rattle.history.specs.Demand.{demand, hands-out, beyond}
 use Rattle.history.specs.Again.{resending, stays-held, accepted-formed}
-
--- "Sizes 256, 568, 4096"
-abbrev pub sizes : List ℕ
-sizes = 256 ∷ 568 ∷ 4096 ∷ []
-
-size-known : (size : ℕ) → In size sizes → capacity size ≡ 0 → ⊥
-unfolding capacity
-size-known size (inl e) z = let k : capacity 256 ≡ 0 = rw e at z in omega arith
-size-known size (inr (inl e)) z = let k : capacity 568 ≡ 0 = rw e at z in omega arith
-size-known size (inr (inr (inl e))) z = let k : capacity 4096 ≡ 0 = rw e at z in omega arith
 
 pub base : (size : ℕ) → In size sizes → Demand3 eavt size
 base size i = demand eavt eavt-preorder size (size-known size i)

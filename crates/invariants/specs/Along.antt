@@ -9,7 +9,7 @@ use lib.ListN.{length, drop}
 use Rattle.store.specs.declared.PageId.{PageId}
 use Rattle.store.specs.declared.Extent.{Extent}
 use Rattle.store.specs.Page.{isNone}
-use Rattle.store.specs.Size.{capacity}
+use Rattle.store.specs.Size.{mostDatoms, capacity}
 use Rattle.datom.specs.declared.Datom.{Datom}
 use Rattle.datom.specs.Datom.{datomsOf}
 use Rattle.index.specs.Order.{DatomOrd}
@@ -65,7 +65,7 @@ module _ {t : DatomOrd} {x : Extent} {s : List ℕ} {c l : ℕ} {p : PageId} {k 
     pub along-child : i ≤ k → 32 * c + 8 * i + 8 ≤ length b
     along-child h = omega (arith, long, page-open .few, page-open .wide, A .room)
 
-    pub along-few : k ≤ 102
+    pub along-few : k ≤ mostDatoms
     along-few = omega (arith, page-open .few, in-order x s (A .good) .known .few)
 
     pub along-end : k < i → Sound ≡ checkPage t x s l p lower upper

@@ -3,6 +3,7 @@ ghost use mathlib.Core.Path.{_≡_};
 ghost use Prim.Native.Nat.{_+_, _-_, _*_, _≤_};
 ghost use lib.ListN.{length};
 ghost use Rattle.store.specs.Words.{zeros, pad, patch};
+ghost use Rattle.store.specs.Size.{mostSize};
 ghost use Rattle.rules.specs.Page.{nodeOf, encodePage};
 ghost use Rattle.rules.specs.Node.{partOf};
 
@@ -41,7 +42,7 @@ pub fn write_page(
     i: usize,
     a: usize,
 )
-    requires { ⌜ (at + size ≤ length (now free)) × (40 * c + 10 ≤ size) × (size ≤ 4096) × (level ≤ 255) × (40 * m + 8 ≤ length (now area)) × (n ≤ m) × (i + a ≤ n) × (a ≤ c) ⌝ }
+    requires { ⌜ (at + size ≤ length (now free)) × (40 * c + 10 ≤ size) × (size ≤ mostSize) × (level ≤ 255) × (40 * m + 8 ≤ length (now area)) × (n ≤ m) × (i + a ≤ n) × (a ≤ c) ⌝ }
     ensures { λ _. ⌜ now (free .exit) ≡ patch (now (free .entry)) at (encodePage size c (partOf i a (nodeOf m level n (now (area .entry))))) ⌝ }
 {
     let from = 32 * i;

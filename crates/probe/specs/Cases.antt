@@ -1,12 +1,13 @@
 -- What the rules answer to the inputs of docs/DIFFERENCES.md, and where document 01 has a sentence that no starred example shows.
 use Prim.Native.Nat.{ℕ}
-use mathlib.Core.Bool.{true}
+use mathlib.Core.Bool.{true, cond}
 use mathlib.Core.List.{List, [], _∷_, _++_, map}
 use mathlib.Core.Path.{_≡_, refl}
+use lib.Dec.{eqb, leb}
 use lib.ListN.{take, set}
 use Rattle.store.specs.declared.PageId.{PageId}
 use Rattle.store.specs.Words.{zeros}
-use Rattle.store.specs.Size.{capacity, scratchNeed}
+use Rattle.store.specs.Size.{sizes, capacity, scratchNeed}
 use Rattle.store.specs.Page.{page, none}
 use Rattle.datom.specs.declared.Datom.{Datom}
 use Rattle.datom.specs.Datom.{datomsBytes}
@@ -381,10 +382,17 @@ scratch-enough : insert eavt (c .extent) (c .store) 62016 (page 2) [] .answer �
 unfolding rules
 scratch-enough = refl
 
--- "at most 64 KiB for 256-byte pages, 512 KiB for others"
-scratch-needs : map (λ size. scratchNeed (capacity size)) (256 ∷ 568 ∷ 4096 ∷ []) ≡ 62016 ∷ 81728 ∷ 332352 ∷ []
+scratch-needs : map (λ size. scratchNeed (capacity size)) sizes ≡ 62016 ∷ 81728 ∷ 332352 ∷ 619584 ∷ []
 unfolding rules
 scratch-needs = refl
+
+-- "at most 64 KiB for 256-byte pages, 512 KiB for others"; "Scratch for this size may reach 768 KiB", of 8192 bytes
+abbrev allowed : ℕ → ℕ
+allowed size = cond (eqb size 256) 65536 (cond (eqb size 8192) 786432 524288)
+
+scratch-within : map (λ size. leb (scratchNeed (capacity size)) (allowed size)) sizes ≡ true ∷ true ∷ true ∷ true ∷ []
+unfolding rules
+scratch-within = refl
 
 -- 2: "or its bytes no multiple of 32"
 odd-bytes : insertBytes eavt (c .extent) (c .store) scratch (page 2) (zeros 33) .answer ≡ Refused TooMany

@@ -10,7 +10,7 @@ use lib.Dec.{eqb}
 use lib.ListN.{length, drop, getD, List·getD-eq-default}
 use Rattle.store.specs.Words.{wordAt, patch}
 use Rattle.store.specs.Page.{page, none, pageOf}
-use Rattle.store.specs.Size.{capacity}
+use Rattle.store.specs.Size.{mostSize, mostDatoms, capacity}
 use Rattle.store.specs.Laws.{apart, cells-length, Known, known-size}
 use Rattle.store.specs.Cells.{cells-end, pages-at}
 use Rattle.datom.specs.declared.Datom.{Datom}
@@ -52,10 +52,10 @@ module _ (t : DatomOrd) (s : List ℕ) (id c : ℕ) (e : c ≡ capacity (length 
 -- what is known of a readable page
 pub record Held (t : DatomOrd) (s : List ℕ) (l k : ℕ) : Type 0 where
   pub low : l ≤ 7
-  pub size : length s ≤ 4096
+  pub size : length s ≤ mostSize
   pub fits : 40 * capacity (length s) + 10 ≤ length s
   pub few : k ≤ capacity (length s)
-  pub most : capacity (length s) ≤ 102
+  pub most : capacity (length s) ≤ mostDatoms
   pub rise : rising (t .cmp) (datomsOf k s) ≡ true
 
 pub held : (t : DatomOrd) (s : List ℕ) (id l k : ℕ) → shown s (Good l k) ≡ seen t s id → Held t s l k

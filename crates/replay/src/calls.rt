@@ -5,14 +5,14 @@ use crate::tally;
 use store::Extent;
 ghost use Prim.Native.Nat.{_≤_};
 
-// The largest store that is recorded, in bytes, and so the most pages and the most datoms of a listing.
+// More pages and more datoms of a listing than any record has.
 const MOST: u64 = 1048576;
 
 // How many bytes so many pages have; 0 for more than a store has.
 pub fn bytes_of(extent: Extent, pages: u64) -> u64
-    ensures { λ r. ⌜ r ≤ 4294967296 ⌝ }
+    ensures { λ r. ⌜ r ≤ 8589934592 ⌝ }
 {
-    if 4096 < extent.size {
+    if 8192 < extent.size {
         return 0;
     }
     if MOST < pages {
@@ -142,7 +142,12 @@ fn insert(
 }
 
 // The next datom of a listing: 0, or 32 at its end.
-fn next_datom(store: &[u8], extent: Extent, cursor: &mut [u8; 264], datom: &mut [u8; 32]) -> u64 {
+pub fn next_datom(
+    store: &[u8],
+    extent: Extent,
+    cursor: &mut [u8; 264],
+    datom: &mut [u8; 32],
+) -> u64 {
     let mut area = [0u8; 32];
     florinwick::list::florinwick_list_step(
         store,

@@ -1,39 +1,40 @@
 // Document 01's examples that are run and not proved, k and l: initialise d(0), d(1), .. and say what was written.
 use crate::calls;
+use crate::lent;
 use crate::record;
 use crate::tally;
 use store::Extent;
 ghost use Prim.Native.Nat.{_≤_};
 
-// d(0) to d(n - 1): entity k, attribute 1, value k, last word 3.
-fn put_datoms(batch: &mut [u8; 4128], n: u64)
-    requires { ⌜ n ≤ 129 ⌝ }
+// The n datoms from d(from) on: entity k, attribute 1, value k, last word 3.
+pub fn put_datoms(batch: &mut [u8; 4128], from: u64, n: u64)
+    requires { ⌜ (from ≤ 1000000) × (n ≤ 129) ⌝ }
 {
-    let mut k = 0;
-    while k < n {
-        put_datom(batch, k);
-        k += 1;
+    let mut i = 0;
+    while i < n {
+        put_datom(batch, i, from + i);
+        i += 1;
     }
 }
 
-fn put_datom(batch: &mut [u8; 4128], k: u64)
-    requires { ⌜ k ≤ 128 ⌝ }
+fn put_datom(batch: &mut [u8; 4128], i: u64, k: u64)
+    requires { ⌜ i ≤ 128 ⌝ }
 {
-    let at = 32 * (k as usize);
+    let at = 32 * (i as usize);
     store::put_word(batch, at, k);
     store::put_word(batch, at + 8, 1);
     store::put_word(batch, at + 16, k);
     store::put_word(batch, at + 24, 3);
 }
 
-fn first(batch: &[u8; 4128], n: u64) -> &[u8]
+pub fn first(batch: &[u8; 4128], n: u64) -> &[u8]
     requires { ⌜ n ≤ 129 ⌝ }
 {
     record::part(batch, 0, 32 * n)
 }
 
 // A word of the answer.
-fn told(area: &[u8; 32], index: usize) -> u64 {
+pub fn told(area: &[u8; 32], index: usize) -> u64 {
     record::word(area, index)
 }
 
@@ -45,7 +46,7 @@ fn byte(page: &[u8], at: usize) -> u64 {
     record::wide(page[at])
 }
 
-fn page(store: &[u8], size: u64, id: u64) -> &[u8] {
+pub fn page(store: &[u8], size: u64, id: u64) -> &[u8] {
     let extent = Extent { size, count: 0 };
     record::part(
         store,
@@ -56,27 +57,27 @@ fn page(store: &[u8], size: u64, id: u64) -> &[u8] {
 
 // Where a page has its level, and behind it its count.
 fn header_at(size: u64) -> usize
-    ensures { λ r. ⌜ r ≤ 4088 ⌝ }
+    ensures { λ r. ⌜ r ≤ 8168 ⌝ }
 {
     let c = store::capacity_of(size);
-    if 102 < c {
+    if 204 < c {
         return 0;
     }
     40 * c + 8
 }
 
-fn level(store: &[u8], size: u64, id: u64) -> u64 {
+pub fn level(store: &[u8], size: u64, id: u64) -> u64 {
     byte(page(store, size, id), header_at(size))
 }
 
-fn count(store: &[u8], size: u64, id: u64) -> u64 {
+pub fn count(store: &[u8], size: u64, id: u64) -> u64 {
     byte(page(store, size, id), header_at(size) + 1)
 }
 
 // What the first n of d(0), d(1), .. make of an empty store.
-fn initialise(
-    store: &mut [u8; 1048576],
-    scratch: &mut [u8; 332352],
+pub fn initialise(
+    store: &mut [u8; lent::STORE],
+    scratch: &mut [u8; lent::SCRATCH],
     size: u64,
     n: u64,
     area: &mut [u8; 32],
@@ -84,17 +85,17 @@ fn initialise(
     requires { ⌜ n ≤ 129 ⌝ }
 {
     let mut batch = [0u8; 4128];
-    put_datoms(&mut batch, n);
+    put_datoms(&mut batch, 0, n);
     let datoms = first(&batch, n);
     florinwick::florinwick_initialise(store, size, 0, datoms, scratch, area);
 }
 
-fn say(size: u64, n: u64) {
+pub fn say(size: u64, n: u64) {
     tally::line(size, b"-byte pages, ");
     tally::line(n, b" datoms: ");
 }
 
-fn example(store: &mut [u8; 1048576], scratch: &mut [u8; 332352], size: u64, n: u64)
+fn example(store: &mut [u8; lent::STORE], scratch: &mut [u8; lent::SCRATCH], size: u64, n: u64)
     requires { ⌜ n ≤ 129 ⌝ }
 {
     let mut area = [0u8; 32];
@@ -115,7 +116,7 @@ fn example(store: &mut [u8; 1048576], scratch: &mut [u8; 332352], size: u64, n: 
 }
 
 // k: 128 datoms and 129; l: 14, 103 and 104.
-pub fn run(store: &mut [u8; 1048576], scratch: &mut [u8; 332352]) {
+pub fn run(store: &mut [u8; lent::STORE], scratch: &mut [u8; lent::SCRATCH]) {
     io::write_all(1, b"\nexamples k and l\n");
     example(store, scratch, 256, 128);
     example(store, scratch, 256, 129);

@@ -2,9 +2,11 @@
 // come from standard input; docs/ORACLE.md says how they were made and what they hold.
 pub mod calls;
 pub mod examples;
+pub mod lent;
 pub mod names;
 pub mod record;
 pub mod tally;
+pub mod wide;
 
 use store::Extent;
 
@@ -37,8 +39,8 @@ fn replay_next(
 
 // Nothing says that the input ends, so the turns are counted down from a number that no run uses up.
 fn replay_all(
-    store: &mut [u8; 1048576],
-    scratch: &mut [u8; 332352],
+    store: &mut [u8; lent::STORE],
+    scratch: &mut [u8; lent::SCRATCH],
     recorded: &mut [u8; 65536],
     counts: &mut [u64; 14],
 ) {
@@ -55,11 +57,12 @@ fn replay_all(
 }
 
 fn main() {
-    let mut store = [0u8; 1048576];
-    let mut scratch = [0u8; 332352];
+    let mut store = [0u8; lent::STORE];
+    let mut scratch = [0u8; lent::SCRATCH];
     let mut recorded = [0u8; 65536];
     let mut counts = [0u64; 14];
     replay_all(&mut store, &mut scratch, &mut recorded, &mut counts);
     tally::print(&counts);
     examples::run(&mut store, &mut scratch);
+    wide::run(&mut store, &mut scratch);
 }

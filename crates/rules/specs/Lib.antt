@@ -13,7 +13,9 @@ pub mod Table
 pub mod Open
 pub mod Starred
 pub mod Further
+pub mod Wide
 pub mod Lists
+pub mod KnownSizes
 pub mod Checks
 pub mod Round
 pub mod SplitLaws

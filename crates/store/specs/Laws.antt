@@ -6,14 +6,15 @@ use native.Mathlib.Omega.{arith}
 use mathlib.Core.Bool.{Bool, true, false, _&&_}
 use mathlib.Core.Path.{_≡_, refl, ap}
 use mathlib.Core.List.{List, [], _∷_, _++_, append-assoc}
-use borrow.Author.Tests.{eqb-true}
-use lib.Dec.{eqb}
+use borrow.Author.Tests.{eqb-true, ltb-true, leb-true}
+use lib.Dec.{eqb, ltb, leb}
 use lib.ListN.{length, take, drop, getD, length-append, length-replicate, length-take, length-drop, List·getD-eq-default}
-use lib.Seq.{take-at, drop-at, getD-take, getD-drop, length-take-le}
+use lib.Seq.{take-at, drop-at, drop-cons, drop-length, getD-take, getD-drop, length-take-le}
 use Rattle.store.specs.declared.PageId.{PageId}
+use Rattle.store.specs.declared.PageSize.{PageSize}
 use Rattle.store.specs.Words.{little, bytesOf, wordAt, cells, spread, pad}
 use Rattle.store.specs.Page.{pageOf, pageBytes}
-use Rattle.store.specs.Size.{capacity}
+use Rattle.store.specs.Size.{pageSizes, mostSize, mostDatoms, capacityIn, capacity}
 
 -- what congruence closure is asked for where two constructors meet
 pub apart : _≡_ {A = ℕ} 0 1 → ⊥
@@ -121,22 +122,62 @@ pub page-back : (p : PageId) → p .0 < 2 ^ 64 → pageOf (pageBytes p) ≡ p
 unfolding pageOf pageBytes
 page-back p h = ap (λ (n : ℕ). record { 0 = n }) (little-bytes 8 (p .0) h)
 
--- what is known of a page size that is known: its pages hold a datom, and all of C datoms with their children and the header
-pub record Known (size : ℕ) : Type 0 where
-  pub some : 0 < capacity size
-  pub fits : 40 * capacity size + 10 ≤ size
-  pub most : size ≤ 4096
-  pub few : capacity size ≤ 102
+-- what a row of the table must keep: a page holds a datom, and all of C datoms with their children and the header
+pub record Fits (size c : ℕ) : Type 0 where
+  pub some : 0 < c
+  pub fits : 40 * c + 10 ≤ size
+  pub most : size ≤ mostSize
+  pub few : c ≤ mostDatoms
+
+abbrev fitting : PageSize → Bool
+fitting p = ltb 0 (p .capacity) && (leb (40 * p .capacity + 10) (p .size) && (leb (p .size) mostSize && leb (p .capacity) mostDatoms))
+
+abbrev allFitting : List PageSize → Bool
+allFitting [] = true
+allFitting (p ∷ ps) = fitting p && allFitting ps
+
+row-fits : (p : PageSize) → fitting p ≡ true → Fits (p .size) (p .capacity)
+row-fits p t =
+    let u = both (ltb 0 (p .capacity)) _ t in
+    let v = both (leb (40 * p .capacity + 10) (p .size)) _ (u .1) in
+    let w = both (leb (p .size) mostSize) (leb (p .capacity) mostDatoms) (v .1) in
+    record {
+      some = ltb-true 0 (p .capacity) (u .0);
+      fits = leb-true (40 * p .capacity + 10) (p .size) (v .0);
+      most = leb-true (p .size) mostSize (w .0);
+      few = leb-true (p .capacity) mostDatoms (w .1);
+    }
+
+-- so a size that has a row keeps it, whatever the rows are
+table-fits : (ps : List PageSize) → allFitting ps ≡ true → (size : ℕ) → (capacityIn ps size ≡ 0 → ⊥) → Fits size (capacityIn ps size)
+unfolding capacityIn
+table-fits [] t size h = absurd (h refl)
+table-fits (p ∷ ps) t size h = side (eqb size (p .size)) refl (table-fits ps (both (fitting p) (allFitting ps) t .1) size)
+  where
+    side :
+        (a : Bool) → eqb size (p .size) ≡ a → ((capacityIn ps size ≡ 0 → ⊥) → Fits size (capacityIn ps size)) → Fits size (capacityIn (p ∷ ps) size)
+    side true e rest = rw (e, eqb-true size (p .size) e) (row-fits p (both (fitting p) (allFitting ps) t .0))
+    side false e rest = rw e (rest (λ z. h (rw e z)))
+
+-- what is known of a page size that is known
+abbrev pub Known : ℕ → Type 0
+Known size = Fits size (capacity size)
 
 pub known-size : (size : ℕ) → (capacity size ≡ 0 → ⊥) → Known size
 unfolding capacity
-known-size size h = side (eqb size 256) refl (eqb size 568) refl (eqb size 4096) refl
-  where
-    one : (k c : ℕ) → size ≡ k → capacity size ≡ c → 0 < c → 40 * c + 10 ≤ k → k ≤ 4096 → c ≤ 102 → Known size
-    one k c e f a b m l = record { some = omega arith; fits = omega arith; most = omega arith; few = omega arith }
+known-size = table-fits pageSizes refl
 
-    side : (a : Bool) → eqb size 256 ≡ a → (b : Bool) → eqb size 568 ≡ b → (c : Bool) → eqb size 4096 ≡ c → Known size
-    side true p b q c r = one 256 6 (eqb-true size 256 p) (rw p) (omega arith) (omega arith) (omega arith) (omega arith)
-    side false p true q c r = one 568 13 (eqb-true size 568 q) (rw (p, q)) (omega arith) (omega arith) (omega arith) (omega arith)
-    side false p false q true r = one 4096 102 (eqb-true size 4096 r) (rw (p, q, r)) (omega arith) (omega arith) (omega arith) (omega arith)
-    side false p false q false r = absurd (h (rw (p, q, r)))
+-- along the table: the rows from i on answer as the row at i does, where it has the size, and else as those behind it
+module _ (ps : List PageSize) (size : ℕ) where
+  module _ (i : ℕ) (p : PageSize) (h : i < length ps) where
+    pub row-here : eqb size (getD ps i p .size) ≡ true → capacityIn (drop i ps) size ≡ getD ps i p .capacity
+    unfolding capacityIn
+    row-here e = rw (drop-cons ps i p h, e)
+
+    pub row-past : eqb size (getD ps i p .size) ≡ false → capacityIn (drop i ps) size ≡ capacityIn (drop (suc i) ps) size
+    unfolding capacityIn
+    row-past e = rw (drop-cons ps i p h, e)
+
+  pub rows-end : capacityIn (drop (length ps) ps) size ≡ 0
+  unfolding capacityIn
+  rows-end = rw (drop-length ps)

@@ -1,11 +1,35 @@
--- Page sizes: one table; all else stands over the capacity.
+-- Page sizes: one table; all else stands over the capacity. A further size is one row more, and one of the two bounds where it is larger.
 use Prim.Native.Nat.{ℕ, _+_, _*_}
 use mathlib.Core.Bool.{cond}
+use mathlib.Core.List.{List, [], _∷_, map}
 use lib.Dec.{eqb}
+use Rattle.store.specs.declared.PageSize.{PageSize}
 
--- "Sizes 256, 568, 4096 hold C = 6, 13, 102 datoms."; 0 for a size that is not known
+abbrev pub sized : ℕ → ℕ → PageSize
+sized size capacity = record { size = size; capacity = capacity }
+
+-- "Sizes 256, 568, 4096 hold C = 6, 13, 102 datoms."; "Pages of 8192 bytes. .. Capacity is 204"
+abbrev pub pageSizes : List PageSize
+pageSizes = sized 256 6 ∷ sized 568 13 ∷ sized 4096 102 ∷ sized 8192 204 ∷ []
+
+-- the sizes that are known
+abbrev pub sizes : List ℕ
+sizes = map (λ (p : PageSize). p .size) pageSizes
+
+-- the bytes of the largest page, and the datoms of the fullest
+abbrev pub mostSize : ℕ
+mostSize = 8192
+
+abbrev pub mostDatoms : ℕ
+mostDatoms = 204
+
+-- how many datoms a page of this size holds by the rows of a table; 0 for a size that has no row
+unfoldable pub capacityIn : List PageSize → ℕ → ℕ
+capacityIn [] size = 0
+capacityIn (p ∷ ps) size = cond (eqb size (p .size)) (p .capacity) (capacityIn ps size)
+
 unfoldable pub capacity : ℕ → ℕ
-capacity size = cond (eqb size 256) 6 (cond (eqb size 568) 13 (cond (eqb size 4096) 102 0))
+capacity size = capacityIn pageSizes size
 
 -- "The node at depth d has at most (d+1)C+128 datoms.": room for a node at the eighth and last depth serves every depth
 unfoldable pub roomFor : ℕ → ℕ

@@ -244,7 +244,7 @@ impl History<'_> {
             2 => cursor.begin.indices[level] = old.wrapping_add(self.random.pick(&[1, 1, u64::MAX])),
             3 => cursor.begin.indices[level] = count_of(cursor.begin.pages[level]),
             4 => cursor.begin.indices[level] = count_of(cursor.begin.pages[level]) + 1,
-            5 => cursor.begin.indices[level] = self.random.pick(&[0, 6, 13, 102, 1 << 32, u64::MAX]),
+            5 => cursor.begin.indices[level] = self.random.pick(&[0, 6, 13, 102, 204, 1 << 32, u64::MAX]),
             6 => cursor.begin.pages[level] = self.random.pick(&[count, NONE, NONE - 1, 0]),
             7 => cursor.begin.pages[level] = self.random.below(count as usize) as u64,
             8 => cursor.begin.pages[level] = self.page_of_level(level),

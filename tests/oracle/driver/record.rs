@@ -18,30 +18,70 @@ const PLANS: [Plan; 4] = [Plan::Ascending, Plan::Descending, Plan::Scattered, Pl
 const AROUND_256: &[usize] = &[0, 1, 1, 2, 3, 4, 5, 6, 6, 7, 7, 8, 9, 11, 12, 13, 14, 15, 19, 20, 40, 64, 102, 127, 128];
 const AROUND_568: &[usize] = &[0, 1, 1, 6, 7, 8, 12, 13, 14, 15, 25, 26, 27, 28, 39, 40, 64, 102, 103, 127, 128];
 const AROUND_4096: &[usize] = &[0, 1, 13, 50, 51, 52, 101, 102, 103, 104, 127, 128];
+const AROUND_8192: &[usize] = &[0, 1, 26, 75, 76, 77, 78, 101, 102, 103, 127, 128];
 
+/// What came later stands behind what was there, so that the bytes of before stay: first the oracles' answers, then names of faults, then
+/// both for pages of 8192 bytes.
 pub fn record(file: &str) -> Result<(), String> {
-    let shapes = shapes();
-    let first_naming = shapes.len() as u64 + 1;
-    let by_oracles = (1..).zip(shapes).flat_map(|(number, shape)| record_history(number, SEED, shape));
-    let mut bytes: Vec<u8> = by_oracles.flat_map(|record| record.encode()).collect();
-    let by_oracles_alone = bytes.len();
-    bytes.extend(naming(first_naming)?.iter().flat_map(Record::encode));
+    let mut recording = Recording::default();
+    recording.add_histories(shapes());
+    let by_oracles = recording.bytes.len();
+    recording.add_merge();
+    recording.add_names(planted());
+    let before_wide = recording.bytes.len();
+    recording.add_histories(wide());
+    recording.add_names(planted_wide());
+    let bytes = recording.finish()?;
     fs::write(file, &bytes).map_err(|error| format!("{}: {}", file, error))?;
-    let named = bytes.len() - by_oracles_alone;
-    println!("{} bytes recorded with seed {} in {}, the last {} with names of faults", bytes.len(), SEED, file, named);
+    let (named, wide) = (before_wide - by_oracles, bytes.len() - before_wide);
+    println!("{} bytes recorded with seed {} in {}", bytes.len(), SEED, file);
+    println!("{} by the oracles, then {} with names of faults, then {} of pages of 8192 bytes", by_oracles, named, wide);
     Ok(())
 }
 
-/// The histories with names of faults, from this number on. Each call must have given each name that it can give.
-fn naming(first: u64) -> Result<Vec<Record>, String> {
-    let mut names = Names::default();
-    let mut records = record_merge(first, &mut names);
-    for (number, planted) in (first + 1..).zip(planted()) {
-        records.extend(record_names(number, SEED, planted, &mut names));
+#[derive(Default)]
+struct Recording {
+    histories: u64,
+    names: Names,
+    bytes: Vec<u8>,
+}
+
+impl Recording {
+    /// The number of the next history.
+    fn next(&mut self) -> u64 {
+        self.histories += 1;
+        self.histories
     }
-    match names.missing() {
-        missing if !missing.is_empty() => Err(format!("no record of {}", missing.join(", "))),
-        _ => Ok(records),
+
+    fn add(&mut self, records: Vec<Record>) {
+        self.bytes.extend(records.iter().flat_map(Record::encode));
+    }
+
+    fn add_histories(&mut self, shapes: Vec<Shape>) {
+        for shape in shapes {
+            let records = record_history(self.next(), SEED, shape);
+            self.add(records);
+        }
+    }
+
+    fn add_merge(&mut self) {
+        let records = record_merge(self.next(), &mut self.names);
+        self.add(records);
+    }
+
+    fn add_names(&mut self, trees: Vec<Planted>) {
+        for planted in trees {
+            let records = record_names(self.next(), SEED, planted, &mut self.names);
+            self.add(records);
+        }
+    }
+
+    /// Each call must have given each name that it can give.
+    fn finish(self) -> Result<Vec<u8>, String> {
+        match self.names.missing() {
+            missing if !missing.is_empty() => Err(format!("no record of {}", missing.join(", "))),
+            _ => Ok(self.bytes),
+        }
     }
 }
 
@@ -54,6 +94,11 @@ fn planted() -> Vec<Planted> {
         plant(568, Kind::Strings, &[128, 128, 4], 3),
         plant(4096, Kind::Integers, &[120, 3], 2),
     ]
+}
+
+/// The same in pages of 8192 bytes.
+fn planted_wide() -> Vec<Planted> {
+    vec![Planted { page_size: 8192, kind: Kind::Mixed, batches: &[128, 100, 3], height: 2 }]
 }
 
 fn shapes() -> Vec<Shape> {
@@ -69,7 +114,8 @@ fn around(page_size: usize) -> &'static [usize] {
     match page_size {
         256 => AROUND_256,
         568 => AROUND_568,
-        _ => AROUND_4096,
+        4096 => AROUND_4096,
+        _ => AROUND_8192,
     }
 }
 
@@ -170,4 +216,21 @@ fn damaged() -> Vec<Shape> {
         damage(568, Kind::Strings, 128, 2, 30),
         damage(4096, Kind::Integers, 128, 1, 8),
     ]
+}
+
+/// Pages of 8192 bytes. No single batch splits one, so the trees around one and two pages' worth are grown to their size.
+fn wide() -> Vec<Shape> {
+    let one = |i: usize, first| one_batch(8192, KINDS[i % KINDS.len()], PLANS[i % PLANS.len()], first);
+    let single = [0, 1, 127, 128].into_iter().enumerate().map(|(i, n)| one(i, n));
+    // 203 to 207 datoms, then 408 to 410.
+    let grown = [(128, 1, &[75]), (128, 1, &[76]), (128, 1, &[77]), (128, 1, &[78]), (128, 1, &[79]), (128, 4, &[70]), (127, 3, &[94]), (128, 3, &[94])];
+    let around = grown.into_iter().enumerate().map(|(i, (first, inserts, sizes))| Shape { inserts, sizes, branching: false, ..one(i, first) });
+    let growing = (0..8).map(|i| Shape { inserts: 12, raw: false, look_every: 2, ..one(i, 128) });
+    let agreeing = [Kind::Mixed, Kind::Strings].into_iter().map(|kind| {
+        Shape { inserts: 6, agreeing: true, raw: false, damages: 4, ..one_batch(8192, kind, Plan::Scattered, 128) }
+    });
+    let mut shapes: Vec<Shape> = single.chain(around).chain(growing).chain(agreeing).collect();
+    shapes.push(Shape { supply: 9_000, inserts: 60, sizes: &[128], branching: false, raw: false, look_every: 6, ..one(3, 128) });
+    shapes.push(Shape { inserts: 3, raw: false, damages: 12, ..one_batch(8192, Kind::Integers, Plan::Scattered, 128) });
+    shapes
 }

@@ -3,15 +3,20 @@
 use std::fs;
 use std::io::{self, BufRead, Write};
 
-use harness::{capacity, Node, Oracle, Order, Pages, Panic, Verdict, Which, NONE};
+use harness::{capacity, Node, Oracle, Order, Pages, Panic, Verdict, Which, MAX_VALUE, NONE};
 
+use crate::recording::digest;
 use crate::text::{
     parse_batch, parse_bytes, parse_datom, parse_number, parse_page_id, show_all, show_datom, show_page_id,
 };
 
-const COMMANDS: &str = "oracle plain|patched, order eavt|rule, size 256|568|4096, new, initialise D.., \
-    insert ROOT D.., list ROOT LO HI, check ROOT, height ROOT, page N, node N, count, poke PAGE OFFSET BYTE, \
+const COMMANDS: &str = "oracle plain|patched, order eavt|rule, size 256|568|4096|8192, new, initialise D.., \
+    insert ROOT D.., grow ROOT D.., list ROOT LO HI, lists ROOT D.., check ROOT, height ROOT, page N, node N, count, digest, \
+    poke PAGE OFFSET BYTE, \
     save FILE, load FILE, compare D D, span CHILD.., inline NUMBER|\"BYTES\"";
+
+/// The most datoms of a batch, by document 01.
+const LARGEST_BATCH: usize = 128;
 
 /// Answers every line of standard input. With `echo` each line is repeated before its answer, so
 /// that the output is a transcript; blank lines and lines starting with # are passed on.
@@ -71,12 +76,15 @@ impl Session {
             ["new"] => self.start(self.pages.page_size()),
             ["initialise", ref batch @ ..] => self.initialise(batch),
             ["insert", root, ref batch @ ..] => self.insert(root, batch),
+            ["grow", root, ref datoms @ ..] => self.grow(root, datoms),
             ["list", root, lower, upper] => self.list(root, lower, upper),
+            ["lists", root, ref datoms @ ..] => self.lists(root, datoms),
             ["check", root] => self.check(root),
             ["height", root] => self.height(root),
             ["page", page] => Ok(hex(self.page(page)?)),
             ["node", page] => self.node(page),
             ["count"] => Ok(format!("pages {}", self.pages.count())),
+            ["digest"] => Ok(format!("digest {}", digest(self.pages.bytes()))),
             ["poke", page, offset, byte] => self.poke(page, offset, byte),
             ["save", file] => self.save(file),
             ["load", file] => self.load(file),
@@ -118,6 +126,14 @@ impl Session {
         Ok(self.written(before, outcome))
     }
 
+    /// Inserts any number of datoms, in batches of the largest size, each at the root that the one before it led to.
+    fn grow(&mut self, root: &str, datoms: &[&str]) -> Result<String, String> {
+        let (root, datoms) = (self.root(root)?, parse_batch(datoms)?);
+        let before = self.pages.count();
+        let outcome = datoms.chunks(LARGEST_BATCH).try_fold(root, |root, batch| self.oracle.insert(&mut self.pages, root, batch));
+        Ok(self.written(before, outcome))
+    }
+
     /// The answer to a call that writes. What a panicking call wrote is dropped again.
     fn written(&mut self, before: u64, outcome: Result<u64, Panic>) -> String {
         let count = self.pages.count() - before;
@@ -141,6 +157,18 @@ impl Session {
         Ok(match outcome {
             Ok(()) => listing,
             Err(panic) => format!("{}, having {}", refusal(&panic.message), listing),
+        })
+    }
+
+    /// Whether a listing of everything gives these datoms and no other.
+    fn lists(&self, root: &str, datoms: &[&str]) -> Result<String, String> {
+        let (root, datoms) = (self.root(root)?, parse_batch(datoms)?);
+        let mut listed = Vec::new();
+        let above_all = [u64::MAX, u64::MAX, MAX_VALUE, u64::MAX];
+        Ok(match self.oracle.list(&self.pages, root, &[0; 4], &above_all, &mut listed) {
+            Ok(()) if listed == datoms => format!("lists these {}", listed.len()),
+            Ok(()) => format!("lists {} others", listed.len()),
+            Err(panic) => refusal(&panic.message),
         })
     }
 

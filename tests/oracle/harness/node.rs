@@ -5,7 +5,7 @@ use std::cmp::Ordering;
 use crate::datom::{compare, is_storable, Datom};
 use crate::pages::NONE;
 
-pub const PAGE_SIZES: [usize; 3] = [256, 568, 4096];
+pub const PAGE_SIZES: [usize; 4] = [256, 568, 4096, 8192];
 
 const HIGHEST_LEVEL: u8 = 7;
 
@@ -15,6 +15,7 @@ pub fn capacity(page_size: usize) -> Option<usize> {
         256 => Some(6),
         568 => Some(13),
         4096 => Some(102),
+        8192 => Some(204),
         _ => None,
     }
 }

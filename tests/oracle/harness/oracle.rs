@@ -129,9 +129,11 @@ macro_rules! at_order_and_size {
             (Order::Eavt, 256) => $operation::<_, PageSize256>(Eavt, $($argument),*),
             (Order::Eavt, 568) => $operation::<_, PageSize568>(Eavt, $($argument),*),
             (Order::Eavt, 4096) => $operation::<_, PageSize4096>(Eavt, $($argument),*),
+            (Order::Eavt, 8192) => $operation::<_, PageSize8192>(Eavt, $($argument),*),
             (Order::Rule, 256) => $operation::<_, PageSize256>(ByRule, $($argument),*),
             (Order::Rule, 568) => $operation::<_, PageSize568>(ByRule, $($argument),*),
             (Order::Rule, 4096) => $operation::<_, PageSize4096>(ByRule, $($argument),*),
+            (Order::Rule, 8192) => $operation::<_, PageSize8192>(ByRule, $($argument),*),
             (_, size) => panic!("noblit has no page size {}", size),
         }
     };
@@ -155,6 +157,18 @@ macro_rules! build_of_noblit {
             use $noblit::store::{PageId, PageSize, PageSize256, PageSize4096, PageSize568, Store, StoreMut};
 
             use super::{Datom, Order, Pages};
+
+            /// Noblit has no pages of 8192 bytes. Its trait is public, so the size is stated here, and the tree itself stays unchanged.
+            struct PageSize8192;
+
+            impl PageSize for PageSize8192 {
+                const SIZE: usize = 8192;
+                const CAPACITY: usize = 204;
+
+                fn new() -> PageSize8192 {
+                    PageSize8192
+                }
+            }
 
             // The Rust fixes no layout for its datoms; the oracle stands for the declared order.
             const _: () = assert!(

@@ -48,7 +48,7 @@ void create(const Given &given, Output &out) {
 Run define_create(Words &words) {
     const auto given = std::make_shared<Given>();
     words.word("STORE", given->path, "the file to make; none may stand there");
-    words.number("--page-size", given->page_size, "BYTES", "256, 568 or 4096; 4096 if not given");
+    words.number("--page-size", given->page_size, "BYTES", page_sizes_text() + "; 4096 if not given");
     words.number("--room", given->room, "PAGES", "room for so many at first; the file grows by itself");
     words.text("--from", given->from, "FILE", "its first batch, in any order");
     given->form.define(words, "FILE is binary");

@@ -96,7 +96,7 @@ Run define_load(Words &words) {
     const auto given = std::make_shared<Given>();
     words.word("NEW", given->path, "the store to make; no file may stand there");
     words.word_or_not("FILE", given->dump, "what florin dump wrote; the standard input if not given, or -");
-    words.number("--page-size", given->page_size, "BYTES", "256, 568 or 4096; that of the dump if not given");
+    words.number("--page-size", given->page_size, "BYTES", page_sizes_text() + "; that of the dump if not given");
     words.footer("Batches, times, branches and checksums are those of the dump. So are roots and pages, if the page size is: each is\n"
                "compared, and a store that came out in another way is not kept. A dump that was changed or cut off is refused.\n"
                "Batches that florin upgrade has brought over get the checksum of their datoms that they lacked.\n");

@@ -1,4 +1,4 @@
--- `bytes_of` meets its contract: at most 2^20 pages of 2^12 bytes. Assumes nothing.
+-- `bytes_of` meets its contract: at most 2^20 pages of 2^13 bytes. Assumes nothing.
 use native.Mathlib.Nat.{mul-le-mul-right}
 use native.Mathlib.Omega.{arith}
 use borrow.Author.Needs.{needs}

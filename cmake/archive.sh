@@ -5,7 +5,7 @@
 #
 # rt keeps a stamp of every crate that it has proved, and does not prove it again. It keeps none of an archive: each `rt staticlib NAME`
 # proves crate NAME once more and compiles all that it needs. That is over a minute, and nothing but a stamp can save it, so this script
-# leaves one beside the archive: hashes of the kit's identity, crates.txt, every .rt and .antt file, and of the archive itself.
+# leaves one beside the archive: hashes of the kit's identity and place, crates.txt, every .rt and .antt file, and of the archive itself.
 # It trusts target/ as rt does: that rt and this script alone write there. The gate (.ci/run) trusts nothing and removes target/ first.
 set -euo pipefail
 
@@ -21,7 +21,7 @@ if ! command -v "$rt" > /dev/null; then
 fi
 
 hash_of_sources() {
-    { "$rt" version; uname -m; sha256sum crates.txt; find crates -name '*.rt' -o -name '*.antt' | LC_ALL=C sort | xargs -d '\n' sha256sum; } |
+    { "$rt" version; readlink -f "$(command -v "$rt")"; uname -m; sha256sum crates.txt; find crates -name '*.rt' -o -name '*.antt' | LC_ALL=C sort | xargs -d '\n' sha256sum; } |
         sha256sum
 }
 

@@ -13,17 +13,7 @@ use noblit_patched::store::{PageId, PageSize, PageSize4096, Store, StoreMut};
 use crate::feed::Datom;
 use crate::slab::Slab;
 
-/// Noblit has no pages of 8192 bytes; its trait is public.
-struct PageSize8192;
-
-impl PageSize for PageSize8192 {
-    const SIZE: usize = 8192;
-    const CAPACITY: usize = 204;
-
-    fn new() -> PageSize8192 {
-        PageSize8192
-    }
-}
+include!("../oracle/harness/page_size_8192.rs");
 
 /// Calls a method below with the page size as a type.
 macro_rules! at_size {

@@ -1,4 +1,4 @@
-//! Document 01's examples k and l and the scratch need, by number.
+//! Document 01's examples k and l, the one of 8192-byte pages beside them, and the scratch need, by number.
 
 use harness::{Answer, Datom, Node, Random};
 
@@ -7,59 +7,80 @@ use crate::library::{bytes_of, call, scratch_need, Call, Entry, Lent};
 /// A page, its level, and which datoms it has where that is said.
 type Content = (u64, u8, Option<Vec<u64>>);
 
-/// A page size, how many of d(0), d(1), .. are initialised, the answer, and what some pages then hold.
-type Example = (usize, u64, Answer, Vec<Content>);
+struct Example {
+    page_size: usize,
+    /// The first batch is d(0) up to but not including the d of the first number, and is initialised. The next goes on to the second, ..
+    ends: &'static [u64],
+    /// The last batch's answer, and what some pages then hold.
+    answer: Answer,
+    pages: Vec<Content>,
+}
 
 pub fn run(random: &mut Random) -> Result<String, String> {
-    for (size, need) in [(256, 62_016), (568, 81_728), (4096, 332_352), (0, 0), (512, 0)] {
+    let needs = [(256, 62_016), (568, 81_728), (4096, 332_352), (8192, 619_584), (0, 0), (512, 0), (8191, 0), (16384, 0)];
+    for (size, need) in needs {
         if scratch_need(size) != need {
             return Err(format!("the scratch need of page size {} is {}, and must be {}", size, scratch_need(size), need));
         }
     }
-    let parts = |first: u64, count: u64| vec![
-        (0, 0, Some((0..first).collect())), (1, 0, Some((first + 1..count).collect())), (2, 1, Some(vec![first])),
-    ];
-    let too_many = Entry::Initialise.refused(2, 0);
-    let examples: Vec<Example> = vec![
-        (256, 128, Answer::done(26, 27), vec![(26, 2, None)]),
-        (256, 129, too_many, vec![]),
-        (568, 14, Answer::done(2, 3), parts(7, 14)),
-        (4096, 103, Answer::done(2, 3), parts(51, 103)),
-        (4096, 104, Answer::done(2, 3), parts(52, 104)),
-    ];
-    for (page_size, amount, expected, pages) in &examples {
-        example(*page_size, *amount, *expected, pages, random)
-            .map_err(|fault| format!("initialise d0..d{} with page size {}: {}", amount - 1, page_size, fault))?;
+    let examples = examples();
+    for example in &examples {
+        example.run(random).map_err(|fault| format!("batches up to {:?} with page size {}: {}", example.ends, example.page_size, fault))?;
     }
-    Ok(format!("document 01's examples k and l: {} calls as written there", examples.len()))
+    Ok(format!("document 01's examples k and l, and the one of 8192 bytes: {} as written there", examples.len()))
 }
 
-fn example(
-    page_size: usize, amount: u64, expected: Answer, pages: &[Content], random: &mut Random,
-) -> Result<(), String> {
-    let batch: Vec<Datom> = (0..amount).map(d).collect();
-    let mut store = vec![0xaa; 32 * page_size];
-    let need = scratch_need(page_size);
-    let mut scratch = Lent::of_length(need, random);
-    let given = Call {
-        entry: Entry::Initialise, page_size: page_size as u64, page_count: 0, batch: &bytes_of(&batch), scratch: need, area: 32,
-    };
-    let answer = call(&mut store, &given, &mut scratch, random)?;
-    if answer != expected {
-        return Err(format!("the answer is {:?}, and must be {:?}", answer, expected));
+fn examples() -> Vec<Example> {
+    // Two leaves from a page on, and the page above them with the datom between.
+    let parts = |page: u64, first: u64, count: u64| vec![
+        (page, 0, Some((0..first).collect())), (page + 1, 0, Some((first + 1..count).collect())), (page + 2, 1, Some(vec![first])),
+    ];
+    let too_many = Entry::Initialise.refused(2, 0);
+    vec![
+        Example { page_size: 256, ends: &[128], answer: Answer::done(26, 27), pages: vec![(26, 2, None)] },
+        Example { page_size: 256, ends: &[129], answer: too_many, pages: vec![] },
+        Example { page_size: 568, ends: &[14], answer: Answer::done(2, 3), pages: parts(0, 7, 14) },
+        Example { page_size: 4096, ends: &[103], answer: Answer::done(2, 3), pages: parts(0, 51, 103) },
+        Example { page_size: 4096, ends: &[104], answer: Answer::done(2, 3), pages: parts(0, 52, 104) },
+        Example { page_size: 8192, ends: &[128, 204], answer: Answer::done(1, 1), pages: vec![(1, 0, Some((0..204).collect()))] },
+        Example { page_size: 8192, ends: &[128, 205], answer: Answer::done(3, 3), pages: parts(1, 102, 205) },
+        Example { page_size: 8192, ends: &[128, 206], answer: Answer::done(3, 3), pages: parts(1, 103, 206) },
+    ]
+}
+
+impl Example {
+    fn run(&self, random: &mut Random) -> Result<(), String> {
+        let mut store = vec![0xaa; 32 * self.page_size];
+        let need = scratch_need(self.page_size);
+        let mut scratch = Lent::of_length(need, random);
+        let (mut from, mut count, mut answer) = (0, 0, self.answer);
+        for &end in self.ends {
+            let batch: Vec<Datom> = (from..end).map(d).collect();
+            let entry = if from == 0 { Entry::Initialise } else { Entry::Insert(answer.root) };
+            let given = Call {
+                entry, page_size: self.page_size as u64, page_count: count, batch: &bytes_of(&batch), scratch: need, area: 32,
+            };
+            answer = call(&mut store, &given, &mut scratch, random)?;
+            (from, count) = (end, count + answer.pages);
+        }
+        if answer != self.answer {
+            return Err(format!("the answer is {:?}, and must be {:?}", answer, self.answer));
+        }
+        if store[count as usize * self.page_size..].iter().any(|&byte| byte != 0xaa) {
+            return Err("bytes past the pages written were changed".to_string());
+        }
+        self.pages.iter().try_for_each(|content| self.holds(&store, content))
     }
-    if store[expected.pages as usize * page_size..].iter().any(|&byte| byte != 0xaa) {
-        return Err("bytes past the pages written were changed".to_string());
-    }
-    for (page, level, datoms) in pages {
-        let at = *page as usize * page_size;
-        let node = Node::decode(&store[at..at + page_size]).ok_or("a page with too many datoms")?;
+
+    fn holds(&self, store: &[u8], (page, level, datoms): &Content) -> Result<(), String> {
+        let at = *page as usize * self.page_size;
+        let node = Node::decode(&store[at..at + self.page_size]).ok_or("a page with too many datoms")?;
         let held = datoms.as_ref().map(|ks| ks.iter().map(|&k| d(k)).collect::<Vec<Datom>>());
         if node.level != *level || held.map_or(false, |held| held != node.datoms) {
             return Err(format!("page {} is {:?}", page, node));
         }
+        Ok(())
     }
-    Ok(())
 }
 
 fn d(k: u64) -> Datom {

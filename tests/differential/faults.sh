@@ -39,7 +39,7 @@ while IFS='|' read -r file name script; do
         htree | datom)
             build_noblit patched
             build_harness "$out/harness" ;;
-        node) build_harness "$out/harness" ;;
+        node | size) build_harness "$out/harness" ;;
     esac
     rustc --edition 2021 --crate-name differential --cap-lints allow -o "$out/program" "${flags[@]}" -L "$out" --extern harness -L target/staticlib -l static=florinwick \
         "$out/differential/main.rs"

@@ -31,7 +31,9 @@ pub struct Shape {
     pub plan: Plan,
     pub order: Order,
     pub supply: usize,
-    /// How many batches there are at most.
+    /// How many batches of 128 come first, with nothing between them: wide pages need so many for a third level.
+    pub planted: usize,
+    /// How many batches there are at most behind them.
     pub batches: usize,
     /// How large the largest batch is.
     pub largest: usize,
@@ -115,11 +117,14 @@ impl<'a> History<'a> {
     /// Runs the history; a difference ends it.
     pub fn run(&mut self) -> Result<(), Difference> {
         self.tally.histories += 1;
-        for i in 0..self.shape.batches {
+        for _ in 0..self.shape.planted {
+            self.plant()?;
+        }
+        for _ in 0..self.shape.batches {
             if self.patched.bytes().len() > self.shape.room {
                 break;
             }
-            let is_new = i == 0 || self.trees.is_empty() || self.random.one_in(self.shape.restarting);
+            let is_new = self.trees.is_empty() || self.random.one_in(self.shape.restarting);
             if is_new { self.start()? } else { self.grow()? }
             self.refusals()?;
             self.readings()?;
@@ -147,6 +152,19 @@ impl<'a> History<'a> {
             ));
         }
         text
+    }
+
+    /// As much as a batch may have, at the newest root.
+    fn plant(&mut self) -> Result<(), Difference> {
+        let parent = self.trees.len().checked_sub(1);
+        let (entry, held) = match self.trees.last() {
+            Some(tree) => (Entry::Insert(tree.root), tree.held.clone()),
+            None => (Entry::Initialise, self.supply.nothing_held()),
+        };
+        self.tally.initialised += parent.is_none() as u64;
+        let batch = self.supply.batch(&held, self.shape.plan, MOST, &mut self.random);
+        let datoms = self.supply.datoms(&batch);
+        self.write(entry, &datoms, parent, batch, held, true).map(|_| ())
     }
 
     /// A new tree in the store, by initialise or by an insert at none.

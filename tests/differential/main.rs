@@ -28,6 +28,10 @@ const SMALLER_FOR: Duration = Duration::from_secs(20);
 /// From so many batches on the tallest tree is built, too.
 const TALL_FROM: u64 = 50_000;
 
+/// One in so many histories of the widest pages begins with so many batches of 128, ascending ones enough for a third level.
+const PLANTED_EVERY: usize = 6;
+const PLANTED: usize = 240;
+
 /// From so many batches on each call must have given each name that it can give.
 const NAMED_FROM: u64 = 2_000;
 
@@ -122,7 +126,7 @@ fn smaller(shape: Shape) -> Option<(String, String)> {
             if started.elapsed() > SMALLER_FOR {
                 return None;
             }
-            let smaller = Shape { batches, largest, supply: 40 + 2 * batches * largest, cutting: 1, ..shape };
+            let smaller = Shape { batches, largest, supply: 40 + 2 * batches * largest, planted: 0, cutting: 1, ..shape };
             let mut tally = Tally::default();
             let mut history = History::new(smaller, seed, &mut tally);
             if let Err(fault) = history.run() {
@@ -134,10 +138,16 @@ fn smaller(shape: Shape) -> Option<(String, String)> {
 }
 
 fn shape(page_size: usize, turn: usize, random: &mut Random) -> Shape {
-    let batches = if turn < 50 { 2 + turn / 4 } else { random.pick(&[20, 60, 150, 400, 800]) };
+    let planted = if page_size == 8192 && turn >= 50 && random.one_in(PLANTED_EVERY) { PLANTED } else { 0 };
+    let batches = match turn {
+        0..50 => 2 + turn / 4,
+        _ if planted > 0 => 60,
+        _ => random.pick(&[20, 60, 150, 400, 800]),
+    };
     let largest = random.pick(&[1, 4, 8, 32, 64, 128, 128]);
     let room = match page_size {
         4096 => random.pick(&[1 << 20, 4 << 20, 8 << 20]),
+        8192 if planted > 0 => 32 << 20,
         8192 => random.pick(&[1 << 20, 8 << 20, 24 << 20]),
         _ => random.pick(&[1 << 19, 1 << 20, 4 << 20]),
     };
@@ -146,7 +156,8 @@ fn shape(page_size: usize, turn: usize, random: &mut Random) -> Shape {
         kind: random.pick(&[Kind::Counted, Kind::Integers, Kind::Strings, Kind::LastWords, Kind::Mixed]),
         plan: random.pick(&[Plan::Ascending, Plan::Descending, Plan::Scattered, Plan::Scattered, Plan::Clustered]),
         order: random.pick(&[Order::Eavt, Order::Rule]),
-        supply: 200 + batches * (largest / 2 + 6),
+        supply: 200 + planted * 128 + batches * (largest / 2 + 6),
+        planted,
         batches,
         largest,
         room,

@@ -65,9 +65,10 @@ echo "$@" >> calls
 END
 chmod +x one/bin/rt
 echo 1 > one/bin/version
+kit=one/bin
 made() {
     : > one/calls
-    PATH=$PWD/one/bin:$PATH bash one/cmake/archive.sh > archive.log 2>&1
+    PATH=$PWD/$kit:$PATH bash one/cmake/archive.sh > archive.log 2>&1
     equal "$?:$(xargs < one/calls):$(cat one/target/staticlib/libflorinwick.a)" "$2" "the archive, $1"
 }
 all='check store staticlib florinwick'
@@ -79,6 +80,8 @@ echo other > one/target/staticlib/libflorinwick.a
 made 'another archive' "0:$all:second"
 echo 2 > one/bin/version
 made 'another kit' "0:$all:second"
+cp -r one/bin one/elsewhere; kit=one/elsewhere
+made 'that kit in another place' "0:$all:second"
 echo > one/crates/store/Lib.antt
 touch one/bin/broken
 made 'not proved' "1:$all:second"

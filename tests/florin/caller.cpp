@@ -264,6 +264,22 @@ std::vector<std::uint64_t> listed(Listing listing, Answer &last) {
     return entities;
 }
 
+// Every page size that the header names is the library's, and no neighbour of one is.
+void sizes() {
+    EXPECT(std::size(page_sizes) == 4 && Store::scratch_need(0) == 0);
+    for (const std::uint64_t size : page_sizes) {
+        EXPECT(Store::scratch_need(size) > 0 && Store::scratch_need(size - 1) == 0 && Store::scratch_need(size + 1) == 0);
+        std::vector<std::uint8_t> bytes(128 * size), scratch(Store::scratch_need(size));
+        Store store(bytes, size, scratch);
+        EXPECT(store.insert(run(0, 128)).done() && store.insert(run(128, 128)).done() && store.reader().check(store.root()).done());
+        Answer last;
+        EXPECT(listed(store.reader().list(store.root()), last).size() == 256 && last.number == Number::Ended);
+        // One byte of scratch less is BadStore.
+        Store short_of_scratch(bytes, size, ByteArea(scratch).first(scratch.size() - 1), store.page_count(), store.root());
+        EXPECT(short_of_scratch.insert(run(256, 1)).number == Number::BadStore);
+    }
+}
+
 void trees() {
     std::vector<std::uint8_t> bytes(16 * 256), scratch(Store::scratch_need(256));
     Store store(bytes, 256, scratch);
@@ -427,6 +443,7 @@ int main() {
     answers();
     faults();
     damaged_pages();
+    sizes();
     trees();
     forms_of_a_batch();
     iterators();

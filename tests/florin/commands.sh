@@ -314,7 +314,7 @@ expect 0 'drew notes.txt' tree c.fw --svg notes.txt --force
 holds 'the picture took its place' xmllint --noout notes.txt
 equal "$(ls victim.fw.* notes.txt.* 2> /dev/null)" '' 'files that a picture leaves'
 # Large trees: cards of one line, then levels that are not drawn.
-for size in 256 568 4096; do
+for size in 256 568 4096 8192; do
     "$florin" create large.$size.fw --page-size $size > /dev/null
     seq 0 7999 | awk '{ print ($1 * 7919) % 8000, 1, "\"<&>" $1 % 10 "\"", 2 * int($1 / 100) + 2, $1 % 3 ? "assert" : "retract" }' |
         awk '{ print > "part" int((NR - 1) / 100) ".txt" }'

@@ -51,7 +51,8 @@ killed_at() {
     { FLORIN_KILL_AT=$at LD_PRELOAD=$out/cut.so "$florin" "$@" > said 2> complained; status=$?; } 2> /dev/null
 }
 
-for size in 256 4096; do
+# A page of 8192 bytes is two blocks of the disk, and may be half on it.
+for size in 256 4096 8192; do
     feed_of 1500
     rm -f base.fw
     "$florin" create base.fw --page-size $size --room 2 > /dev/null

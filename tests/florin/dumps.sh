@@ -20,7 +20,7 @@ again() {
     listings "$store" > one; listings again.fw > other; same one other "$store: listings"
     "$florin" dump again.fw > other; same again.dump other "$store: a dump of what was loaded"
     expect 0 'Sound: all' check again.fw --all
-    for size in 256 568 4096; do
+    for size in 256 568 4096 8192; do
         rm -f sized.fw back.fw
         expect 0 "pages of $size bytes" load sized.fw again.dump --page-size $size
         lasting "$store" > one; lasting sized.fw > other; same one other "$store in pages of $size: batches"

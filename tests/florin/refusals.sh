@@ -6,8 +6,10 @@ b 0 6 > seven.txt
 pages=$(pages_at r.fw)
 
 # 1 BadStore
-expect 1 'BadStore \(1\): The page size is not 256, 568 or 4096.*next: choose' create bad.fw --page-size 300
-expect 1 'BadStore' create bad.fw --page-size 0
+expect 1 'BadStore \(1\): The page size is not 256, 568, 4096 or 8192, or .*next: choose' create bad.fw --page-size 300
+for size in 0 255 4095 8191 8193 16384; do
+    expect 1 'BadStore' create bad.fw --page-size $size
+done
 equal "$(ls -d bad.fw* 2> /dev/null)" '' 'files that a refused create leaves'
 
 # 2 TooMany

@@ -37,7 +37,7 @@ while IFS='|' read -r file name script; do
         htree)
             build_noblit patched
             build_harness "$out/harness" ;;
-        datom | node) build_harness "$out/harness" ;;
+        datom | node | size) build_harness "$out/harness" ;;
     esac
     here=$out/tests/oracle build_driver
     if "$out/oracle" replay "$repo/crates/replay/stdin" > "$out/replay" 2>&1; then

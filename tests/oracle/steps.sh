@@ -48,6 +48,7 @@ rust_file() {
     case $1 in
         htree) echo "$out/source/patched/htree.rs" ;;
         datom) echo "$out/harness/datom.rs" ;;
+        size) echo "$out/harness/page_size_8192.rs" ;;
     esac
 }
 

@@ -1,15 +1,14 @@
--- "1 now knows four sizes": what has a row in the table is known, and nothing else. Each law holds for any table; a further row changes none.
+-- "1 now knows four sizes": what has a row in the table is known, and nothing else. Only the first says how many rows there are.
 use Prim.Native.Nat.{ℕ, _*_, _≤_}
 use mathlib.Core.Bool.{Bool, true, false, not}
-use mathlib.Core.List.{List, [], _∷_, map}
+use mathlib.Core.List.{List, [], _∷_}
 use mathlib.Core.Logic.{inl, inr}
 use mathlib.Core.Path.{_≡_, refl}
-use borrow.Author.Tests.{eqb-true, eqb-false, eq-eqb, ne-eqb, le-ltb}
+use borrow.Author.Tests.{eqb-true, eqb-false, ne-eqb, le-ltb}
 use lib.Dec.{eqb}
 use lib.ListN.{length}
 use Rattle.store.specs.declared.Extent.{Extent}
-use Rattle.store.specs.declared.PageSize.{PageSize}
-use Rattle.store.specs.Size.{pageSizes, sizes, capacityIn, capacity}
+use Rattle.store.specs.Size.{PageSize, pageSizes, sizesOf, sizes, capacityIn, capacity}
 use Rattle.store.specs.Laws.{apart}
 use Rattle.rules.specs.Page.{all}
 use Rattle.rules.specs.Lists.{In, all-in}
@@ -26,14 +25,14 @@ size-known size i z =
     let none : _≡_ {A = Bool} false true = rw z at some in
     apart (cc)
 
-listed-in : (ps : List PageSize) (size : ℕ) → (capacityIn ps size ≡ 0 → ⊥) → In size (map (λ (p : PageSize). p .size) ps)
+listed-in : (ps : List PageSize) (size : ℕ) → (capacityIn ps size ≡ 0 → ⊥) → In size (sizesOf ps)
 unfolding capacityIn
 listed-in [] size h = h refl
 listed-in (p ∷ ps) size h = side (eqb size (p .size)) refl (listed-in ps size)
   where
     side :
-        (b : Bool) → eqb size (p .size) ≡ b → ((capacityIn ps size ≡ 0 → ⊥) → In size (map (λ (p : PageSize). p .size) ps)) →
-        In size (map (λ (p : PageSize). p .size) (p ∷ ps))
+        (b : Bool) → eqb size (p .size) ≡ b → ((capacityIn ps size ≡ 0 → ⊥) → In size (sizesOf ps)) →
+        In size (sizesOf (p ∷ ps))
     side true e rest = inl (eqb-true size (p .size) e)
     side false e rest = inr (rest (λ z. h (rw e z)))
 

@@ -45,20 +45,34 @@ first-fits : first ≡ record { answer = Done (page 0) 1; pages = leafOf (run 0 
 unfolding rules
 first-fits = refl
 
--- the insert of 77 more, with so much scratch: 205 datoms are one too many for a page
-abbrev second : ℕ → Outcome
-second room = insert eavt (wide 1) (storeAfter (wide 0) bytes (first .pages)) room (page 0) (run 128 77)
+-- the insert of n more, with so much scratch
+abbrev second : ℕ → ℕ → Outcome
+second n room = insert eavt (wide 1) (storeAfter (wide 0) bytes (first .pages)) room (page 0) (run 128 n)
 
--- 206 children for two pages: 103 each, so 102 datoms each, and d102 goes up
+-- 204 datoms are a full page
+second-fits : second 76 619584 ≡ record { answer = Done (page 1) 1; pages = leafOf (run 0 204) ∷ [] }
+unfolding rules
+second-fits = refl
+
+-- 205 are one too many: 206 children for two pages, 103 each, so 102 datoms each, and d102 goes up
 second-splits :
-    second 619584 ≡ record {
+    second 77 619584 ≡ record {
       answer = Done (page 3) 3;
       pages = leafOf (run 0 102) ∷ leafOf (run 103 102) ∷ record { level = 1; datoms = d 102 ∷ []; children = page 1 ∷ page 2 ∷ [] } ∷ [];
     }
 unfolding rules
 second-splits = refl
 
+-- 206: the first page takes the child that is left over. The Rust loses d205.
+second-keeps :
+    second 78 619584 ≡ record {
+      answer = Done (page 3) 3;
+      pages = leafOf (run 0 103) ∷ leafOf (run 104 102) ∷ record { level = 1; datoms = d 103 ∷ []; children = page 1 ∷ page 2 ∷ [] } ∷ [];
+    }
+unfolding rules
+second-keeps = refl
+
 -- a byte of scratch less is 1
-second-short : second 619583 ≡ record { answer = Refused BadStore; pages = [] }
+second-short : second 77 619583 ≡ record { answer = Refused BadStore; pages = [] }
 unfolding rules
 second-short = refl

@@ -9,12 +9,11 @@ use mathlib.Core.List.{List, [], _∷_, _++_, append-assoc}
 use borrow.Author.Tests.{eqb-true, ltb-true, leb-true}
 use lib.Dec.{eqb, ltb, leb}
 use lib.ListN.{length, take, drop, getD, length-append, length-replicate, length-take, length-drop, List·getD-eq-default}
-use lib.Seq.{take-at, drop-at, drop-cons, drop-length, getD-take, getD-drop, length-take-le}
+use lib.Seq.{take-at, drop-at, getD-take, getD-drop, length-take-le}
 use Rattle.store.specs.declared.PageId.{PageId}
-use Rattle.store.specs.declared.PageSize.{PageSize}
 use Rattle.store.specs.Words.{little, bytesOf, wordAt, cells, spread, pad}
 use Rattle.store.specs.Page.{pageOf, pageBytes}
-use Rattle.store.specs.Size.{pageSizes, mostSize, mostDatoms, capacityIn, capacity}
+use Rattle.store.specs.Size.{PageSize, pageSizes, mostSize, mostDatoms, capacityIn, capacity}
 
 -- what congruence closure is asked for where two constructors meet
 pub apart : _≡_ {A = ℕ} 0 1 → ⊥
@@ -129,6 +128,7 @@ pub record Fits (size c : ℕ) : Type 0 where
   pub most : size ≤ mostSize
   pub few : c ≤ mostDatoms
 
+-- the same as a test, of a row and of all of them
 abbrev fitting : PageSize → Bool
 fitting p = ltb 0 (p .capacity) && (leb (40 * p .capacity + 10) (p .size) && (leb (p .size) mostSize && leb (p .capacity) mostDatoms))
 
@@ -167,17 +167,7 @@ pub known-size : (size : ℕ) → (capacity size ≡ 0 → ⊥) → Known size
 unfolding capacity
 known-size = table-fits pageSizes refl
 
--- along the table: the rows from i on answer as the row at i does, where it has the size, and else as those behind it
-module _ (ps : List PageSize) (size : ℕ) where
-  module _ (i : ℕ) (p : PageSize) (h : i < length ps) where
-    pub row-here : eqb size (getD ps i p .size) ≡ true → capacityIn (drop i ps) size ≡ getD ps i p .capacity
-    unfolding capacityIn
-    row-here e = rw (drop-cons ps i p h, e)
-
-    pub row-past : eqb size (getD ps i p .size) ≡ false → capacityIn (drop i ps) size ≡ capacityIn (drop (suc i) ps) size
-    unfolding capacityIn
-    row-past e = rw (drop-cons ps i p h, e)
-
-  pub rows-end : capacityIn (drop (length ps) ps) size ≡ 0
-  unfolding capacityIn
-  rows-end = rw (drop-length ps)
+-- "Pages of 8192 bytes. .. Capacity is 204, children start at 6528, the header at 8168.": at 32C and at 40C+8
+wide-page : (capacity 8192 ≡ 204) × ((32 * capacity 8192 ≡ 6528) × (40 * capacity 8192 + 8 ≡ 8168))
+unfolding capacity capacityIn
+wide-page = (refl, (refl, refl))

@@ -1,9 +1,13 @@
--- Page sizes: one table; all else stands over the capacity. A further size is one row more, and one of the two bounds where it is larger.
+-- Page sizes: one table; all else stands over the capacity. A further size is one row more, and larger bounds where it is the largest.
 use Prim.Native.Nat.{ℕ, _+_, _*_}
 use mathlib.Core.Bool.{cond}
 use mathlib.Core.List.{List, [], _∷_, map}
 use lib.Dec.{eqb}
-use Rattle.store.specs.declared.PageSize.{PageSize}
+
+-- a page size that is known: its bytes, and how many datoms a page of it holds
+pub record PageSize : Type 0 where
+  pub size : ℕ
+  pub capacity : ℕ
 
 abbrev pub sized : ℕ → ℕ → PageSize
 sized size capacity = record { size = size; capacity = capacity }
@@ -12,9 +16,12 @@ sized size capacity = record { size = size; capacity = capacity }
 abbrev pub pageSizes : List PageSize
 pageSizes = sized 256 6 ∷ sized 568 13 ∷ sized 4096 102 ∷ sized 8192 204 ∷ []
 
+abbrev pub sizesOf : List PageSize → List ℕ
+sizesOf = map (λ (p : PageSize). p .size)
+
 -- the sizes that are known
 abbrev pub sizes : List ℕ
-sizes = map (λ (p : PageSize). p .size) pageSizes
+sizes = sizesOf pageSizes
 
 -- the bytes of the largest page, and the datoms of the fullest
 abbrev pub mostSize : ℕ

@@ -36,47 +36,17 @@ pub struct Extent {
     pub count: u64,
 }
 
-// A page size that is known, after the Rust's trait of this name.
-pub struct PageSize {
-    // The bytes of a page.
-    pub size: u64,
-    // How many datoms it holds.
-    pub capacity: usize,
-}
-
-// Every page size that is known.
-const PAGE_SIZES: [PageSize; 4] = [
-    PageSize {
-        size: 256,
-        capacity: 6,
-    },
-    PageSize {
-        size: 568,
-        capacity: 13,
-    },
-    PageSize {
-        size: 4096,
-        capacity: 102,
-    },
-    PageSize {
-        size: 8192,
-        capacity: 204,
-    },
-];
-
 // How many datoms a page of this size holds; 0 for a size that is not known.
 pub fn capacity_of(size: u64) -> usize
     ensures { λ r. ⌜ r ≡ capacity size ⌝ }
 {
-    let mut i = 0;
-    while i < PAGE_SIZES.len() {
-        let known = PAGE_SIZES[i];
-        if known.size == size {
-            return known.capacity;
-        }
-        i += 1;
+    match size {
+        256 => 6,
+        568 => 13,
+        4096 => 102,
+        8192 => 204,
+        _ => 0,
     }
-    0
 }
 
 // The eight bytes of a word, lowest first. The products are shifts to the compiler, and with the reads below one load.

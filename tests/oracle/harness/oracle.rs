@@ -158,17 +158,7 @@ macro_rules! build_of_noblit {
 
             use super::{Datom, Order, Pages};
 
-            /// Noblit has no pages of 8192 bytes. Its trait is public, so the size is stated here, and the tree itself stays unchanged.
-            struct PageSize8192;
-
-            impl PageSize for PageSize8192 {
-                const SIZE: usize = 8192;
-                const CAPACITY: usize = 204;
-
-                fn new() -> PageSize8192 {
-                    PageSize8192
-                }
-            }
+            include!("page_size_8192.rs");
 
             // The Rust fixes no layout for its datoms; the oracle stands for the declared order.
             const _: () = assert!(

@@ -224,8 +224,8 @@ fn twice(batches: &[Vec<Datom>], mut insert: impl FnMut(&[Datom]) -> bool) -> (f
 
 /// A tree of so many datoms, by batches of 128, and room past it.
 fn grown(feed: &mut Feed, case: Case) -> Florinwick {
-    let bytes = FIRST * if case.keys == Keys::Random { case.tree } else { case.tree / 16 };
-    let mut tree = Florinwick::new(Slab::new(case.page_size, bytes / case.page_size + MORE_PAGES), NONE);
+    let pages = if case.keys == Keys::Random { case.tree } else { case.tree / 16 };
+    let mut tree = Florinwick::new(Slab::new(case.page_size, pages + MORE_PAGES), NONE);
     let mut left = case.tree;
     while left > 0 {
         let size = left.min(BATCH);

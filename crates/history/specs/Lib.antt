@@ -1,4 +1,4 @@
--- What a history of calls promises: Statement says it, Demand and Again prove it, Base is its instance and Example a history.
+-- What a history of calls promises: Statement says it, Demand and Again prove it, Base is its instance, Example and Wide are histories.
 pub mod Statement
 pub mod Fit
 pub mod More
@@ -37,3 +37,4 @@ pub mod Demand
 pub mod Again
 pub mod Base
 pub mod Example
+pub mod Wide

@@ -20,6 +20,10 @@ const AROUND_568: &[usize] = &[0, 1, 1, 6, 7, 8, 12, 13, 14, 15, 25, 26, 27, 28,
 const AROUND_4096: &[usize] = &[0, 1, 13, 50, 51, 52, 101, 102, 103, 104, 127, 128];
 const AROUND_8192: &[usize] = &[0, 1, 26, 75, 76, 77, 78, 101, 102, 103, 127, 128];
 
+/// A first batch, how many follow, and how large these are: 203 to 207 datoms, then 408 to 410.
+const GROWN_8192: [(usize, usize, &[usize]); 8] =
+    [(128, 1, &[75]), (128, 1, &[76]), (128, 1, &[77]), (128, 1, &[78]), (128, 1, &[79]), (128, 4, &[70]), (127, 3, &[94]), (128, 3, &[94])];
+
 /// What came later stands behind what was there, so that the bytes of before stay: first the oracles' answers, then names of faults, then
 /// both for pages of 8192 bytes.
 pub fn record(file: &str) -> Result<(), String> {
@@ -222,9 +226,8 @@ fn damaged() -> Vec<Shape> {
 fn wide() -> Vec<Shape> {
     let one = |i: usize, first| one_batch(8192, KINDS[i % KINDS.len()], PLANS[i % PLANS.len()], first);
     let single = [0, 1, 127, 128].into_iter().enumerate().map(|(i, n)| one(i, n));
-    // 203 to 207 datoms, then 408 to 410.
-    let grown = [(128, 1, &[75]), (128, 1, &[76]), (128, 1, &[77]), (128, 1, &[78]), (128, 1, &[79]), (128, 4, &[70]), (127, 3, &[94]), (128, 3, &[94])];
-    let around = grown.into_iter().enumerate().map(|(i, (first, inserts, sizes))| Shape { inserts, sizes, branching: false, ..one(i, first) });
+    let around = GROWN_8192.into_iter().enumerate()
+        .map(|(i, (first, inserts, sizes))| Shape { inserts, sizes, branching: false, ..one(i, first) });
     let growing = (0..8).map(|i| Shape { inserts: 12, raw: false, look_every: 2, ..one(i, 128) });
     let agreeing = [Kind::Mixed, Kind::Strings].into_iter().map(|kind| {
         Shape { inserts: 6, agreeing: true, raw: false, damages: 4, ..one_batch(8192, kind, Plan::Scattered, 128) }

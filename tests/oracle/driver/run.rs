@@ -12,8 +12,7 @@ use crate::text::{
 
 const COMMANDS: &str = "oracle plain|patched, order eavt|rule, size 256|568|4096|8192, new, initialise D.., \
     insert ROOT D.., grow ROOT D.., list ROOT LO HI, lists ROOT D.., check ROOT, height ROOT, page N, node N, count, digest, \
-    poke PAGE OFFSET BYTE, \
-    save FILE, load FILE, compare D D, span CHILD.., inline NUMBER|\"BYTES\"";
+    poke PAGE OFFSET BYTE, save FILE, load FILE, compare D D, span CHILD.., inline NUMBER|\"BYTES\"";
 
 /// The most datoms of a batch, by document 01.
 const LARGEST_BATCH: usize = 128;

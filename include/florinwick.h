@@ -101,8 +101,9 @@ enum florinwick_fault {
 #define FLORINWICK_LEVELS 8          /* a tree is at most so high */
 
 /*
- * How much scratch insert and initialise need with pages of this size: 62016 bytes for 256, 81728 for 568, 332352 for 4096 and 619584
- * for 8192, which is since 0.4. 0 for a page size that is not known. What scratch holds before a call is of no matter, and what it holds afterwards is unsaid.
+ * How much scratch insert and initialise need with pages of this size: 62016 bytes for 256, 81728 for 568, 332352 for 4096 and, since
+ * 0.4, 619584 for 8192. 0 for a page size that is not known. What scratch holds before a call is of no matter, and what it holds
+ * afterwards is unsaid.
  */
 uint64_t florinwick_scratch_need(uint64_t page_size);
 

@@ -1,20 +1,22 @@
 -- A history that is one: examples c, e, f and g of document 01 as calls over bytes, then a batch that finds no room, and a slice that
 -- somebody else makes longer. So the theorem speaks of something. Rests on Base and on the rules, computed.
-use Prim.Native.Nat.{ℕ, _*_, _≤_}
+use Prim.Native.Nat.{ℕ, _*_, _%_, _≤_}
 use native.Mathlib.Omega.{arith}
+use mathlib.Core.Bool.{true}
 use mathlib.Core.List.{List, [], _∷_, _++_}
 use mathlib.Core.Logic.{inl, inr}
 use mathlib.Core.Path.{_≡_, refl}
 use lib.ListN.{length, take}
 use lib.Seq.{take-at, length-take-le}
 use Rattle.store.specs.Words.{zeros}
+use Rattle.store.specs.Size.{sizes}
 use Rattle.store.specs.Page.{page}
 use Rattle.datom.specs.declared.Datom.{Datom}
 use Rattle.datom.specs.Datom.{datomsBytes}
 use Rattle.index.specs.Order.{eavt}
 use Rattle.answer.specs.declared.Refusal.the-variants.{Repeated, NoRoom}
 use Rattle.answer.specs.declared.Answer.the-variants.{Refused}
-use Rattle.rules.specs.Insert.{sort}
+use Rattle.rules.specs.Insert.{batchOf, sort}
 use Rattle.rules.specs.Lists.{In}
 use Rattle.rules.specs.Table.{d, run}
 use Rattle.rules.specs.Open.{rules}
@@ -70,36 +72,36 @@ unfoldable pub longer : Moment
 longer = record { extent = afterH .extent; store = take 1792 (afterH .store) ++ zeros 2304; roots = afterH .roots }
 
 -- what is known at a moment, computed
-record At (m : Moment) (n count : ℕ) (ks : List Known) : Type 0 where
-  extent : m .extent ≡ record { size = 256; count = count }
-  roots : m .roots ≡ ks
-  long : length (m .store) ≡ n
+pub record At (m : Moment) (size n count : ℕ) (ks : List Known) : Type 0 where
+  pub extent : m .extent ≡ record { size = size; count = count }
+  pub roots : m .roots ≡ ks
+  pub long : length (m .store) ≡ n
 
-at-start : At start 2048 0 (noRoot ∷ [])
+at-start : At start 256 2048 0 (noRoot ∷ [])
 unfolding rules start
 at-start = record { extent = refl; roots = refl; long = refl }
 
-at-c : At afterC 2048 3 (rootC ∷ noRoot ∷ [])
+at-c : At afterC 256 2048 3 (rootC ∷ noRoot ∷ [])
 unfolding rules start afterC
 at-c = record { extent = refl; roots = refl; long = refl }
 
-at-e : At afterE 2048 4 (rootE ∷ rootC ∷ noRoot ∷ [])
+at-e : At afterE 256 2048 4 (rootE ∷ rootC ∷ noRoot ∷ [])
 unfolding rules start afterC afterE
 at-e = record { extent = refl; roots = refl; long = refl }
 
-at-f : At afterF 2048 7 (rootF ∷ rootE ∷ rootC ∷ noRoot ∷ [])
+at-f : At afterF 256 2048 7 (rootF ∷ rootE ∷ rootC ∷ noRoot ∷ [])
 unfolding rules start afterC afterE afterF
 at-f = record { extent = refl; roots = refl; long = refl }
 
-at-g : At afterG 2048 7 (rootF ∷ rootE ∷ rootC ∷ noRoot ∷ [])
+at-g : At afterG 256 2048 7 (rootF ∷ rootE ∷ rootC ∷ noRoot ∷ [])
 unfolding rules start afterC afterE afterF afterG
 at-g = record { extent = refl; roots = refl; long = refl }
 
-at-h : At afterH 2048 7 (rootF ∷ rootE ∷ rootC ∷ noRoot ∷ [])
+at-h : At afterH 256 2048 7 (rootF ∷ rootE ∷ rootC ∷ noRoot ∷ [])
 unfolding rules start afterC afterE afterF afterG afterH
 at-h = record { extent = refl; roots = refl; long = refl }
 
-at-longer : At longer 4096 7 (rootF ∷ rootE ∷ rootC ∷ noRoot ∷ [])
+at-longer : At longer 256 4096 7 (rootF ∷ rootE ∷ rootC ∷ noRoot ∷ [])
 unfolding rules start afterC afterE afterF afterG afterH longer
 at-longer = record { extent = refl; roots = refl; long = refl }
 
@@ -108,11 +110,12 @@ pub no-room : outcomeOf eavt afterG (inserting rootF (run 13 5)) .answer ≡ Ref
 unfolding rules start afterC afterE afterF afterG
 no-room = refl
 
-lent : {m : Moment} {n count : ℕ} {ks : List Known} → At m n count ks → n ≤ 4096 → (ds : List Datom) → Lent (m .store) (datomsBytes ds)
+pub lent :
+    {m : Moment} {size n count : ℕ} {ks : List Known} → At m size n count ks → n ≤ 65536 → (ds : List Datom) → Lent (m .store) (datomsBytes ds)
 lent a f ds = record { short = omega (arith, a .long); bytes = datoms-bytes ds }
 
 then-inserted :
-    {m : Moment} {n count : ℕ} {ks : List Known} (k : Known) (ds : List Datom) → At m n count ks → n ≤ 4096 → In k ks → Later eavt start m →
+    {m : Moment} {n count : ℕ} {ks : List Known} (k : Known) (ds : List Datom) → At m 256 n count ks → n ≤ 65536 → In k ks → Later eavt start m →
     Later eavt start (after eavt m (inserting k ds))
 then-inserted k ds a f i l = next l (calls (inserting k ds) (record { known = rw (a .roots) i; lent = lent a f ds }))
 
@@ -142,28 +145,35 @@ pub example : History eavt 256 longer
 unfolding start
 example = (zeros 2048, to-longer)
 
--- what the theorem says of listings: every datom once; and at the oldest root what it had
-lists :
-    (k : Known) → In k (longer .roots) → (ds : List Datom) → within (eavt .cmp) (d 0) (d 13) (sort (eavt .cmp) (gathered (k .batches))) ≡ ds →
-    HandsOut eavt longer k (d 0) (d 13) ds
+-- what the theorem says of listings, once what led to the root is computed
+pub lists :
+    {size : ℕ} (i : In size sizes) {m : Moment} → History eavt size m → (k : Known) → In k (m .roots) → (hi : Datom) (ds : List Datom) →
+    eavt .bound hi ≡ true → within (eavt .cmp) (d 0) hi (sort (eavt .cmp) (gathered (k .batches))) ≡ ds → HandsOut eavt m k (d 0) hi ds
 unfolding rules
-lists k i ds e = rw e at (base-hands-out 256 (inl refl) longer example k i (d 0) (d 13) refl refl)
+lists i h k j hi ds b e = rw e at (base-hands-out _ i _ h k j (d 0) hi refl b)
 
+-- every datom once; and at the oldest root what it had
 pub lists-c : HandsOut eavt longer rootC (d 0) (d 13) (run 0 7)
 unfolding rules within
-lists-c = lists rootC (rw (at-longer .roots) (inr (inr (inl refl)))) (run 0 7) refl
+lists-c = lists (inl refl) example rootC (rw (at-longer .roots) (inr (inr (inl refl)))) (d 13) (run 0 7) refl refl
 
 pub lists-f : HandsOut eavt longer rootF (d 0) (d 13) (run 0 13)
 unfolding rules within
-lists-f = lists rootF (rw (at-longer .roots) (inl refl)) (run 0 13) refl
+lists-f = lists (inl refl) example rootF (rw (at-longer .roots) (inl refl)) (d 13) (run 0 13) refl refl
+
+-- a batch of one datom
+pub one-formed : (b : List ℕ) (x : Datom) → length b % 32 ≡ 0 → batchOf b ≡ x ∷ [] → eavt .stored x ≡ true → WellFormed eavt b
+one-formed b x m e t =
+    record {
+      multiple = m;
+      few = rw e (omega arith);
+      form = λ y i. elim (rw e at i) [ inl f ↦ rw f t | inr f ↦ absurd f ];
+      order = rw e (λ y i. absurd i, tt);
+    }
 
 -- and of the batch that is sent again: it shares a datom, so it is Repeated
-one-formed : WellFormed eavt (datomsBytes (run 12 1))
-unfolding rules
-one-formed = record { multiple = refl; few = omega arith; form = λ x i. elim i [ inl e ↦ rw e | inr e ↦ absurd e ]; order = (λ x i. absurd i, tt) }
-
 pub repeated : (i : ℕ) × (outcomeOf eavt afterF (inserting rootF (run 12 1)) .answer ≡ Refused (Repeated i))
 unfolding rules start
 repeated =
     base 256 (inl refl) afterF (zeros 2048, to-f) rootF (rw (at-f .roots) (inl refl)) .answered (datomsBytes (run 12 1)) (lent at-f (omega arith) (run 12 1))
-    one-formed 65536 (rw (at-f .extent)) .1 (d 12, inl refl, (d 12, inl refl, refl))
+    (one-formed _ (d 12) refl refl refl) 65536 (rw (at-f .extent)) .1 (d 12, inl refl, (d 12, inl refl, refl))

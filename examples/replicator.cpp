@@ -18,7 +18,7 @@ using florinwick::Value;
 namespace {
 
 // Attributes of a fill. The entity is its order.
-enum Attribute : std::uint64_t { kSymbol = 1, kPrice = 2, kQuantity = 3 };
+enum Attribute : std::uint64_t { kSymbol = 1, kPrice = 2, kQuantity = 3, kText = 4 };
 
 const std::uint64_t kPageSize = 4096;
 
@@ -28,26 +28,37 @@ struct Fill {
     const char *symbol;
     std::uint64_t price;
     std::uint64_t quantity;
+    const char *text;       // of the order; of any length
 };
 
 // What the venue reported, in the order in which it did.
 const Fill kFeed[] = {
-    {1, 7001, "FGBL", 13142, 10}, {2, 7002, "FGBL", 13143, 5}, {3, 7003, "FDAX", 18220, 1},
-    {4, 7004, "FESX", 4988, 40},  {5, 7005, "FGBL", 13141, 8}, {6, 7006, "FDAX", 18221, 2},
-    {7, 7007, "FGBM", 11804, 25}, {8, 7008, "FESX", 4987, 30}, {9, 7009, "FGBL", 13144, 3},
+    {1, 7001, "FGBL", 13142, 10, "limit"},       {2, 7002, "FGBL", 13143, 5, "limit"},
+    {3, 7003, "FDAX", 18220, 1, "at market"},    {4, 7004, "FESX", 4988, 40, "iceberg, 10 shown"},
+    {5, 7005, "FGBL", 13141, 8, "limit"},        {6, 7006, "FDAX", 18221, 2, "at market"},
+    {7, 7007, "FGBM", 11804, 25, "good till cancelled, for account 4711"},
+    {8, 7008, "FESX", 4987, 30, "iceberg, 10 shown"}, {9, 7009, "FGBL", 13144, 3, "limit"},
 };
 
-// Three datoms for each fill; they rise by entity and attribute, as they are written here. The transaction is made of the venue's number
-// and of nothing that a replicator chooses: a fill that is sent again must be the same datoms, wherever its batch is cut.
-std::vector<Datom> datoms_of(Span<const Fill> fills) {
+// A text or an integer of any size. What does not fit into the datom lies on the store's heap: this one is given as much as the day needs.
+template <class Content>
+Value value_of(florinwick::Store &store, const Content &content) {
+    const florinwick::Put put = store.put(content);
+    if (!put) std::abort();
+    return put.value;
+}
+
+// Four datoms for each fill; they rise by entity and attribute, as they are written here. The transaction is made of the venue's number
+// and of nothing that a replicator chooses: a fill that is sent again must be the same datoms, wherever its batch is cut. A text that is put
+// again lies in another place of the heap, and is the same value: values are compared by content.
+std::vector<Datom> datoms_of(florinwick::Store &store, Span<const Fill> fills) {
     std::vector<Datom> datoms;
     for (const Fill &fill : fills) {
-        const auto symbol = Value::text(fill.symbol), price = Value::integer(fill.price), quantity = Value::integer(fill.quantity);
-        if (!symbol || !price || !quantity) std::abort();
         const std::uint64_t transaction = 2 * fill.report;   // even, so there is a datom
-        datoms.push_back(*Datom::asserted(fill.order, kSymbol, *symbol, transaction));
-        datoms.push_back(*Datom::asserted(fill.order, kPrice, *price, transaction));
-        datoms.push_back(*Datom::asserted(fill.order, kQuantity, *quantity, transaction));
+        datoms.push_back(*Datom::asserted(fill.order, kSymbol, value_of(store, fill.symbol), transaction));
+        datoms.push_back(*Datom::asserted(fill.order, kPrice, value_of(store, fill.price), transaction));
+        datoms.push_back(*Datom::asserted(fill.order, kQuantity, value_of(store, fill.quantity), transaction));
+        datoms.push_back(*Datom::asserted(fill.order, kText, value_of(store, fill.text), transaction));
     }
     return datoms;
 }
@@ -75,7 +86,7 @@ bool find_rest(const florinwick::Reader &reader, std::uint64_t root, Span<const 
 
 // The one place where a batch is sent, the first time and every time again. True once the tree holds every datom of it.
 bool send(florinwick::Store &store, Span<const Fill> fills) {
-    const std::vector<Datom> batch = datoms_of(fills);
+    const std::vector<Datom> batch = datoms_of(store, fills);
     std::printf("fills %llu to %llu: ", static_cast<unsigned long long>(fills[0].report),
                 static_cast<unsigned long long>(fills[fills.size() - 1].report));
     const Answer answer = store.insert(batch);
@@ -121,19 +132,31 @@ bool print_position(const florinwick::Reader &reader, std::uint64_t root, const 
     return true;
 }
 
+// The text of an order as the tree has it, for as long as the heap is there.
+bool print_text(const florinwick::Reader &reader, std::uint64_t root, std::uint64_t order) {
+    florinwick::Listing listing = reader.list(root, {order, kText, Value{}, 0}, {order, kText, Value::max(), 0});
+    for (const Datom &datom : listing) {
+        const auto text = reader.heap().text_of(datom.value);
+        if (!text) return false;
+        std::printf("The text of order %llu: %.*s\n", static_cast<unsigned long long>(order), static_cast<int>(text->size()), text->view().data());
+    }
+    return listing.ended();
+}
+
 // Whether the tree has what the feed has: every fill, each once.
-bool has_all(const florinwick::Reader &reader, std::uint64_t root) {
-    const std::vector<Datom> all = datoms_of(kFeed);
-    florinwick::Listing listing = reader.list(root);
-    return std::equal(listing.begin(), listing.end(), all.begin(), all.end()) && listing.ended();
+bool has_all(florinwick::Store &store) {
+    const std::vector<Datom> all = datoms_of(store, kFeed);
+    florinwick::Listing listing = store.reader().list(store.root());
+    const auto is_same = [&](const Datom &a, const Datom &b) { return store.heap().compare(a, b) == 0; };
+    return std::equal(listing.begin(), listing.end(), all.begin(), all.end(), is_same) && listing.ended();
 }
 
 }  // namespace
 
 int main() {
-    std::vector<std::uint8_t> bytes(64 * kPageSize);
+    std::vector<std::uint8_t> bytes(64 * kPageSize), heap(4096);
     std::vector<std::uint8_t> scratch(florinwick::Store::scratch_need(kPageSize));
-    florinwick::Store store(bytes, kPageSize, scratch);
+    florinwick::Store store(bytes, heap, {kPageSize}, scratch);
     const Span<const Fill> feed(kFeed);
 
     std::puts("The first replicator sends three fills at a time. The line breaks before it hears of its second batch.");
@@ -145,7 +168,8 @@ int main() {
 
     const florinwick::Reader reader = store.reader();
     if (!print_position(reader, root_at_failover, "at the failover") || !print_position(reader, store.root(), "now")) return 1;
-    if (!has_all(reader, store.root()) || !reader.check(store.root())) return 1;
+    if (!print_text(reader, store.root(), 7007)) return 1;
+    if (!has_all(store) || !reader.check(store.root())) return 1;
     std::puts("Every fill is there once, and every page is sound.");
     return 0;
 }

@@ -9,6 +9,13 @@
 //     for (const florinwick::Datom &datom : listing) use(datom);
 //     if (!listing.ended()) complain(listing.answer());         // a refusal ends the loop too: ask which it was
 //
+// Long values, texts of over seven bytes and integers of 2^62 or more, lie on a heap that is lent beside the store:
+//     florinwick::Store store({bytes, length}, {heap, heap_length}, {4096}, {scratch, scratch_length});
+//     const florinwick::Put text = store.put("an order text");  // of any length: inline where it fits; HeapFull: lend more, and put again
+//     if (text) .. *Datom::asserted(7001, 4, text.value, 2) ..
+//     const auto read = store.heap().text_of(datom.value);      // nothing if that is no text
+// They are compared by content, so a batch of them is sorted by ByContent{store.heap()}.
+//
 // Repeated says that the tree holds one datom of the batch, the first of them at the index; it does not say that it holds the others.
 // `Reader::held` says that.
 //
@@ -33,7 +40,7 @@
 
 namespace florinwick {
 
-// Of this header and florinwick.h, as "0.4.0". The archive is of the same one if both come from one install.
+// Of this header and florinwick.h, as "0.5.0". The archive is of the same one if both come from one install.
 inline constexpr std::string_view version = FLORINWICK_VERSION;
 
 // The sizes that a page may have, in bytes; all pages of a store have one. scratch_need is 0 for any other.
@@ -152,12 +159,12 @@ inline void put_word(std::uint8_t *at, std::uint64_t word) {
 // The page id that is none.
 constexpr std::uint64_t none = FLORINWICK_NONE;
 
-// The bytes of a string value, by themselves.
+// The bytes of a string value: of a short one by themselves, of a long one where they lie on the heap.
 class Text {
 public:
     constexpr std::size_t size() const { return size_; }
-    // For as long as this Text is there, so of one that is kept: `as_text()->view()` is gone at the end of its expression.
-    constexpr std::string_view view() const & { return {bytes_, size_}; }
+    // For as long as this Text is there, and the heap: of one that is kept, as `as_text()->view()` is gone at the end of its expression.
+    constexpr std::string_view view() const & { return {there_ != nullptr ? there_ : bytes_, size_}; }
     std::string_view view() const && = delete;
     constexpr operator std::string_view() const & { return view(); }
     operator std::string_view() const && = delete;
@@ -169,23 +176,26 @@ public:
 
 private:
     friend struct Value;
+    friend class HeapView;
     constexpr Text() = default;
+    Text(const char *there, std::size_t size) : there_(there), size_(size) {}
+    const char *there_ = nullptr;
     char bytes_[7] = {};
-    std::uint8_t size_ = 0;
+    std::size_t size_ = 0;
 };
 
-// The value word of a datom.
+// The value word of a datom. One that names a constant says only where it lies: HeapView reads it.
 struct Value {
     std::uint64_t word = 0;
 
     static constexpr std::uint64_t integer_end = std::uint64_t{1} << 62;
 
-    // Nothing for an integer of 2^62 or more.
+    // Nothing for an integer of 2^62 or more: `put` takes any.
     [[nodiscard]] static constexpr std::optional<Value> integer(std::uint64_t number) {
         if (number >= integer_end) return std::nullopt;
         return Value{number};
     }
-    // Nothing for more than seven bytes.
+    // Nothing for more than seven bytes: `put` takes any.
     [[nodiscard]] static constexpr std::optional<Value> text(std::string_view bytes) {
         if (bytes.size() > 7) return std::nullopt;
         std::uint64_t word = std::uint64_t{2} << 62 | std::uint64_t{bytes.size()} << 56;
@@ -197,8 +207,14 @@ struct Value {
     // For bounds alone: no datom with it is stored.
     static constexpr Value max() { return Value{FLORINWICK_MAX}; }
 
+    // Of the word itself: an integer below 2^62.
     constexpr bool is_integer() const { return word < integer_end; }
     constexpr bool is_max() const { return word == FLORINWICK_MAX; }
+    // A constant on the heap, if there is one at the offset.
+    constexpr bool names_integer() const { return word >> 62 == 1; }
+    constexpr bool names_text() const { return word >> 62 == 3 && !is_max(); }
+    constexpr bool names_constant() const { return names_integer() || names_text(); }
+    constexpr std::uint64_t offset() const { return word % integer_end; }
     // A string of at most seven bytes whose unused bytes are zero.
     constexpr bool is_text() const {
         if (word >> 62 != 2 || text_size() > 7) return false;
@@ -207,7 +223,7 @@ struct Value {
     constexpr std::size_t text_size() const { return word >> 56 & 0x3f; }
     constexpr char text_byte(std::size_t at) const { return static_cast<char>(word >> (8 * at) & 0xff); }
 
-    // Nothing for another kind of value.
+    // Nothing for another kind of value, nor for one that names a constant.
     [[nodiscard]] constexpr std::optional<std::uint64_t> as_integer() const {
         if (!is_integer()) return std::nullopt;
         return word;
@@ -215,15 +231,16 @@ struct Value {
     [[nodiscard]] constexpr std::optional<Text> as_text() const {
         if (!is_text()) return std::nullopt;
         Text text;
-        text.size_ = static_cast<std::uint8_t>(text_size());
+        text.size_ = text_size();
         for (std::size_t i = 0; i < text.size_; ++i) text.bytes_[i] = text_byte(i);
         return text;
     }
 
+    // Of the words. Two constants of equal content are not equal so: HeapView::compare.
     friend constexpr bool operator==(Value a, Value b) { return a.word == b.word; }
     friend constexpr bool operator!=(Value a, Value b) { return a.word != b.word; }
-    // The tree's order: integers, then strings by their bytes, a prefix first, then max. A word that is no value, which no tree and
-    // no bound may have, comes behind the strings.
+    // The tree's order of values that name no constant: integers, then strings by their bytes, a prefix first, then max. A word that is no
+    // value, which no tree and no bound may have, comes behind the strings; so does one that names a constant: ByContent has its place.
     friend constexpr bool operator<(Value a, Value b) {
         const int of_a = a.kind(), of_b = b.kind();
         return of_a != of_b ? of_a < of_b : a.key() < b.key();
@@ -283,7 +300,7 @@ struct Datom {
                a.transaction_operation == b.transaction_operation;
     }
     friend constexpr bool operator!=(const Datom &a, const Datom &b) { return !(a == b); }
-    // The tree's order, in which a batch rises and a listing goes.
+    // The tree's order, in which a batch rises and a listing goes, where no value names a constant: else ByContent.
     friend constexpr bool operator<(const Datom &a, const Datom &b) {
         if (a.entity != b.entity) return a.entity < b.entity;
         if (a.attribute != b.attribute) return a.attribute < b.attribute;
@@ -295,8 +312,113 @@ struct Datom {
     friend constexpr bool operator>=(const Datom &a, const Datom &b) { return !(a < b); }
 };
 
-// The record of florinwick.h, for callers that have it.
+// The record of a datom in florinwick.h, for callers that have it.
 using Record = florinwick_datom;
+
+// What a value is, read against a heap.
+enum class Kind {
+    Integer,
+    Text,
+    Max,
+    BadConstant,   // it names a place where no constant is that it could name
+    Malformed,     // a word that is no value, whatever the heap holds
+};
+
+// The part of a heap that is in use, to be read: what values name there. It looks at the lent bytes, and is good for as long as they are.
+class HeapView {
+public:
+    // No heap: no value names anything.
+    constexpr HeapView() = default;
+    // The first `length` of the lent bytes. A length that passes them is one of no heap.
+    constexpr HeapView(ByteView bytes, std::uint64_t length)
+        : bytes_(length <= bytes.size() ? bytes.first(static_cast<std::size_t>(length)) : ByteView()) {}
+
+    constexpr std::uint64_t length() const { return bytes_.size(); }
+
+    // By the rules of the library: what is Integer or Text here is stored, what is BadConstant is answered BadConstant.
+    Kind kind_of(Value value) const {
+        if (value.is_integer()) return Kind::Integer;
+        if (value.is_text()) return Kind::Text;
+        if (value.is_max()) return Kind::Max;
+        if (!value.names_constant()) return Kind::Malformed;
+        const bool is_there = value.names_integer() ? has_integer(value.offset()) : has_text(value.offset());
+        return !is_there ? Kind::BadConstant : value.names_integer() ? Kind::Integer : Kind::Text;
+    }
+    // Nothing for another kind: kind_of says which.
+    [[nodiscard]] std::optional<std::uint64_t> integer_of(Value value) const {
+        if (kind_of(value) != Kind::Integer) return std::nullopt;
+        return value.is_integer() ? value.word : word_at(value.offset());
+    }
+    [[nodiscard]] std::optional<Text> text_of(Value value) const {
+        if (kind_of(value) != Kind::Text) return std::nullopt;
+        if (value.is_text()) return value.as_text();
+        const std::uint8_t *bytes = bytes_.data() + value.offset() + 8;
+        return Text(reinterpret_cast<const char *>(bytes), static_cast<std::size_t>(word_at(value.offset())));
+    }
+    // The constant's bytes as they lie on the heap, with length and padding; empty for a value that names none.
+    ByteView constant_of(Value value) const {
+        if (!value.names_constant() || kind_of(value) == Kind::BadConstant) return {};
+        const std::uint64_t size = value.names_integer() ? 8 : 8 + padded(word_at(value.offset()));
+        return {bytes_.data() + value.offset(), static_cast<std::size_t>(size)};
+    }
+
+    // Below 0 if `a` comes before `b` by content, 0 if both have the same, else above 0. What is neither integer nor text comes behind the
+    // texts, by its word.
+    int compare(Value a, Value b) const {
+        const int of_a = rank_of(a), of_b = rank_of(b);
+        if (of_a != of_b) return of_a < of_b ? -1 : 1;
+        if (of_a == 0) return sign_of(*integer_of(a), *integer_of(b));
+        if (of_a == 2) return sign_of(a.word, b.word);
+        const Text text_a = *text_of(a), text_b = *text_of(b);
+        return text_a.view().compare(text_b.view());
+    }
+    // The tree's order.
+    int compare(const Datom &a, const Datom &b) const {
+        if (a.entity != b.entity) return sign_of(a.entity, b.entity);
+        if (a.attribute != b.attribute) return sign_of(a.attribute, b.attribute);
+        if (const int values = compare(a.value, b.value)) return values;
+        return sign_of(a.transaction_operation, b.transaction_operation);
+    }
+
+private:
+    static constexpr int sign_of(std::uint64_t a, std::uint64_t b) { return a < b ? -1 : a > b ? 1 : 0; }
+    static constexpr std::uint64_t padded(std::uint64_t size) { return (size + 7) / 8 * 8; }
+    int rank_of(Value value) const {
+        const Kind kind = kind_of(value);
+        return kind == Kind::Integer ? 0 : kind == Kind::Text ? 1 : 2;
+    }
+    std::uint64_t word_at(std::uint64_t offset) const { return get_word(bytes_.data() + offset); }
+    bool has_word(std::uint64_t offset) const { return offset % 8 == 0 && length() >= 8 && offset <= length() - 8; }
+    bool has_integer(std::uint64_t offset) const { return has_word(offset) && word_at(offset) >= Value::integer_end; }
+    bool has_text(std::uint64_t offset) const {
+        if (!has_word(offset)) return false;
+        const std::uint64_t size = word_at(offset), left = length() - offset - 8;
+        if (size < 8 || size > left || padded(size) > left) return false;
+        for (std::uint64_t i = size; i < padded(size); ++i) {
+            if (bytes_[static_cast<std::size_t>(offset + 8 + i)] != 0) return false;
+        }
+        return true;
+    }
+
+    ByteView bytes_;
+};
+
+// The tree's order where values may name constants, for std::sort and the like. Equal is who comes before the other neither way.
+struct ByContent {
+    HeapView heap;
+
+    bool operator()(const Datom &a, const Datom &b) const { return heap.compare(a, b) < 0; }
+    bool operator()(Value a, Value b) const { return heap.compare(a, b) < 0; }
+};
+
+// The store's record: what a caller keeps beside the bytes and the root. `record_after` makes the next one.
+struct StoreRecord {
+    std::uint64_t page_size = 0;
+    std::uint64_t page_count = 0;
+    std::uint64_t heap_length = 0;   // bytes of the heap in use
+
+    static constexpr std::size_t size = FLORINWICK_RECORD_BYTES;
+};
 
 // The bytes of a batch, 4096 of them, in the value itself. A caller that has the bytes already needs none.
 class Batch {
@@ -332,6 +454,23 @@ inline constexpr bool lies_as_bytes = false;
 static_assert(sizeof(Datom) == Datom::size && std::is_standard_layout_v<Datom> && std::is_trivially_copyable_v<Datom>);
 static_assert(offsetof(Datom, attribute) == 8 && offsetof(Datom, value) == 16 && offsetof(Datom, transaction_operation) == 24);
 static_assert(sizeof(Record) == Datom::size && offsetof(Record, transaction_operation) == 24 && alignof(Record) == alignof(Datom));
+
+static_assert(sizeof(florinwick_record) == StoreRecord::size);
+
+// The record as the calls take it.
+class LaidRecord {
+public:
+    explicit LaidRecord(const StoreRecord &record) {
+        put_word(bytes_, record.page_size);
+        put_word(bytes_ + 8, record.page_count);
+        put_word(bytes_ + 16, record.heap_length);
+    }
+    const std::uint8_t *data() const { return bytes_; }
+    static constexpr std::size_t size() { return StoreRecord::size; }
+
+private:
+    std::uint8_t bytes_[StoreRecord::size];
+};
 
 inline Datom datom_of(const Datom &datom) { return datom; }
 inline Datom datom_of(const Record &record) { return {record.entity, record.attribute, Value{record.value}, record.transaction_operation}; }
@@ -413,6 +552,8 @@ enum class Number : std::uint64_t {
     TooTall = FLORINWICK_TOO_TALL,
     NoRoom = FLORINWICK_NO_ROOM,
     BadBound = FLORINWICK_BAD_BOUND,
+    BadConstant = FLORINWICK_BAD_CONSTANT,
+    HeapFull = FLORINWICK_HEAP_FULL,
     NotHeld = FLORINWICK_NOT_HELD,
     Ended = FLORINWICK_ENDED,
     Unsound = FLORINWICK_UNSOUND,
@@ -431,6 +572,8 @@ constexpr const char *name_of(Number number) {
         case Number::TooTall: return "TooTall";
         case Number::NoRoom: return "NoRoom";
         case Number::BadBound: return "BadBound";
+        case Number::BadConstant: return "BadConstant";
+        case Number::HeapFull: return "HeapFull";
         case Number::NotHeld: return "NotHeld";
         case Number::Ended: return "Ended";
         case Number::Unsound: return "Unsound";
@@ -446,6 +589,7 @@ constexpr Carries carried_by(Number number) {
         case Number::BadDatom:
         case Number::OutOfOrder:
         case Number::Repeated:
+        case Number::BadConstant:
         case Number::NotHeld: return Carries::Index;
         case Number::Damaged:
         case Number::Unsound: return Carries::Page;
@@ -502,7 +646,7 @@ constexpr std::string_view text(Fault fault) {
     switch (fault) {
         case Fault::Level: return "its level is over 7";
         case Fault::Count: return "it counts more datoms than a page of its size holds";
-        case Fault::Form: return "a datom in it is malformed, or has the value max";
+        case Fault::Form: return "a datom in it is malformed, has the value max, or names no constant";
         case Fault::Order: return "its datoms do not rise";
         case Fault::LeafChild: return "its level is 0, and it has a child";
         case Fault::LastChild: return "its level is above 0, and it has no last child";
@@ -538,6 +682,51 @@ struct [[nodiscard]] Answer {
     constexpr const char *name() const { return name_of(number); }
     constexpr Carries carries() const { return carried_by(number); }
 };
+
+// What became of a value that was put. It must be looked at: a refused one has no value.
+struct [[nodiscard]] Put {
+    Number number = Number::Done;
+    Value value = {};            // 0 if refused
+    std::uint64_t bytes = 0;     // that the heap has grown by; 0 if the value has an inline form, or was refused
+
+    static Put read(const std::uint8_t *words) {
+        return {static_cast<Number>(get_word(words)), Value{get_word(words + 8)}, get_word(words + 16)};
+    }
+    constexpr bool done() const { return number == Number::Done; }
+    constexpr explicit operator bool() const { return done(); }
+    constexpr const char *name() const { return name_of(number); }
+};
+
+// The record that the next call is handed: the one place where it is made. A batch that is Done brings more pages, a constant a longer heap,
+// and whatever is refused nothing.
+[[nodiscard]] constexpr StoreRecord record_after(const StoreRecord &record, const Answer &answer) {
+    return {record.page_size, record.page_count + (answer.done() ? answer.pages : 0), record.heap_length};
+}
+[[nodiscard]] constexpr StoreRecord record_after(const StoreRecord &record, const Put &put) {
+    return {record.page_size, record.page_count, record.heap_length + (put.done() ? put.bytes : 0)};
+}
+
+// A text of any length as a value: inline where it fits, else appended to the lent heap, and the record has moved on. It does not look for
+// equal content. Refused are BadStore, a heap length over the heap or no multiple of 8, and HeapFull; nothing is then written.
+inline Put put(ByteArea heap, StoreRecord &record, std::string_view text) {
+    if (const auto value = Value::text(text)) return {Number::Done, *value, 0};
+    std::uint8_t words[FLORINWICK_ANSWER_BYTES];
+    const ByteView bytes(text);
+    florinwick_append_bytes(detail::lent(heap), heap.size(), record.heap_length, bytes.data(), bytes.size(), words, sizeof words);
+    const Put put = Put::read(words);
+    record = record_after(record, put);
+    return put;
+}
+
+// An integer of any size, in the same way.
+inline Put put(ByteArea heap, StoreRecord &record, std::uint64_t number) {
+    if (const auto value = Value::integer(number)) return {Number::Done, *value, 0};
+    std::uint8_t words[FLORINWICK_ANSWER_BYTES];
+    florinwick_append_u64(detail::lent(heap), heap.size(), record.heap_length, number, words, sizeof words);
+    const Put put = Put::read(words);
+    record = record_after(record, put);
+    return put;
+}
 
 // A listing between two bounds, for one pass. It may be copied: the copy goes on from the same place. It reads the bytes of its Reader, so
 // it is good for as long as that is.
@@ -604,98 +793,113 @@ public:
 
 private:
     friend class Reader;
-    Listing(ByteView store, std::uint64_t page_size, std::uint64_t page_count)
-        : store_(store), page_size_(page_size), page_count_(page_count) {}
+    Listing(ByteView store, ByteView heap, const StoreRecord &record) : store_(store), heap_(heap), record_(record) {}
 
     void start(std::uint64_t root, const Datom &lower, const Datom &upper) {
         std::uint8_t bounds[2 * Datom::size];
         lower.write(bounds);
         upper.write(bounds + Datom::size);
         std::uint8_t words[FLORINWICK_ANSWER_BYTES];
-        florinwick_list_start(detail::lent(store_), store_.size(), page_size_, page_count_, root, bounds, Datom::size,
-                              bounds + Datom::size, Datom::size, cursor_, sizeof cursor_, words, sizeof words);
+        florinwick_list_start(detail::lent(store_), store_.size(), detail::lent(heap_), heap_.size(), record_.data(), record_.size(), root,
+                              bounds, Datom::size, bounds + Datom::size, Datom::size, cursor_, sizeof cursor_, words, sizeof words);
         answer_ = Answer::read(words);
     }
 
     void step() {
         std::uint8_t datom[Datom::size];
         std::uint8_t words[FLORINWICK_ANSWER_BYTES];
-        florinwick_list_step(detail::lent(store_), store_.size(), page_size_, page_count_, cursor_, sizeof cursor_, datom, sizeof datom,
-                             words, sizeof words);
+        florinwick_list_step(detail::lent(store_), store_.size(), detail::lent(heap_), heap_.size(), record_.data(), record_.size(), cursor_,
+                             sizeof cursor_, datom, sizeof datom, words, sizeof words);
         answer_ = Answer::read(words);
         if (answer_.done()) datom_ = Datom::read(datom);
     }
 
-    ByteView store_;
-    std::uint64_t page_size_;
-    std::uint64_t page_count_;
+    ByteView store_, heap_;
+    detail::LaidRecord record_;
     std::uint8_t cursor_[FLORINWICK_CURSOR_BYTES] = {};
     Datom datom_;
     Answer answer_;
 };
 
-// The pages in use of a store, to be read at any root. Pages are only ever appended, so it goes on seeing what was there when it was made,
-// for as long as the lent bytes stay where they are. Who moves them, to lend more, makes new readers and listings: those made before look at
-// where the bytes were. It is three words; ask Store::reader() for one where it is needed rather than keep it.
+// The pages and constants in use of a store, to be read at any root. They are only ever appended, so it goes on seeing what was there when it
+// was made, for as long as the lent bytes stay where they are. Who moves them, to lend more, makes new readers and listings: those made
+// before look at where the bytes were. It is a few words; ask Store::reader() for one where it is needed rather than keep it.
 class Reader {
 public:
-    Reader(ByteView store, std::uint64_t page_size, std::uint64_t page_count)
-        : store_(store), page_size_(page_size), page_count_(page_count) {}
+    Reader(ByteView store, ByteView heap, const StoreRecord &record) : store_(store), heap_(heap), record_(record) {}
+    // Of a store without long values.
+    Reader(ByteView store, std::uint64_t page_size, std::uint64_t page_count) : Reader(store, ByteView(), {page_size, page_count, 0}) {}
 
-    std::uint64_t page_size() const { return page_size_; }
-    std::uint64_t page_count() const { return page_count_; }
+    const StoreRecord &record() const { return record_; }
+    std::uint64_t page_size() const { return record_.page_size; }
+    std::uint64_t page_count() const { return record_.page_count; }
+    // To read the values that it lists.
+    HeapView heap() const { return {heap_, record_.heap_length}; }
 
     // Why a page cannot be fetched.
     Answer refusal(std::uint64_t page) const {
         std::uint8_t words[FLORINWICK_ANSWER_BYTES];
-        florinwick_fetch(detail::lent(store_), store_.size(), page_size_, page_count_, page, words, sizeof words);
+        const detail::LaidRecord record(record_);
+        florinwick_fetch(detail::lent(store_), store_.size(), record.data(), record.size(), page, words, sizeof words);
         return Answer::read(words);
     }
     // That very part of the store; empty if refused.
     ByteView fetch(std::uint64_t page) const {
         if (!refusal(page)) return {};
-        return {store_.data() + page * page_size_, static_cast<std::size_t>(page_size_)};
+        return {store_.data() + page * page_size(), static_cast<std::size_t>(page_size())};
     }
     // Done if the tree is sound.
     Answer check(std::uint64_t root) const {
         std::uint8_t words[FLORINWICK_ANSWER_BYTES];
-        florinwick_check(detail::lent(store_), store_.size(), page_size_, page_count_, root, words, sizeof words);
+        const detail::LaidRecord record(record_);
+        florinwick_check(detail::lent(store_), store_.size(), detail::lent(heap_), heap_.size(), record.data(), record.size(), root, words,
+                         sizeof words);
         return Answer::read(words);
     }
     // Done if the tree holds every datom of an ascending batch; else NotHeld with the index of the first that it does not hold.
     Answer held(std::uint64_t root, const BatchArgument &batch) const {
         std::uint8_t words[FLORINWICK_ANSWER_BYTES];
         const ByteView bytes = batch.bytes();
-        florinwick_held(detail::lent(store_), store_.size(), page_size_, page_count_, root, detail::lent(bytes), bytes.size(), words,
-                        sizeof words);
+        const detail::LaidRecord record(record_);
+        florinwick_held(detail::lent(store_), store_.size(), detail::lent(heap_), heap_.size(), record.data(), record.size(), root,
+                        detail::lent(bytes), bytes.size(), words, sizeof words);
         return Answer::read(words);
     }
-    // From the first datom not below `lower` up to the last below `upper`. A refused start is seen after the loop, as a refused step is.
+    // From the first datom not below `lower` up to the last below `upper`. A refused start is seen after the loop, as a refused step is. A
+    // long value has to be put before it can be a bound.
     Listing list(std::uint64_t root, const Datom &lower = Datom::min(), const Datom &upper = Datom::max()) const {
-        Listing listing(store_, page_size_, page_count_);
+        Listing listing(store_, heap_, record_);
         listing.start(root, lower, upper);
         return listing;
     }
 
 private:
-    ByteView store_;
-    std::uint64_t page_size_;
-    std::uint64_t page_count_;
+    ByteView store_, heap_;
+    StoreRecord record_;
 };
 
-// A store that is written to: the lent bytes, and the two numbers that move on with every batch that is Done.
+// A store that is written to: the lent bytes of pages and heap, and the record and the root, which move on with every batch that is Done.
 class Store {
 public:
-    // Scratch is at least scratch_need(page_size) bytes.
+    // Scratch is at least scratch_need(page_size) bytes. The record of a new store is {page_size}.
+    Store(ByteArea bytes, ByteArea heap, const StoreRecord &record, ByteArea scratch, std::uint64_t root = none)
+        : bytes_(bytes), heap_(heap), scratch_(scratch), record_(record), root_(root) {}
+    // One without long values.
     Store(ByteArea bytes, std::uint64_t page_size, ByteArea scratch, std::uint64_t page_count = 0, std::uint64_t root = none)
-        : bytes_(bytes), scratch_(scratch), page_size_(page_size), page_count_(page_count), root_(root) {}
+        : Store(bytes, ByteArea(), {page_size, page_count, 0}, scratch, root) {}
 
     static std::uint64_t scratch_need(std::uint64_t page_size) { return florinwick_scratch_need(page_size); }
 
-    std::uint64_t page_size() const { return page_size_; }
-    std::uint64_t page_count() const { return page_count_; }
+    const StoreRecord &record() const { return record_; }
+    std::uint64_t page_size() const { return record_.page_size; }
+    std::uint64_t page_count() const { return record_.page_count; }
     std::uint64_t root() const { return root_; }
-    Reader reader() const { return Reader(ByteView(bytes_.data(), bytes_.size()), page_size_, page_count_); }
+    HeapView heap() const { return {heap_, record_.heap_length}; }
+    Reader reader() const { return Reader(bytes_, heap_, record_); }
+
+    // A text of any length, or an integer of any size, as a value for this store's datoms and bounds: `put` above.
+    Put put(std::string_view text) { return florinwick::put(heap_, record_, text); }
+    Put put(std::uint64_t number) { return florinwick::put(heap_, record_, number); }
 
     // Ascending, at the newest root; whole or not at all.
     Answer insert(const BatchArgument &batch) { return insert_at(root_, batch); }
@@ -705,8 +909,9 @@ public:
     Answer insert_at(std::uint64_t root, const BatchArgument &batch) {
         std::uint8_t words[FLORINWICK_ANSWER_BYTES];
         const ByteView bytes = batch.bytes();
-        florinwick_insert_named(detail::lent(bytes_), bytes_.size(), page_size_, page_count_, root, detail::lent(bytes), bytes.size(),
-                                detail::lent(scratch_), scratch_.size(), words, sizeof words);
+        const detail::LaidRecord record(record_);
+        florinwick_insert_named(detail::lent(bytes_), bytes_.size(), detail::lent(heap_), heap_.size(), record.data(), record.size(), root,
+                                detail::lent(bytes), bytes.size(), detail::lent(scratch_), scratch_.size(), words, sizeof words);
         return moved_on(Answer::read(words));
     }
 
@@ -714,27 +919,27 @@ public:
     Answer initialise(const BatchArgument &batch) {
         std::uint8_t words[FLORINWICK_ANSWER_BYTES];
         const ByteView bytes = batch.bytes();
-        florinwick_initialise(detail::lent(bytes_), bytes_.size(), page_size_, page_count_, detail::lent(bytes), bytes.size(),
-                              detail::lent(scratch_), scratch_.size(), words, sizeof words);
+        const detail::LaidRecord record(record_);
+        florinwick_initialise(detail::lent(bytes_), bytes_.size(), detail::lent(heap_), heap_.size(), record.data(), record.size(),
+                              detail::lent(bytes), bytes.size(), detail::lent(scratch_), scratch_.size(), words, sizeof words);
         return moved_on(Answer::read(words));
     }
 
     // More room (after NoRoom): other bytes that begin with the pages in use. Readers and listings made before look at the bytes before.
     void lend(ByteArea bytes) { bytes_ = bytes; }
+    // More room for constants (after HeapFull), in the same way.
+    void lend_heap(ByteArea heap) { heap_ = heap; }
 
 private:
     Answer moved_on(const Answer &answer) {
-        if (answer.done()) {
-            page_count_ += answer.pages;
-            root_ = answer.root;
-        }
+        record_ = record_after(record_, answer);
+        if (answer.done()) root_ = answer.root;
         return answer;
     }
 
-    ByteArea bytes_;
+    ByteArea bytes_, heap_;
     ByteArea scratch_;
-    std::uint64_t page_size_;
-    std::uint64_t page_count_;
+    StoreRecord record_;
     std::uint64_t root_;
 };
 

@@ -7,6 +7,9 @@ mod archive;
 
 const REPEATED: u64 = 6;
 
+/// The feed has inline values only. A slice of no bytes is still at an address.
+const NO_HEAP: &[u8] = &[];
+
 pub struct Florinwick {
     pub slab: Slab,
     pub root: u64,
@@ -19,13 +22,18 @@ impl Florinwick {
         Florinwick { slab, root, scratch: vec![0; need as usize] }
     }
 
+    /// The store's record: page size, page count, heap length.
+    fn record(&self) -> [u64; 3] {
+        [self.slab.page_size as u64, self.slab.count, 0]
+    }
+
     fn send(&mut self, root: u64, batch: &[u8]) -> [u64; 4] {
         let mut answer = [0u64; 4];
-        let (size, count) = (self.slab.page_size as u64, self.slab.count);
+        let record = self.record();
         let store = self.slab.bytes_mut();
         unsafe {
             archive::florinwick_insert(
-                store.as_mut_ptr(), store.len(), size, count, root, batch.as_ptr(), batch.len(),
+                store.as_mut_ptr(), store.len(), NO_HEAP.as_ptr(), 0, record.as_ptr() as *const u8, 24, root, batch.as_ptr(), batch.len(),
                 self.scratch.as_mut_ptr(), self.scratch.len(), answer.as_mut_ptr() as *mut u8, 32,
             );
         }
@@ -46,18 +54,19 @@ impl Florinwick {
 
     /// How many datoms a listing of everything hands out, step by step, and the sum of their entities.
     pub fn list(&self) -> (u64, u64) {
-        let (store, size, count) = (self.slab.bytes(), self.slab.page_size as u64, self.slab.count);
+        let (store, record) = (self.slab.bytes(), self.record());
+        let record = record.as_ptr() as *const u8;
         let (mut cursor, mut datom, mut answer) = ([0u64; 33], [0u64; 4], [0u64; 4]);
         let (lower, upper) = ([0u64; 4], [u64::MAX; 4]);
         let (cursor, answer) = (cursor.as_mut_ptr() as *mut u8, answer.as_mut_ptr() as *mut u8);
         let (mut listed, mut sum) = (0, 0u64);
         unsafe {
             archive::florinwick_list_start(
-                store.as_ptr(), store.len(), size, count, self.root, lower.as_ptr() as *const u8, 32, upper.as_ptr() as *const u8, 32,
-                cursor, 264, answer, 32,
+                store.as_ptr(), store.len(), NO_HEAP.as_ptr(), 0, record, 24, self.root,
+                lower.as_ptr() as *const u8, 32, upper.as_ptr() as *const u8, 32, cursor, 264, answer, 32,
             );
             while archive::florinwick_list_step(
-                store.as_ptr(), store.len(), size, count, cursor, 264, datom.as_mut_ptr() as *mut u8, 32, answer, 32,
+                store.as_ptr(), store.len(), NO_HEAP.as_ptr(), 0, record, 24, cursor, 264, datom.as_mut_ptr() as *mut u8, 32, answer, 32,
             ) == 0
             {
                 listed += 1;
@@ -69,10 +78,11 @@ impl Florinwick {
 
     pub fn check(&self) {
         let mut answer = [0u64; 4];
-        let store = self.slab.bytes();
+        let (store, record) = (self.slab.bytes(), self.record());
         let number = unsafe {
             archive::florinwick_check(
-                store.as_ptr(), store.len(), self.slab.page_size as u64, self.slab.count, self.root, answer.as_mut_ptr() as *mut u8, 32,
+                store.as_ptr(), store.len(), NO_HEAP.as_ptr(), 0, record.as_ptr() as *const u8, 24, self.root,
+                answer.as_mut_ptr() as *mut u8, 32,
             )
         };
         assert_eq!(number, 0, "a tree of the feed is not sound");

@@ -1,8 +1,8 @@
-//! Document 01's examples k and l, the one of 8192-byte pages beside them, and the scratch need, by number.
+//! Document 01's examples k and l, the one of 8192-byte pages beside them, the scratch need, and the bytes of two constants, by number.
 
-use harness::{Answer, Datom, Node, Random};
+use harness::{Answer, Constant, Datom, Node, Random};
 
-use crate::library::{bytes_of, call, scratch_need, Call, Entry, Lent};
+use crate::library::{append, bytes_of, call, scratch_need, Beside, Call, Entry, Lent};
 
 /// A page, its level, and which datoms it has where that is said.
 type Content = (u64, u8, Option<Vec<u64>>);
@@ -23,11 +23,27 @@ pub fn run(random: &mut Random) -> Result<String, String> {
             return Err(format!("the scratch need of page size {} is {}, and must be {}", size, scratch_need(size), need));
         }
     }
+    constants(random)?;
     let examples = examples();
     for example in &examples {
         example.run(random).map_err(|fault| format!("batches up to {:?} with page size {}: {}", example.ends, example.page_size, fault))?;
     }
-    Ok(format!("document 01's examples k and l, and the one of 8192 bytes: {} as written there", examples.len()))
+    Ok(format!("document 01's examples k and l, the one of 8192 bytes and two constants: {} as written there", examples.len() + 2))
+}
+
+/// "In example j, 2^62 then names offset 0." Behind it nine bytes: their length, themselves, and zeros to a multiple of 8.
+fn constants(random: &mut Random) -> Result<(), String> {
+    let mut heap = [0xaa; 40];
+    let first = append(&mut heap, 0, &Constant::Integer(1 << 62), 32, random)?;
+    let second = append(&mut heap, 8, &Constant::Bytes(b"abcdefghi".to_vec()), 32, random)?;
+    let expected = [
+        Answer { number: 0, root: 1 << 62, pages: 8, detail: 0 }, Answer { number: 0, root: (3 << 62) + 8, pages: 24, detail: 0 },
+    ];
+    let bytes = *b"\0\0\0\0\0\0\0\x40\x09\0\0\0\0\0\0\0abcdefghi\0\0\0\0\0\0\0\xaa\xaa\xaa\xaa\xaa\xaa\xaa\xaa";
+    if [first, second] != expected || heap != bytes {
+        return Err(format!("two appends: {:?} and {:?}, and the heap is {:x?}", first, second, heap));
+    }
+    Ok(())
 }
 
 fn examples() -> Vec<Example> {
@@ -57,9 +73,8 @@ impl Example {
         for &end in self.ends {
             let batch: Vec<Datom> = (from..end).map(d).collect();
             let entry = if from == 0 { Entry::Initialise } else { Entry::Insert(answer.root) };
-            let given = Call {
-                entry, page_size: self.page_size as u64, page_count: count, batch: &bytes_of(&batch), scratch: need, area: 32,
-            };
+            let beside = Beside::no_heap(&[0x55; 16], self.page_size as u64, count);
+            let given = Call { entry, beside, batch: &bytes_of(&batch), scratch: need, area: 32 };
             answer = call(&mut store, &given, &mut scratch, random)?;
             (from, count) = (end, count + answer.pages);
         }

@@ -23,7 +23,7 @@ fi
 file_of() {
     case $1 in
         history | library | store | model | reader | names) echo "$out/differential/$1.rs" ;;
-        damage | wrong | breaking) echo "$out/differential/history/$1.rs" ;;
+        damage | wrong | breaking | laying) echo "$out/differential/history/$1.rs" ;;
         node) echo "$out/harness/node.rs" ;;
         *) rust_file "$1" ;;
     esac
@@ -39,7 +39,7 @@ while IFS='|' read -r file name script; do
         htree | datom)
             build_noblit patched
             build_harness "$out/harness" ;;
-        node | size) build_harness "$out/harness" ;;
+        heap | node | size) build_harness "$out/harness" ;;
     esac
     rustc --edition 2021 --crate-name differential --cap-lints allow -o "$out/program" "${flags[@]}" -L "$out" --extern harness -L target/staticlib -l static=florinwick \
         "$out/differential/main.rs"

@@ -2,18 +2,22 @@
 
 mod breaking;
 mod damage;
+mod laying;
 mod reading;
 mod wrong;
 
-use harness::{compare, Answer, Datom, Held, Kind, Node, Oracle, Order, Pages, Panic, Plan, Random, Supply, Which, MAX_VALUE, NONE};
+use harness::{
+    bad_constant, Answer, Datom, Held, Kind, Node, Oracle, Order, Pages, Panic, Plan, Random, Supply, Which, MALFORMED, MAX_VALUE, NONE,
+};
 
-use crate::library::{bytes_of, call, call_named, datoms_of, scratch_need, Call, Entry, Lent};
+use crate::library::{bytes_of, call, call_named, datoms_of, scratch_need, Beside, Call, Entry, Lent, RECORD_BYTES};
 use crate::names::{Damaged, Naming};
 use crate::reader::{same, Difference};
 use crate::store::Store;
 use crate::tally::Tally;
 use damage::Damage;
 use reading::Reading;
+use wrong::some_heap_length;
 
 /// Among how many batches one is sought on which both builds of the Rust agree.
 const CANDIDATES: usize = 30;
@@ -62,6 +66,9 @@ pub struct History<'a> {
     random: Random,
     supply: Supply,
     store: Store,
+    heap: Store,
+    /// How many constants of the supply are on the heap.
+    laid: usize,
     scratch: Lent,
     need: usize,
     patched: Pages,
@@ -75,14 +82,26 @@ pub struct History<'a> {
     /// The call that reads, if that is the last one, and the page that is not as it was written.
     reading: Option<Reading>,
     damage: Option<Damage>,
+    /// What was done to the heap, as commands, where it is not as it was laid.
+    spoiled: Option<String>,
 }
 
 /// A call to the library.
 struct Last {
     entry: Entry,
     batch: Vec<u8>,
-    /// Page size, page count, pages and bytes of room, scratch, area.
-    beside: [u64; 6],
+    /// Page size, page count, heap length, bytes of the record, pages and bytes of room, scratch, area.
+    beside: [u64; 8],
+}
+
+/// What a call that writes is told of the store and the heap, and how many bytes of the heap it is lent behind its length.
+#[derive(Clone, Copy)]
+struct Lending {
+    page_size: u64,
+    page_count: u64,
+    heap_length: u64,
+    record: usize,
+    heap_behind: usize,
 }
 
 /// What a call that writes answered, and what the entry that names answered to the same insert, if it was made beside it.
@@ -100,6 +119,8 @@ impl<'a> History<'a> {
             shape,
             supply,
             store: Store::new(shape.page_size, &mut random),
+            heap: Store::heap(&mut random),
+            laid: 0,
             scratch: Lent::of_length(need + 64, &mut random),
             need,
             patched: Pages::new(shape.page_size),
@@ -110,6 +131,7 @@ impl<'a> History<'a> {
             last: None,
             reading: None,
             damage: None,
+            spoiled: None,
             random,
         }
     }
@@ -117,6 +139,7 @@ impl<'a> History<'a> {
     /// Runs the history; a difference ends it.
     pub fn run(&mut self) -> Result<(), Difference> {
         self.tally.histories += 1;
+        self.lay()?;
         for _ in 0..self.shape.planted {
             self.plant()?;
         }
@@ -135,20 +158,23 @@ impl<'a> History<'a> {
     /// What shows a difference, as commands of the oracle's driver: the calls that wrote, and the last one.
     pub fn transcript(&self) -> String {
         let mut text = format!("size {}\n", self.shape.page_size);
+        text.push_str(&self.appends());
         for (entry, batch) in &self.written {
             text.push_str(&command(*entry, batch));
         }
         if let Some(damage) = &self.damage {
             text.push_str(&damage.commands());
         }
+        text.push_str(self.spoiled.as_deref().unwrap_or(""));
         if let Some(reading) = &self.reading {
             text.push_str(&reading.command());
         } else if let Some(last) = &self.last {
-            let [size, count, more, rest, scratch, area] = last.beside;
+            let [size, count, heap, record, more, rest, scratch, area] = last.beside;
             text.push_str(&command(last.entry, &datoms_of(&last.batch)));
             text.push_str(&format!(
-                "# the last with page size {}, count {}, room for {} pages and {} bytes more, {} bytes of batch, {} of scratch, {} of area\n",
-                size, count, more, rest, last.batch.len(), scratch, area,
+                "# the last with page size {}, count {}, heap length {}, a record of {} bytes, room for {} pages and {} bytes more, \
+                 {} bytes of batch, {} of scratch, {} of area\n",
+                size, count, heap, record, more, rest, last.batch.len(), scratch, area,
             ));
         }
         text
@@ -196,6 +222,9 @@ impl<'a> History<'a> {
             let size = self.size();
             let held = self.trees[at].held.clone();
             let batch = self.supply.batch(&held, self.shape.plan, size, &mut self.random);
+            if last == 0 {
+                self.lay_anew(&batch)?;
+            }
             let datoms = self.supply.datoms(&batch);
             if self.write(Entry::Insert(root), &datoms, Some(at), batch, held, last == 0)? {
                 self.tally.branched += (at != newest) as u64;
@@ -331,7 +360,8 @@ impl<'a> History<'a> {
             return Ok(());
         }
         self.tally.resent_there += 1;
-        self.refuse(Entry::Insert(self.trees[at].root), &self.supply.datoms(&batch), 6, 0)
+        let datoms = self.by_other_words(&batch);
+        self.refuse(Entry::Insert(self.trees[at].root), &datoms, 6, 0)
     }
 
     /// A batch again at a root that came of the one it led to.
@@ -350,7 +380,8 @@ impl<'a> History<'a> {
         }
         let from = self.random.pick(&line);
         self.tally.resent_later += 1;
-        let batch = self.supply.datoms(&self.trees[from].batch);
+        let batch = self.trees[from].batch.clone();
+        let batch = self.by_other_words(&batch);
         self.refuse(Entry::Insert(self.trees[at].root), &batch, 6, 0)
     }
 
@@ -384,8 +415,21 @@ impl<'a> History<'a> {
     fn refuse_first_held(&mut self, at: usize, batch: &[usize]) -> Result<(), Difference> {
         let tree = &self.trees[at];
         let first = batch.iter().position(|&i| tree.held[i]).expect("a datom that the tree holds");
-        let (root, datoms) = (tree.root, self.supply.datoms(batch));
+        let root = tree.root;
+        let datoms = self.by_other_words(batch);
         self.refuse(Entry::Insert(root), &datoms, 6, first as u64)
+    }
+
+    /// A batch with some of its constants at other offsets, where they stand at two.
+    fn by_other_words(&mut self, batch: &[usize]) -> Vec<Datom> {
+        let mut datoms = self.supply.datoms(batch);
+        for datom in &mut datoms {
+            if let Some(twin) = self.supply.twin(datom).filter(|_| self.random.one_in(2)) {
+                *datom = twin;
+                self.tally.other_words += 1;
+            }
+        }
+        datoms
     }
 
     fn refuse(&mut self, entry: Entry, datoms: &[Datom], number: u64, detail: u64) -> Result<(), Difference> {
@@ -399,30 +443,39 @@ impl<'a> History<'a> {
         if self.random.one_in(2) { Entry::Initialise } else { Entry::Insert(self.random.pick(&[NONE, self.trees[at].root])) }
     }
 
-    /// An unknown page size, a count past the slice, too little scratch, a wrong area, a root that is no page.
+    /// An unknown page size, a count past the slice, a wrong heap length, a wrong record, too little scratch, a wrong area, a root that is
+    /// no page.
     fn bad_store(&mut self) -> Result<(), Difference> {
         let entry = self.some_entry();
         let datoms = vec![self.supply.any(&mut self.random)];
         let bytes = bytes_of(&datoms);
         let (size, count) = (self.shape.page_size as u64, self.store.count);
-        let good = Call { entry, page_size: size, page_count: count, batch: &bytes, scratch: self.need, area: 32 };
-        let given = match self.random.below(6) {
-            0 => Call { page_size: self.random.pick(&[0, 1, size - 1, size + 1, 512, 1 << 32, u64::MAX]), ..good },
-            1 => Call { page_count: count + 1, ..good },
-            2 => Call { page_count: self.random.pick(&[1 << 56, 1 << 63, u64::MAX]), ..good },
-            3 => Call { scratch: self.random.pick(&[0, 1, self.need / 2, self.need - 1]), ..good },
-            4 => Call { area: self.random.pick(&[0, 1, 31, 33, 40]), ..good },
+        let mut lent = Lending { page_size: size, page_count: count, heap_length: self.heap.count, record: RECORD_BYTES, heap_behind: 7 };
+        let (mut scratch, mut area) = (self.need, 32);
+        match self.random.below(9) {
+            0 => lent.page_size = self.random.pick(&[0, 1, size - 1, size + 1, 512, 1 << 32, u64::MAX]),
+            1 => lent.page_count = count + 1,
+            2 => lent.page_count = self.random.pick(&[1 << 56, 1 << 63, u64::MAX]),
+            3 => scratch = self.random.pick(&[0, 1, self.need / 2, self.need - 1]),
+            4 => area = self.random.pick(&[0, 1, 31, 33, 40]),
+            5 => lent.record = self.random.pick(&[0, 8, 16, 23, 25, 32]),
+            6 | 7 => {
+                let slice = self.heap.count + 7;
+                let is_wrong = |length: &u64| length % 8 != 0 || *length > slice;
+                let lengths = std::iter::repeat_with(|| some_heap_length(self.heap.count, slice, &mut self.random));
+                lent.heap_length = lengths.into_iter().find(is_wrong).expect("one of them is wrong");
+            }
             _ => {
                 let root = self.random.pick(&[count, count + 1, NONE - 1]);
                 return self.refuse(Entry::Insert(root), &datoms, 5, 0);
             }
         };
         let rest = self.random.below(self.shape.page_size);
-        let answer = self.call_with(&given, 0, rest)?;
+        let answer = self.call_with(entry, &bytes, lent, [scratch, area], 0, rest)?;
         self.expect(answer, entry.refused(1, 0), &[])
     }
 
-    /// Too many datoms, a part of one, a malformed one, one out of order.
+    /// Too many datoms, a part of one, a malformed one, a constant that is not valid, one out of order.
     fn bad_batch(&mut self) -> Result<(), Difference> {
         let entry = self.some_entry();
         let size = 2 + self.random.below(MOST - 1);
@@ -430,7 +483,7 @@ impl<'a> History<'a> {
         let batch = self.supply.batch(&nothing, Plan::Scattered, size, &mut self.random);
         let mut datoms = self.supply.datoms(&batch);
         let i = self.random.below(datoms.len());
-        match self.random.below(4) {
+        match self.random.below(5) {
             0 => {
                 datoms.resize(MOST + 1, datoms[0]);
                 self.refuse(entry, &datoms, 2, 0)
@@ -442,57 +495,77 @@ impl<'a> History<'a> {
                 self.expect(answer, entry.refused(2, 0), &[])
             }
             2 => {
-                let malformed = [MAX_VALUE, 1 << 62, 3 << 62, 0x8100_0000_0000_6161, 0x8800_0000_0000_0000, MAX_VALUE - 1];
-                datoms[i][2] = self.random.pick(&malformed);
-                if i + 1 < datoms.len() {
-                    // A later one too: the first is named.
-                    let later = i + 1 + self.random.below(datoms.len() - i - 1);
-                    datoms[later][2] = MAX_VALUE;
-                }
+                datoms[i][2] = self.random.pick(&MALFORMED);
+                self.bad_behind(i, &mut datoms);
                 self.refuse(entry, &datoms, 3, i as u64)
+            }
+            3 => {
+                datoms[i][2] = bad_constant(self.patched.heap(), &mut self.random);
+                let (number, index) = self.bad_behind(i, &mut datoms).map_or((11, i), |later| (3, later));
+                self.refuse(entry, &datoms, number, index as u64)
             }
             _ => {
                 let later = 1 + self.random.below(datoms.len() - 1);
                 if entry == Entry::Initialise {
                     self.random.shuffle(&mut datoms);
-                    datoms[later] = datoms[self.random.below(later)];
-                } else {
-                    datoms[later] = datoms[self.random.below(later)];
                 }
+                let earlier = datoms[self.random.below(later)];
+                // "Two offsets with equal content are equal datoms."
+                datoms[later] = self.supply.twin(&earlier).inspect(|_| self.tally.other_words += 1).unwrap_or(earlier);
                 self.refuse(entry, &datoms, 4, later as u64)
             }
         }
     }
 
+    /// A later datom is malformed, too, or has a constant that is not valid, or none is: of each number the first is named, and "3 is given
+    /// for the whole batch before 11". The index of one that is malformed.
+    fn bad_behind(&mut self, i: usize, datoms: &mut [Datom]) -> Option<usize> {
+        let later = i + 1 + self.random.below(datoms.len() - i);
+        let datom = datoms.get_mut(later)?;
+        match self.random.below(3) {
+            0 => datom[2] = MAX_VALUE,
+            1 => datom[2] = bad_constant(self.patched.heap(), &mut self.random),
+            _ => {}
+        }
+        if datom[2] == MAX_VALUE { Some(later) } else { None }
+    }
+
     fn call(&mut self, entry: Entry, batch: &[u8], more: usize, rest: usize) -> Result<Told, Difference> {
         let scratch = self.need + self.random.pick(&[0, 0, 1, 64]);
-        let (page_size, page_count) = (self.shape.page_size as u64, self.store.count);
-        self.call_with(&Call { entry, page_size, page_count, batch, scratch, area: 32 }, more, rest)
+        let (page_size, page_count, heap_length) = (self.shape.page_size as u64, self.store.count, self.heap.count);
+        let heap_behind = self.random.pick(&[0, 1, 8, 40]);
+        let lent = Lending { page_size, page_count, heap_length, record: RECORD_BYTES, heap_behind };
+        self.call_with(entry, batch, lent, [scratch, 32], more, rest)
     }
 
-    fn call_with(&mut self, given: &Call, more: usize, rest: usize) -> Result<Told, Difference> {
+    /// With so much scratch and so long an area, and with so many pages and bytes of room.
+    fn call_with(
+        &mut self, entry: Entry, batch: &[u8], lent: Lending, [scratch, area]: [usize; 2], more: usize, rest: usize,
+    ) -> Result<Told, Difference> {
+        let Lending { page_size, page_count, heap_length, record, heap_behind } = lent;
         self.reading = None;
         self.last = Some(Last {
-            entry: given.entry,
-            batch: given.batch.to_vec(),
-            beside: [given.page_size, given.page_count, more as u64, rest as u64, given.scratch as u64, given.area as u64],
+            entry,
+            batch: batch.to_vec(),
+            beside: [page_size, page_count, heap_length, record as u64, more as u64, rest as u64, scratch as u64, area as u64],
         });
-        let answer = call(self.store.lend(more, rest), given, &mut self.scratch, &mut self.random)?;
-        let is_insert = given.entry != Entry::Initialise;
-        let named = match is_insert && (answer.number == 7 || self.random.one_in(NAMED_BESIDE)) {
-            true => Some(self.call_beside(given, more, rest)?),
-            false => None,
-        };
-        Ok(Told { answer, named })
-    }
-
-    /// The insert that was just made, from the same bytes by the entry that names: it leaves the same bytes.
-    fn call_beside(&mut self, given: &Call, more: usize, rest: usize) -> Result<Answer, Difference> {
+        self.heap.make_room(heap_behind, &mut self.random);
+        let beside = Beside { heap: self.heap.shown(heap_behind), page_size, page_count, heap_length, record };
+        let given = Call { entry, beside, batch, scratch, area };
+        let answer = call(self.store.lend(more, rest), &given, &mut self.scratch, &mut self.random)?;
+        let is_insert = entry != Entry::Initialise;
+        if !is_insert || (answer.number != 7 && !self.random.one_in(NAMED_BESIDE)) {
+            return Ok(Told { answer, named: None });
+        }
+        // The same insert from the same bytes by the entry that names: it leaves the same bytes.
         let left = self.store.past().to_vec();
         self.store.restore();
-        let answer = call_named(self.store.lend(more, rest), given, &mut self.scratch, &mut self.random)?;
+        let named = call_named(self.store.lend(more, rest), &given, &mut self.scratch, &mut self.random)?;
         self.tally.named_beside += 1;
-        if self.store.past() == &left[..] { Ok(answer) } else { Err("the insert that names leaves other bytes than insert".to_string()) }
+        if self.store.past() != &left[..] {
+            return Err("the insert that names leaves other bytes than insert".to_string());
+        }
+        Ok(Told { answer, named: Some(named) })
     }
 
     /// The answer is this one, by both entries, and past the pages in use the store has these pages and nothing else new.
@@ -515,8 +588,9 @@ impl<'a> History<'a> {
         self.store.fault_past(pages).map_or(Ok(()), Err)
     }
 
+    /// The store and the heap with what is around them.
     fn compare_whole(&self) -> Result<(), Difference> {
-        self.store.fault().map_or(Ok(()), Err)
+        self.store.fault().or_else(|| self.heap.fault()).map_or(Ok(()), Err)
     }
 }
 
@@ -537,8 +611,8 @@ fn path(pages: &Pages, root: u64, datom: &Datom) -> Vec<u64> {
     let (mut path, mut page) = (vec![root], root);
     loop {
         let node = node(pages, page);
-        let first = node.datoms.iter().position(|held| compare(held, datom).is_ge()).unwrap_or(node.datoms.len());
-        if node.level == 0 || node.datoms.get(first) == Some(datom) {
+        let first = node.datoms.iter().position(|held| pages.heap().compare(held, datom).is_ge()).unwrap_or(node.datoms.len());
+        if node.level == 0 || node.datoms.get(first).is_some_and(|held| pages.heap().compare(held, datom).is_eq()) {
             return path;
         }
         page = node.children[first..].iter().copied().find(|&child| child != NONE).expect("a last child");

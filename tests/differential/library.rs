@@ -1,6 +1,6 @@
 //! The archive of crate florinwick, called with slices that have guard bytes on both sides.
 
-use harness::{Answer, Datom, Random, NONE};
+use harness::{Answer, Constant, Datom, Random, NONE};
 
 #[path = "../archive.rs"]
 mod archive;
@@ -96,11 +96,47 @@ pub fn datoms_of(bytes: &[u8]) -> Vec<Datom> {
     bytes.chunks_exact(32).map(|datom| [word(&datom[..8]), word(&datom[8..16]), word(&datom[16..24]), word(&datom[24..])]).collect()
 }
 
-/// What one call is given besides the store.
-pub struct Call<'a> {
-    pub entry: Entry,
+/// The bytes of a record of the store.
+pub const RECORD_BYTES: usize = 24;
+
+/// The heap that a call is lent, and what the store's record says. The heap's guards are the caller's to compare.
+#[derive(Clone, Copy, Debug)]
+pub struct Beside<'a> {
+    pub heap: &'a [u8],
     pub page_size: u64,
     pub page_count: u64,
+    pub heap_length: u64,
+    /// How long the record is: its words are cut short, or noise follows.
+    pub record: usize,
+}
+
+impl<'a> Beside<'a> {
+    /// An empty heap, at the front of what is lent of it.
+    pub fn no_heap(heap: &'a [u8], page_size: u64, page_count: u64) -> Beside<'a> {
+        Beside { heap, page_size, page_count, heap_length: 0, record: RECORD_BYTES }
+    }
+
+    fn lent_record(&self, random: &mut Random) -> Lent {
+        let words = [self.page_size, self.page_count, self.heap_length];
+        let mut bytes: Vec<u8> = words.iter().flat_map(|word| word.to_le_bytes()).collect();
+        bytes.resize_with(self.record, || random.word() as u8);
+        Lent::new(&bytes, random)
+    }
+
+    /// Lends the record to a call, which may not change it.
+    pub fn recorded<T>(&self, random: &mut Random, call: impl FnOnce(&[u8], &mut Random) -> Result<T, String>) -> Result<T, String> {
+        let record = self.lent_record(random);
+        let before = record.all().to_vec();
+        let told = call(record.content(), random)?;
+        if record.all() == &before[..] { Ok(told) } else { Err("the record or its guards were changed".to_string()) }
+    }
+}
+
+/// What one call is given besides the store.
+#[derive(Clone, Copy)]
+pub struct Call<'a> {
+    pub entry: Entry,
+    pub beside: Beside<'a>,
     pub batch: &'a [u8],
     /// How much of the scratch is lent.
     pub scratch: usize,
@@ -109,7 +145,9 @@ pub struct Call<'a> {
 }
 
 /// An entry that inserts.
-type Insert = unsafe extern "C" fn(*mut u8, usize, u64, u64, u64, *const u8, usize, *mut u8, usize, *mut u8, usize) -> u64;
+type Insert = unsafe extern "C" fn(
+    *mut u8, usize, *const u8, usize, *const u8, usize, u64, *const u8, usize, *mut u8, usize, *mut u8, usize,
+) -> u64;
 
 /// Lends the store, the batch, the scratch and an answer area, and says what came back; an error names the slice
 /// of which the call changed a byte that it may not. The store is the caller's to compare.
@@ -128,19 +166,19 @@ fn call_by(insert: Insert, store: &mut [u8], call: &Call, scratch: &mut Lent, ra
     let mut area = Lent::of_length(call.area, random);
     let area_before = area.all().to_vec();
     let scratch_before = guards(scratch, call.scratch);
-    let (lent, answer) = (scratch.content_mut(), area.content_mut());
-    let returned = unsafe {
+    let (heap, lent, answer) = (call.beside.heap, scratch.content_mut(), area.content_mut());
+    let returned = call.beside.recorded(random, |record, _| Ok(unsafe {
         match call.entry {
             Entry::Initialise => archive::florinwick_initialise(
-                store.as_mut_ptr(), store.len(), call.page_size, call.page_count,
+                store.as_mut_ptr(), store.len(), heap.as_ptr(), heap.len(), record.as_ptr(), record.len(),
                 batch.content().as_ptr(), batch.length(), lent.as_mut_ptr(), call.scratch, answer.as_mut_ptr(), call.area,
             ),
             Entry::Insert(root) => insert(
-                store.as_mut_ptr(), store.len(), call.page_size, call.page_count, root,
+                store.as_mut_ptr(), store.len(), heap.as_ptr(), heap.len(), record.as_ptr(), record.len(), root,
                 batch.content().as_ptr(), batch.length(), lent.as_mut_ptr(), call.scratch, answer.as_mut_ptr(), call.area,
             ),
         }
-    };
+    }))?;
     if batch.all() != &batch_before[..] {
         return Err("the batch or its guards were changed".to_string());
     }
@@ -174,39 +212,67 @@ fn guards(scratch: &Lent, lent: usize) -> Vec<u8> {
     [&scratch.all()[..scratch.before], &scratch.all()[end..]].concat()
 }
 
+/// Lends the front of a heap to an append, with room for as many bytes as the slice has behind the length. The heap is the caller's to
+/// compare.
+pub fn append(heap: &mut [u8], heap_length: u64, constant: &Constant, area: usize, random: &mut Random) -> Result<Answer, String> {
+    let mut area = Lent::of_length(area, random);
+    let before = area.all().to_vec();
+    let answer = area.content_mut();
+    let returned = match constant {
+        Constant::Integer(number) => unsafe {
+            archive::florinwick_append_u64(heap.as_mut_ptr(), heap.len(), heap_length, *number, answer.as_mut_ptr(), answer.len())
+        },
+        Constant::Bytes(bytes) => {
+            let lent = Lent::new(bytes, random);
+            let lent_before = lent.all().to_vec();
+            let returned = unsafe {
+                archive::florinwick_append_bytes(
+                    heap.as_mut_ptr(), heap.len(), heap_length, lent.content().as_ptr(), lent.length(), answer.as_mut_ptr(), answer.len(),
+                )
+            };
+            if lent.all() != &lent_before[..] {
+                return Err("the bytes to append or their guards were changed".to_string());
+            }
+            returned
+        }
+    };
+    told(&area, &before, returned, Answer::told(returned, 0))
+}
+
 /// What a call that only reads is given besides its own arguments.
 #[derive(Clone, Copy)]
 pub struct Asked<'a> {
     pub store: &'a [u8],
-    pub page_size: u64,
-    pub page_count: u64,
+    pub beside: Beside<'a>,
     /// How long the answer area is.
     pub area: usize,
 }
 
 impl Asked<'_> {
-    /// Lends an answer area to a call that reads.
-    fn answered(&self, random: &mut Random, call: impl FnOnce(&mut [u8]) -> u64) -> Result<Answer, String> {
-        let mut area = Lent::of_length(self.area, random);
-        let before = area.all().to_vec();
-        let returned = call(area.content_mut());
-        told(&area, &before, returned, Answer::told(returned, 0))
+    /// Lends a record and an answer area to a call that reads.
+    fn answered(&self, random: &mut Random, call: impl FnOnce(&[u8], &mut [u8]) -> u64) -> Result<Answer, String> {
+        self.beside.recorded(random, |record, random| {
+            let mut area = Lent::of_length(self.area, random);
+            let before = area.all().to_vec();
+            let returned = call(record, area.content_mut());
+            told(&area, &before, returned, Answer::told(returned, 0))
+        })
     }
 
     pub fn fetch(&self, page: u64, random: &mut Random) -> Result<Answer, String> {
-        self.answered(random, |area| unsafe {
+        self.answered(random, |record, area| unsafe {
             archive::florinwick_fetch(
-                self.store.as_ptr(), self.store.len(), self.page_size, self.page_count, page, area.as_mut_ptr(), area.len(),
+                self.store.as_ptr(), self.store.len(), record.as_ptr(), record.len(), page, area.as_mut_ptr(), area.len(),
             )
         })
     }
 
     pub fn held(&self, root: u64, batch: &[u8], random: &mut Random) -> Result<Answer, String> {
-        let batch = Lent::new(batch, random);
+        let (batch, heap) = (Lent::new(batch, random), self.beside.heap);
         let before = batch.all().to_vec();
-        let answer = self.answered(random, |area| unsafe {
+        let answer = self.answered(random, |record, area| unsafe {
             archive::florinwick_held(
-                self.store.as_ptr(), self.store.len(), self.page_size, self.page_count, root,
+                self.store.as_ptr(), self.store.len(), heap.as_ptr(), heap.len(), record.as_ptr(), record.len(), root,
                 batch.content().as_ptr(), batch.length(), area.as_mut_ptr(), area.len(),
             )
         })?;
@@ -214,9 +280,11 @@ impl Asked<'_> {
     }
 
     pub fn check(&self, root: u64, random: &mut Random) -> Result<Answer, String> {
-        self.answered(random, |area| unsafe {
+        let heap = self.beside.heap;
+        self.answered(random, |record, area| unsafe {
             archive::florinwick_check(
-                self.store.as_ptr(), self.store.len(), self.page_size, self.page_count, root, area.as_mut_ptr(), area.len(),
+                self.store.as_ptr(), self.store.len(), heap.as_ptr(), heap.len(), record.as_ptr(), record.len(), root,
+                area.as_mut_ptr(), area.len(),
             )
         })
     }
@@ -227,10 +295,10 @@ impl Asked<'_> {
     ) -> Result<Answer, String> {
         let (lower, upper) = (Lent::new(lower, random), Lent::new(upper, random));
         let bounds_before = [lower.all(), upper.all()].concat();
-        let kept = cursor.content_mut();
-        let answer = self.answered(random, |area| unsafe {
+        let (kept, heap) = (cursor.content_mut(), self.beside.heap);
+        let answer = self.answered(random, |record, area| unsafe {
             archive::florinwick_list_start(
-                self.store.as_ptr(), self.store.len(), self.page_size, self.page_count, root,
+                self.store.as_ptr(), self.store.len(), heap.as_ptr(), heap.len(), record.as_ptr(), record.len(), root,
                 lower.content().as_ptr(), lower.length(), upper.content().as_ptr(), upper.length(),
                 kept.as_mut_ptr(), kept.len(), area.as_mut_ptr(), area.len(),
             )
@@ -244,9 +312,10 @@ impl Asked<'_> {
     /// The cursor and the datom are the caller's to compare, their guards are not.
     pub fn list_step(&self, cursor: &mut Lent, datom: &mut Lent, random: &mut Random) -> Result<Answer, String> {
         let (kept, given) = (cursor.content_mut(), datom.content_mut());
-        let answer = self.answered(random, |area| unsafe {
+        let heap = self.beside.heap;
+        let answer = self.answered(random, |record, area| unsafe {
             archive::florinwick_list_step(
-                self.store.as_ptr(), self.store.len(), self.page_size, self.page_count,
+                self.store.as_ptr(), self.store.len(), heap.as_ptr(), heap.len(), record.as_ptr(), record.len(),
                 kept.as_mut_ptr(), kept.len(), given.as_mut_ptr(), given.len(), area.as_mut_ptr(), area.len(),
             )
         })?;

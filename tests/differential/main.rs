@@ -16,7 +16,7 @@ use std::{env, fs, process};
 use harness::{Kind, Order, Plan, Random, PAGE_SIZES};
 use history::{History, Shape};
 use names::Names;
-use tally::Tally;
+use tally::{Tally, NUMBERS};
 
 /// Where the calls that show a difference go.
 const TRANSCRIPT: &str = "build/differential/difference.txt";
@@ -32,8 +32,14 @@ const TALL_FROM: u64 = 50_000;
 const PLANTED_EVERY: usize = 6;
 const PLANTED: usize = 240;
 
-/// From so many batches on each call must have given each name that it can give.
+/// From so many batches on each call must have given each name that it can give, and each number must have been given.
 const NAMED_FROM: u64 = 2_000;
+
+/// About half of the histories have long values.
+const KINDS: [Kind; 9] = [
+    Kind::Counted, Kind::Integers, Kind::Strings, Kind::LastWords, Kind::Mixed, Kind::LongStrings, Kind::LongIntegers, Kind::LongMixed,
+    Kind::LongMixed,
+];
 
 fn main() {
     let number = |i: usize, name: &str| -> u64 {
@@ -62,6 +68,7 @@ fn main() {
         println!("{}", tally);
     }
     tell(names(&tallies, batches), "names of faults");
+    tell(numbers(&tallies, batches), "refusals");
     if batches >= TALL_FROM {
         tell(tall::run(&mut Random::new(seed)), "the tallest tree, ascending batches of four");
     }
@@ -81,6 +88,24 @@ fn names(tallies: &[Tally], batches: u64) -> Result<String, String> {
     match all.missing() {
         missing if batches >= NAMED_FROM && !missing.is_empty() => Err(format!("never given: {}", missing.join(", "))),
         _ => Ok(format!("{} faults named\n{}", all.total(), all)),
+    }
+}
+
+/// In a long run each of the refusals must have been given but TooTall, which the tallest tree comes to, and constants must have been
+/// appended, named by other words, spoiled and left out.
+fn numbers(tallies: &[Tally], batches: u64) -> Result<String, String> {
+    const TOO_TALL: usize = 8;
+    let sum = |of: &dyn Fn(&Tally) -> u64| tallies.iter().map(of).sum::<u64>();
+    let numbers: Vec<u64> = (1..NUMBERS).map(|number| sum(&|tally| tally.answers[number])).collect();
+    let mut never: Vec<String> = (1..NUMBERS).filter(|&i| i != TOO_TALL && numbers[i - 1] == 0).map(|i| format!("number {}", i)).collect();
+    let counts: [(&str, u64); 4] = [
+        ("constants", sum(&|tally| tally.appended)), ("other words", sum(&|tally| tally.other_words)),
+        ("spoiled constants", sum(&|tally| tally.spoiled)), ("other heap lengths", sum(&|tally| tally.other_lengths)),
+    ];
+    never.extend(counts.iter().filter(|(_, count)| *count == 0).map(|(name, _)| name.to_string()));
+    match never {
+        never if batches >= NAMED_FROM && !never.is_empty() => Err(format!("never: {}", never.join(", "))),
+        _ => Ok(format!("{} refusals; {:?}", numbers.iter().sum::<u64>(), counts)),
     }
 }
 
@@ -153,7 +178,7 @@ fn shape(page_size: usize, turn: usize, random: &mut Random) -> Shape {
     };
     Shape {
         page_size,
-        kind: random.pick(&[Kind::Counted, Kind::Integers, Kind::Strings, Kind::LastWords, Kind::Mixed]),
+        kind: random.pick(&KINDS),
         plan: random.pick(&[Plan::Ascending, Plan::Descending, Plan::Scattered, Plan::Scattered, Plan::Clustered]),
         order: random.pick(&[Order::Eavt, Order::Rule]),
         supply: 200 + planted * 128 + batches * (largest / 2 + 6),

@@ -1,9 +1,9 @@
-//! Document 01's "Listing and check" for any cursor and any store, and document 02's names of what is damaged and its question whether a
-//! batch is held, written to their text: the judge where the Rust has no answer.
+//! Document 01's "Listing and check" for any cursor, any store and any heap, and document 02's names of what is damaged and its question
+//! whether a batch is held, written to their text: the judge where the Rust has no answer.
 
 use std::cmp::Ordering;
 
-use harness::{compare, Datom, Node, Pages, NONE};
+use harness::{is_formed, Datom, Heap, Node, Pages, NONE};
 
 use crate::names::{Damaged, Fault};
 
@@ -61,16 +61,29 @@ pub enum Step {
 /// The index of the first datom of a batch that a lookup seeks, none if there is none, or where the lookup is lost.
 pub type Looked = Result<Option<u64>, Damaged>;
 
-/// The rules over the pages of a store.
+/// The number and the index of what is wrong with an increasing batch by itself. "3 is given for the whole batch before 11", and 11 before 4.
+pub fn batch_fault(heap: &Heap, batch: &[Datom]) -> Option<(u64, u64)> {
+    let malformed = batch.iter().position(|datom| !is_formed(datom)).map(|i| (3, i));
+    let constant = || batch.iter().position(|datom| !heap.is_storable(datom)).map(|i| (11, i));
+    let unordered = || batch.windows(2).position(|pair| heap.compare(&pair[0], &pair[1]).is_ge()).map(|i| (4, i + 1));
+    malformed.or_else(constant).or_else(unordered).map(|(number, i)| (number, i as u64))
+}
+
+/// The rules over the pages of a store and the constants of its heap.
 pub struct Model<'a> {
     pub pages: &'a Pages,
 }
 
 impl Model<'_> {
+    /// By content.
+    fn compare(&self, left: &Datom, right: &Datom) -> Ordering {
+        self.pages.heap().compare(left, right)
+    }
+
     /// A page that is there and readable, or what is wrong with it.
     pub fn node(&self, page: u64) -> Result<Node, Damaged> {
         let bytes = self.pages.page(page).ok_or(Damaged { page, fault: Fault::Missing })?;
-        Node::read(bytes, page).map_err(|rule| Damaged { page, fault: Fault::Breaks(rule) })
+        Node::read(bytes, page, self.pages.heap()).map_err(|rule| Damaged { page, fault: Fault::Breaks(rule) })
     }
 
     /// A page is read before its level is asked.
@@ -81,13 +94,13 @@ impl Model<'_> {
 
     /// "Starting a listing checks 1, 10, 5, then the bounds' order, then pages": from the bounds' order on.
     pub fn start(&self, root: u64, lower: &Datom, upper: &Datom) -> Result<Cursor, Damaged> {
-        if root == NONE || compare(lower, upper) != Ordering::Less {
+        if root == NONE || self.compare(lower, upper) != Ordering::Less {
             return Ok(Cursor::default());
         }
         let level = self.node(root)?.level as usize;
         let way = |bound: &Datom| -> Result<End, Damaged> {
             let mut end = End::default();
-            let index = |node: &Node| node.datoms.iter().take_while(|held| compare(held, bound).is_lt()).count();
+            let index = |node: &Node| node.datoms.iter().take_while(|held| self.compare(held, bound).is_lt()).count();
             self.go_down(root, level, index, &mut end)?;
             Ok(end)
         };
@@ -115,7 +128,7 @@ impl Model<'_> {
         if cursor.begin.indices[..height] == cursor.end.indices[..height] {
             return Step::Ended;
         }
-        match self.open(cursor, height).and_then(|nodes| Ok((smallest(cursor, &nodes)?, nodes))) {
+        match self.open(cursor, height).and_then(|nodes| Ok((self.smallest(cursor, &nodes)?, nodes))) {
             Err(damaged) => Step::Refused(damaged),
             Ok(((level, datom), nodes)) => self.advance(cursor, level, &nodes[level], datom),
         }
@@ -159,8 +172,8 @@ impl Model<'_> {
     fn is_met(&self, root: u64, sought: &Datom) -> Result<bool, Damaged> {
         let mut node = self.node(root)?;
         loop {
-            let first = node.datoms.iter().take_while(|held| compare(held, sought).is_lt()).count();
-            let is_equal = node.datoms.get(first).map_or(false, |held| compare(held, sought).is_eq());
+            let first = node.datoms.iter().take_while(|held| self.compare(held, sought).is_lt()).count();
+            let is_equal = node.datoms.get(first).map_or(false, |held| self.compare(held, sought).is_eq());
             if is_equal || node.level == 0 {
                 return Ok(is_equal);
             }
@@ -201,7 +214,7 @@ impl Model<'_> {
         // The upper bound and the last child stand at the end as one datom and child more.
         for (datom, &child) in node.datoms.iter().map(Some).chain([upper]).zip(&node.children) {
             if let (Some(passed), Some(datom)) = (passed, datom) {
-                if compare(passed, datom) != Ordering::Less {
+                if self.compare(passed, datom) != Ordering::Less {
                     return Err(Damaged { page, fault: Fault::OutOfBounds });
                 }
             }
@@ -213,22 +226,22 @@ impl Model<'_> {
         }
         Ok(())
     }
-}
 
-/// "Candidates are compared from level 0 up; the first equal pair is Damaged, naming the page of the higher level."
-fn smallest(cursor: &Cursor, nodes: &[Node]) -> Result<(usize, Datom), Damaged> {
-    let mut best: Option<(usize, Datom)> = None;
-    for (level, node) in nodes.iter().enumerate() {
-        let Some(&datom) = node.datoms.get(cursor.begin.indices[level] as usize) else {
-            continue;
-        };
-        match best.map(|(_, least)| compare(&least, &datom)) {
-            Some(Ordering::Less) => {}
-            Some(Ordering::Equal) => return Err(Damaged { page: cursor.begin.pages[level], fault: Fault::EqualDatoms }),
-            Some(Ordering::Greater) | None => best = Some((level, datom)),
+    /// "Candidates are compared from level 0 up; the first equal pair is Damaged, naming the page of the higher level."
+    fn smallest(&self, cursor: &Cursor, nodes: &[Node]) -> Result<(usize, Datom), Damaged> {
+        let mut best: Option<(usize, Datom)> = None;
+        for (level, node) in nodes.iter().enumerate() {
+            let Some(&datom) = node.datoms.get(cursor.begin.indices[level] as usize) else {
+                continue;
+            };
+            match best.map(|(_, least)| self.compare(&least, &datom)) {
+                Some(Ordering::Less) => {}
+                Some(Ordering::Equal) => return Err(Damaged { page: cursor.begin.pages[level], fault: Fault::EqualDatoms }),
+                Some(Ordering::Greater) | None => best = Some((level, datom)),
+            }
         }
+        best.ok_or(Damaged { page: NONE, fault: Fault::NothingLeft })
     }
-    best.ok_or(Damaged { page: NONE, fault: Fault::NothingLeft })
 }
 
 /// The first real child at or after an index; at level 0 there is none.

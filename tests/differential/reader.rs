@@ -2,8 +2,8 @@
 
 use harness::{Answer, Datom, Pages, Random, NONE};
 
-use crate::library::{bytes_of, datoms_of, Asked, Lent};
-use crate::model::{Cursor, Looked, Model, Step, CURSOR_BYTES};
+use crate::library::{bytes_of, datoms_of, Asked, Beside, Lent, RECORD_BYTES};
+use crate::model::{batch_fault, Cursor, Looked, Model, Step, CURSOR_BYTES};
 use crate::names::{Damaged, Naming};
 use crate::tally::Tally;
 
@@ -16,9 +16,11 @@ const JUDGED: usize = 48;
 /// Later on one in so many steps is.
 const JUDGED_LATER: usize = 32;
 
-/// A store that is lent to calls that read, and the same pages for the rules.
+/// A store and a heap that are lent to calls that read, and the same pages and constants for the rules. Of the heap more may be lent than
+/// is in use.
 pub struct Reader<'a> {
     pub store: &'a [u8],
+    pub heap: &'a [u8],
     pub pages: &'a Pages,
     pub random: &'a mut Random,
     pub tally: &'a mut Tally,
@@ -26,7 +28,10 @@ pub struct Reader<'a> {
 
 impl<'a> Reader<'a> {
     pub fn asked(&self) -> Asked<'a> {
-        Asked { store: self.store, page_size: self.pages.page_size() as u64, page_count: self.pages.count(), area: 32 }
+        let (page_size, page_count) = (self.pages.page_size() as u64, self.pages.count());
+        let heap_length = self.pages.heap().bytes().len() as u64;
+        let beside = Beside { heap: self.heap, page_size, page_count, heap_length, record: RECORD_BYTES };
+        Asked { store: self.store, beside, area: 32 }
     }
 
     fn model(&self) -> Model<'a> {
@@ -56,18 +61,22 @@ impl<'a> Reader<'a> {
     /// Starts a listing; false if it is refused, and the cursor's bytes must then be as before.
     fn start(&mut self, root: u64, lower: &Datom, upper: &Datom, cursor: &mut Lent) -> Result<bool, Difference> {
         let before = cursor.content().to_vec();
+        let is_good = [lower, upper].into_iter().all(|bound| self.pages.heap().is_bound(bound));
         let judged = self.model().start(root, lower, upper);
         let answer = self.asked().list_start(root, &bytes_of(&[*lower]), &bytes_of(&[*upper]), cursor, self.random)?;
         let (expected, kept) = match &judged {
+            _ if !is_good => (Answer { root, ..Answer::told(10, 0) }, before),
             Ok(begun) => (Answer::told(0, 0), begun.bytes()),
             Err(damaged) => (Answer { root, ..damaged.told(7) }, before),
         };
         same("the start's answer", &answer, &expected)?;
         same("the start's cursor", &Cursor::of_bytes(cursor.content()), &Cursor::of_bytes(&kept))?;
-        if let Err(damaged) = judged {
-            self.tally.names.add(Naming::Start, damaged.fault);
+        match judged {
+            _ if !is_good => self.tally.answers[10] += 1,
+            Err(damaged) => self.tally.names.add(Naming::Start, damaged.fault),
+            Ok(_) => {}
         }
-        Ok(judged.is_ok())
+        Ok(is_good && judged.is_ok())
     }
 
     /// A step with any cursor, and the datom that it yields. Where it ends or is refused, both areas must be as before.
@@ -103,10 +112,16 @@ impl<'a> Reader<'a> {
         Ok(judged)
     }
 
-    /// The first datom of a well formed batch that a tree does not hold, or none, or where the lookup is lost, as by the rules.
-    pub fn held(&mut self, root: u64, batch: &[Datom]) -> Result<Looked, Difference> {
-        let judged = self.model().first_not_held(root, batch);
+    /// The first datom of a batch that a tree does not hold, or none, or where the lookup is lost, as by the rules; nothing where the batch
+    /// is refused by itself.
+    pub fn held(&mut self, root: u64, batch: &[Datom]) -> Result<Option<Looked>, Difference> {
         let answer = self.asked().held(root, &bytes_of(batch), self.random)?;
+        if let Some((number, index)) = batch_fault(self.pages.heap(), batch) {
+            self.tally.answers[number as usize] += 1;
+            same("the answer to a batch that is asked for", &answer, &Answer { root, ..Answer::told(number, index) })?;
+            return Ok(None);
+        }
+        let judged = self.model().first_not_held(root, batch);
         let expected = match judged {
             Ok(None) => Answer::told(0, 0),
             Ok(Some(index)) => Answer { root, ..Answer::told(16, index) },
@@ -118,7 +133,7 @@ impl<'a> Reader<'a> {
             Ok(Some(_)) => self.tally.not_held += 1,
             Err(damaged) => self.tally.names.add(Naming::Held, damaged.fault),
         }
-        Ok(judged)
+        Ok(Some(judged))
     }
 
     /// "A fetch checks 1, 5." "For a fetch, "none" is NoPage."

@@ -1,4 +1,4 @@
-//! The store as the library has it, beside the bytes that it must have.
+//! The store as the library has it, beside the bytes that it must have; and the heap.
 
 use harness::Random;
 
@@ -8,6 +8,8 @@ use crate::library::{noise, Lent};
 const AHEAD: usize = 1 << 16;
 
 pub struct Store {
+    /// For the report of a difference.
+    name: &'static str,
     pub page_size: usize,
     pub count: u64,
     /// What the library is lent a part of: noise, the pages, noise.
@@ -19,9 +21,18 @@ pub struct Store {
 
 impl Store {
     pub fn new(page_size: usize, random: &mut Random) -> Store {
+        Store::named("store", page_size, random)
+    }
+
+    /// A heap grows byte by byte, so its pages are bytes, and their count is its length.
+    pub fn heap(random: &mut Random) -> Store {
+        Store::named("heap", 1, random)
+    }
+
+    fn named(name: &'static str, page_size: usize, random: &mut Random) -> Store {
         let bytes = Lent::of_length(0, random).all().to_vec();
         let before = bytes.len();
-        Store { page_size, count: 0, image: bytes.clone(), bytes, before }
+        Store { name, page_size, count: 0, image: bytes.clone(), bytes, before }
     }
 
     /// The place of a page, which may be the next one to write.
@@ -96,6 +107,6 @@ impl Store {
         let at = found.iter().zip(expected).position(|(a, b)| a != b).expect("two slices of one length that differ");
         let byte = (from + at) as i64 - self.before as i64;
         let page = byte.div_euclid(self.page_size as i64);
-        Some(format!("byte {} of the store (in page {}) is {}, and must be {}", byte, page, found[at], expected[at]))
+        Some(format!("byte {} of the {} (in page {}) is {}, and must be {}", byte, self.name, page, found[at], expected[at]))
     }
 }

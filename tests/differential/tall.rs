@@ -3,12 +3,15 @@
 use harness::{Answer, Datom, Node, Oracle, Order, Pages, Random, Verdict, Which, MAX_VALUE};
 
 use crate::history::ask;
-use crate::library::{bytes_of, call, call_named, scratch_need, Call, Entry, Lent};
+use crate::library::{bytes_of, call, call_named, noise, scratch_need, Beside, Call, Entry, Lent};
 use crate::reader::Reader;
 use crate::store::Store;
 use crate::tally::Tally;
 
 const PAGE_SIZE: usize = 256;
+
+/// How many bytes of heap are lent.
+const HEAP: usize = 24;
 
 /// After so many batches the whole store is compared, not the new pages alone.
 const WHOLE_EVERY: u64 = 2048;
@@ -26,6 +29,8 @@ pub fn run(random: &mut Random) -> Result<String, String> {
     let mut store = Store::new(PAGE_SIZE, random);
     let need = scratch_need(PAGE_SIZE);
     let mut scratch = Lent::of_length(need, random);
+    // Nothing on it is in use.
+    let heap = noise(HEAP, random);
     let mut entry = Entry::Initialise;
     for batch in 0..MOST_BATCHES {
         let datoms: Vec<Datom> = (4 * batch..4 * batch + 4).map(|k| [k, 1, k, 3]).collect();
@@ -36,9 +41,8 @@ pub fn run(random: &mut Random) -> Result<String, String> {
         let too_tall = written.chunks_exact(PAGE_SIZE).position(|page| level(page) > 7);
         let count = pages.count() - before;
         store.make_room(count as usize, random);
-        let given = Call {
-            entry, page_size: PAGE_SIZE as u64, page_count: before, batch: &bytes_of(&datoms), scratch: need, area: 32,
-        };
+        let beside = Beside::no_heap(&heap, PAGE_SIZE as u64, before);
+        let given = Call { entry, beside, batch: &bytes_of(&datoms), scratch: need, area: 32 };
         let answer = call(store.lend(count as usize, 0), &given, &mut scratch, random)?;
         let (expected, kept) = match too_tall {
             None => (Answer::done(root, count), &written[..]),
@@ -110,12 +114,12 @@ fn read(pages: &Pages, store: &Store, root: u64, amount: u64, random: &mut Rando
         };
         let mut listed = Vec::new();
         oracle.list(pages, root, &lower, &upper, &mut listed).map_err(|panic| panic.message)?;
-        let found = Reader { store: store.shown(0), pages, random, tally: &mut tally }.list(root, &lower, &upper, usize::MAX)?;
+        let found = Reader { store: store.shown(0), heap: &[0; HEAP], pages, random, tally: &mut tally }.list(root, &lower, &upper, usize::MAX)?;
         if found != listed || i == 0 && listed.len() as u64 != amount {
             return Err(format!("{} datoms are listed from {:?} to {:?}, and {} by the Rust", found.len(), lower, upper, listed.len()));
         }
     }
-    let found = Reader { store: store.shown(0), pages, random, tally: &mut tally }.check(root)?;
+    let found = Reader { store: store.shown(0), heap: &[0; HEAP], pages, random, tally: &mut tally }.check(root)?;
     if found.is_some() || oracle.check(pages, root) != Verdict::Sound {
         return Err(format!("the check finds a fault at {:?}", found));
     }

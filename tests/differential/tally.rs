@@ -5,8 +5,8 @@ use std::fmt;
 use crate::model::Step;
 use crate::names::{Names, Naming};
 
-/// How many of the refusals 1 to 10 there are, and Done as 0.
-const NUMBERS: usize = 11;
+/// How many of the refusals 1 to 12 there are, and Done as 0.
+pub const NUMBERS: usize = 13;
 
 #[derive(Default)]
 pub struct Tally {
@@ -59,6 +59,12 @@ pub struct Tally {
     pub lost_while_writing: u64,
     pub equal_while_writing: u64,
     pub pages_before_damage: u64,
+    /// Constants that were appended, and datoms that were sent or asked for by another word of equal content.
+    pub appended: u64,
+    pub other_words: u64,
+    /// Heaps with a constant that is not as it was laid, and heaps that were said to have another length.
+    pub spoiled: u64,
+    pub other_lengths: u64,
 }
 
 impl Tally {
@@ -90,6 +96,10 @@ impl Tally {
         writeln!(
             out, "  inserts refused while writing, after {} pages: {} by a page that cannot be read, {} by an equal datom",
             self.pages_before_damage, self.lost_while_writing, self.equal_while_writing,
+        )?;
+        writeln!(
+            out, "  constants: {} appended, {} sent or asked for by another word, {} spoiled; {} other heap lengths",
+            self.appended, self.other_words, self.spoiled, self.other_lengths,
         )
     }
 }

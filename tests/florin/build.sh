@@ -31,12 +31,12 @@ cat > user/user.cpp << 'END'
 int main() { return florinwick::Store::scratch_need(256) == 62016 ? 0 : 1; }
 END
 found() { cmake -S user -B "user/$1" -DWANTED="$1" -DCMAKE_PREFIX_PATH="$out/installed" > user.log 2>&1; }
-for wanted in 0.1 "$minor" "$version"; do
+for wanted in "$minor" "$version"; do
     holds "find_package, $wanted" found "$wanted"
 done
 holds 'a build with the package' cmake --build "user/$minor" --target user > user.log
 holds 'a program with the package' "user/$minor/user"
-for wanted in "$next" 1.0; do
+for wanted in 0.1 0.4 "$next" 1.0; do
     if found "$wanted"; then fail "find_package takes $version for $wanted"; else pass; fi
     holds "find_package of $wanted says why" grep -q 'version: '"$version" user.log
 done

@@ -109,6 +109,9 @@ void temporaries() {
     static_assert(!std::is_constructible_v<Store, Bytes, std::uint64_t, Bytes &>);
     static_assert(!std::is_constructible_v<Store, Bytes &, std::uint64_t, Bytes>);
     static_assert(!std::is_constructible_v<Reader, Bytes, std::uint64_t, std::uint64_t>);
+    static_assert(std::is_constructible_v<Store, Bytes &, Bytes &, StoreRecord, Bytes &>);
+    static_assert(!std::is_constructible_v<Store, Bytes &, Bytes, StoreRecord, Bytes &>);
+    static_assert(!std::is_constructible_v<Reader, Bytes &, Bytes, StoreRecord> && !std::is_constructible_v<HeapView, Bytes, std::uint64_t>);
     static_assert(!std::is_constructible_v<ByteView, Bytes> && !std::is_constructible_v<ByteView, std::array<std::uint8_t, 4>>);
     static_assert(!std::is_constructible_v<ByteView, std::string> && !std::is_constructible_v<ByteView, Batch>);
     static_assert(!std::is_constructible_v<Span<const Datom>, std::vector<Datom>>);
@@ -199,7 +202,9 @@ void answers() {
     EXPECT(std::string(name_of(Number::Unsound)) == "Unsound" && carried_by(Number::Unsound) == Carries::Page);
     EXPECT(carried_by(Number::NoRoom) == Carries::Nothing);
     EXPECT(std::string(name_of(Number::NotHeld)) == "NotHeld" && carried_by(Number::NotHeld) == Carries::Index);
-    EXPECT(std::string(name_of(static_cast<Number>(11))) == "unknown");
+    EXPECT(std::string(name_of(Number::BadConstant)) == "BadConstant" && carried_by(Number::BadConstant) == Carries::Index);
+    EXPECT(std::string(name_of(Number::HeapFull)) == "HeapFull" && carried_by(Number::HeapFull) == Carries::Nothing);
+    EXPECT(std::string(name_of(static_cast<Number>(13))) == "unknown");
 }
 
 // The words of an answer, as the library writes them.
@@ -431,6 +436,119 @@ void held() {
     EXPECT(reader.held(root, {d(4), d(3)}).number == Number::OutOfOrder);
 }
 
+// A store with a heap of its own.
+struct LongTree {
+    LongTree(std::size_t pages, std::size_t heap_bytes) : bytes(pages * 256), heap(heap_bytes) {}
+    std::vector<std::uint8_t> bytes, heap;
+    std::vector<std::uint8_t> scratch = std::vector<std::uint8_t>(Store::scratch_need(256));
+    Store store{bytes, heap, {256}, scratch};
+};
+
+const std::uint64_t kLarge = std::uint64_t{1} << 63;
+
+// Values of any length go in by one call, and are read by another.
+void put_values() {
+    LongTree tree(16, 48);
+    const Put inline_text = tree.store.put("FGBL"), inline_integer = tree.store.put(5);
+    EXPECT(inline_text && inline_text.value == *Value::text("FGBL") && inline_text.bytes == 0 && inline_integer.value == Value{5});
+    EXPECT(tree.store.record().heap_length == 0 && tree.store.heap().length() == 0);
+    const Put text = tree.store.put("an order text"), integer = tree.store.put(kLarge);
+    EXPECT(text.done() && text.bytes == 24 && text.value.names_text() && text.value.offset() == 0 && !text.value.is_text());
+    EXPECT(integer.done() && integer.bytes == 8 && integer.value.names_integer() && integer.value.offset() == 24 && !integer.value.is_integer());
+    EXPECT(tree.store.record().heap_length == 32 && tree.store.record().page_count == 0 && !text.value.as_text() && !integer.value.as_integer());
+
+    const HeapView heap = tree.store.heap();
+    const auto read = heap.text_of(text.value), read_inline = heap.text_of(inline_text.value);
+    EXPECT(read && read->view() == "an order text" && *read == "an order text" && read->size() == 13 && read_inline && *read_inline == "FGBL");
+    EXPECT(heap.integer_of(integer.value) == kLarge && heap.integer_of(inline_integer.value) == 5u);
+    EXPECT(!heap.integer_of(text.value) && !heap.text_of(integer.value) && !heap.text_of(Value::max()));
+    EXPECT(heap.kind_of(text.value) == Kind::Text && heap.kind_of(integer.value) == Kind::Integer && heap.kind_of(inline_text.value) == Kind::Text);
+    EXPECT(heap.kind_of(Value::max()) == Kind::Max && heap.kind_of(Value{0x8100000000000161u}) == Kind::Malformed);
+    EXPECT(HeapView().kind_of(text.value) == Kind::BadConstant && HeapView(tree.heap, 24).kind_of(integer.value) == Kind::BadConstant);
+    EXPECT(HeapView(tree.heap, 49).length() == 0 && heap.constant_of(text.value).size() == 24 && heap.constant_of(Value{5}).empty());
+    for (std::uint64_t offset : {1, 4, 8, 16, 32}) EXPECT(heap.kind_of(Value{std::uint64_t{3} << 62 | offset}) == Kind::BadConstant);
+
+    // No room: nothing has changed, and with more of it the same goes in.
+    const Put refused = tree.store.put("another order text");
+    EXPECT(refused.number == Number::HeapFull && !refused && refused.value == Value{} && std::string(refused.name()) == "HeapFull");
+    EXPECT(tree.store.record().heap_length == 32 && tree.store.put("an order").done() && tree.store.put(kLarge).number == Number::HeapFull);
+    std::vector<std::uint8_t> more(tree.heap);
+    more.resize(96);
+    tree.store.lend_heap(more);
+    EXPECT(tree.store.put("another order text").done() && *tree.store.heap().text_of(text.value) == "an order text");
+    StoreRecord bad{256, 0, 4};
+    EXPECT(put(more, bad, "an order text").number == Number::BadStore && bad.heap_length == 4 && put(more, bad, "short").done());
+}
+
+// The record moves on with what is Done, and with nothing else.
+void records() {
+    const StoreRecord record{256, 3, 16};
+    const StoreRecord pages = record_after(record, Answer{Number::Done, 5, 2, 0}), refused = record_after(record, Answer{Number::NoRoom, 5, 0, 0});
+    EXPECT(pages.page_count == 5 && pages.heap_length == 16 && pages.page_size == 256 && refused.page_count == 3);
+    const StoreRecord longer = record_after(record, Put{Number::Done, Value{}, 24});
+    EXPECT(longer.heap_length == 40 && longer.page_count == 3 && record_after(record, Put{Number::HeapFull, Value{}, 0}).heap_length == 16);
+}
+
+// Few and similar, so that short and long ones share beginnings, and some contents lie on the heap twice.
+Put random_put(Store &store, std::mt19937_64 &random) {
+    static const char bytes[] = {'\0', 'a', '\xff'};
+    if (random() % 3 == 0) return store.put(random() % 2 ? random() % 5 : kLarge + random() % 5);
+    std::string text(random() % 5 + 5, 'a');
+    text.back() = bytes[random() % 3];
+    return store.put(text);
+}
+
+// The order of ByContent is the library's, and equal content is one value wherever it lies.
+void order_by_content() {
+    LongTree tree(20000, 200000);
+    std::mt19937_64 random(3);
+    std::vector<Datom> datoms;
+    for (int i = 0; i < 6000; ++i) {
+        const Put put = random_put(tree.store, random);
+        EXPECT(put.done());
+        datoms.push_back({random() % 20, random() % 3, put.value, random() % 40});
+    }
+    const ByContent less{tree.store.heap()};
+    const auto equal = [&](const Datom &a, const Datom &b) { return tree.store.heap().compare(a, b) == 0; };
+    std::vector<Datom> sorted = datoms;
+    std::stable_sort(sorted.begin(), sorted.end(), less);
+    sorted.erase(std::unique(sorted.begin(), sorted.end(), equal), sorted.end());
+    std::vector<Datom> shuffled = sorted;
+    std::shuffle(shuffled.begin(), shuffled.end(), std::mt19937_64(4));
+    for (std::size_t at = 0; at < shuffled.size(); at += 100) {
+        const Span<Datom> batch(shuffled.data() + at, std::min<std::size_t>(100, shuffled.size() - at));
+        std::sort(batch.begin(), batch.end(), less);
+        EXPECT(tree.store.insert(batch).done());
+    }
+    const Reader reader = tree.store.reader();
+    Listing listing = reader.list(tree.store.root());
+    EXPECT(sorted.size() > 2000 && sorted.size() < datoms.size() && std::equal(listing.begin(), listing.end(), sorted.begin(), sorted.end()));
+    EXPECT(listing.ended() && reader.check(tree.store.root()).done());
+    // Every datom that was made is held, by whichever constant.
+    for (const Datom &datom : datoms) EXPECT(reader.held(tree.store.root(), {datom}).done());
+}
+
+void long_values() {
+    LongTree tree(16, 256);
+    const Value text = tree.store.put("an order text").value, same = tree.store.put("an order text").value;
+    const Datom one = *Datom::asserted(1, 1, text, 2), twin = *Datom::asserted(1, 1, same, 2);
+    EXPECT(text != same && one != twin && tree.store.heap().compare(one, twin) == 0 && !ByContent{tree.store.heap()}(one, twin));
+    EXPECT(tree.store.insert({one, twin}).number == Number::OutOfOrder && tree.store.insert({one}).done());
+    EXPECT(tree.store.insert({twin}).number == Number::Repeated && tree.store.reader().held(tree.store.root(), {twin}).done());
+    const Answer bad = tree.store.insert({d(7), *Datom::asserted(8, 1, Value{text.word + 1}, 2)});
+    EXPECT(bad.number == Number::BadConstant && bad.detail == 1 && bad.carries() == Carries::Index);
+    // A bound of a long value, and one that names nothing.
+    Listing listing = tree.store.reader().list(tree.store.root(), *Datom::retracted(1, 1, same, 0), *Datom::asserted(1, 1, same, 4));
+    EXPECT(listing.begin() != listing.end() && listing.answer().done());
+    Listing refused = tree.store.reader().list(tree.store.root(), *Datom::retracted(1, 1, Value{same.word + 1}, 0));
+    EXPECT(refused.begin() == refused.end() && refused.answer().number == Number::BadBound);
+    // A reader with less of the heap than its pages name.
+    const Reader cut(tree.bytes, tree.heap, {256, tree.store.page_count(), 8});
+    EXPECT(cut.check(tree.store.root()).fault == Fault::Form && cut.held(tree.store.root(), {d(7)}).fault == Fault::Form);
+    EXPECT(Reader(tree.bytes, tree.heap, {256, tree.store.page_count(), 264}).check(none).number == Number::BadStore);
+    EXPECT(Reader(tree.bytes, tree.heap, {256, tree.store.page_count(), 264}).refusal(0).done());
+}
+
 }  // namespace
 
 int main() {
@@ -448,5 +566,9 @@ int main() {
     forms_of_a_batch();
     iterators();
     held();
+    put_values();
+    records();
+    order_by_content();
+    long_values();
     return failures != 0;
 }

@@ -148,6 +148,101 @@ expect 0 '4 batches with 14 datoms' insert again.fw again.batches
 "$florin" list again.fw > again2.txt; same again.txt again2.txt 'a listing is an input'
 expect 0 '"a b"' list words.fw --from '1 1 "a"' --to '1 1 "ab"'
 
+# Long values: texts and integers of any size, as text in every command. They share beginnings with short ones.
+cat > values.txt <<'END'
+1 1 4611686018427387903 2 assert
+1 1 4611686018427387904 2 assert
+1 1 18446744073709551615 2 assert
+1 1 "1234567" 2 assert
+1 1 "12345678" 2 retract
+1 1 "12345678" 2 assert
+1 1 "12345678\x00" 2 assert
+1 1 "123456789, \"quoted\" and \\ and \x00\xff" 2 assert
+1 1 "2" 2 assert
+---
+2 1 18446744073709551615 2 assert
+2 1 "12345678" 2 assert
+2 1 "a text of the second batch" 2 assert
+---
+END
+grep -v -e --- values.txt > values.plain
+expect 0 'created values.fw' create values.fw --page-size 256
+expect 0 '2 batches with 12 datoms' insert values.fw values.txt
+"$florin" list values.fw | sed 's/  */ /g; s/^ //' > listed; same listed values.plain 'long values'
+expect 0 '^12 datoms $' count values.fw
+expect 0 'long values [0-9,]+ bytes, room for [0-9,]+ more before the file grows' stat values.fw
+expect 0 '"heap_bytes":[1-9][0-9]*\} $' stat values.fw --json
+expect 0 'Sound: all 2 roots; [0-9]+ pages and [0-9]+ bytes of long values as written' check values.fw --all
+expect 0 '"walked":1,"heap_bytes":[1-9][0-9]*\} $' check values.fw --all --json
+expect 0 'copied values.fw .*"?root' backup values.fw values.copy
+expect 0 'Sound: all 2 roots; .* long values as written' check values.copy --all --walk
+"$florin" list values.copy | sed 's/  */ /g; s/^ //' > listed; same listed values.plain 'long values in a backup'
+expect 0 '"value":18446744073709551615,' list values.fw --json
+expect 0 '"value":"a text of the second batch",.*' list values.fw --json --from 2
+expect 0 '"value":\{"bytes":"313233343536373800"\}' list values.fw --json
+expect 0 '├─ .*"12345678|midpoint|pending' tree values.fw
+expect 0 'a text of the second batch" 2 assert' tree values.fw
+expect 0 '"a text of the second batch"' page values.fw 3
+drawn() {
+    expect 0 'drew picture.svg' tree "$@" --svg picture.svg --force
+    holds "the picture of $*" xmllint --noout picture.svg
+}
+drawn values.fw
+holds 'a long text is cut in a picture' grep -q '&quot;123456789, \\&quot;quoted' picture.svg
+# Bounds of any length, of content that the store has and that it has not; a listing leaves the file as it is.
+for bound in '1 1 "12345678":5,9' '1 1 "12345677777":5,9' '1 1 "123456789":8,9' '1 1 4611686018427387904:2,9' '1 1 4611686018427387905:3,9' '2 1 "a text of the third batch":13,12'; do
+    unchanged values.fw expect 0 '' list values.fw --from "${bound%:*}"
+    lines=${bound##*:}
+    "$florin" list values.fw --from "${bound%:*}" --to 2 | sed 's/  */ /g; s/^ //' > listed
+    sed -n "1,9p" values.plain | tail -n "+${lines%,*}" > expected; same listed expected "from ${bound%:*}"
+done
+expect 0 '^2 datoms $' count values.fw --from '1 1 "12345678"' --to '1 1 "12345678\x00"'
+# Each content lies on the heap once, whichever batch or command brings it; an order text again costs nothing.
+heap_of() { "$florin" stat "$1" --json | sed 's/.*"heap_bytes":\([0-9]*\).*/\1/'; }
+equal "$(heap_of values.fw)" $((8 + 8 + 16 + 24 + 40 + 40)) 'constants of two batches'
+sed 's/ 2 \([ar]\)/ 4 \1/' values.txt > later.txt
+expect 0 '2 batches with 12 datoms' insert values.fw later.txt
+equal "$(heap_of values.fw)" $((8 + 8 + 16 + 24 + 40 + 40)) 'the same content again'
+# A batch that is in, or in part.
+unchanged values.fw expect 6 'Repeated \(6\): datom 0.*All of the batch is in, 9 datoms' insert values.fw values.txt
+unchanged values.fw expect 0 'batch 1 was in before: 9 .*batch 2 was in before: 3' insert values.fw values.txt --resend
+(sed -n 11p values.txt; echo '2 1 "a text that is nowhere else" 2 assert'; echo ---) > part.txt
+unchanged values.fw expect 0 '^2 1 "a text that is nowhere else" 2 assert --- florin: 1 of 2 datoms missing' missing values.fw part.txt
+unchanged values.fw expect 0 '^\{"entity":2,"attribute":1,"value":"a text that is nowhere else",' missing values.fw part.txt --json
+before=$(shown values.fw)
+expect 6 'Repeated \(6\): datom 0, batch 1, line 1: 2 1 18446744073709551615 2 assert.*holds 1 of the batch.s 2' insert values.fw part.txt
+equal "$(shown values.fw)" "$before" 'the heap after a batch that was refused'
+"$florin" missing values.fw part.txt 2> /dev/null | "$florin" insert values.fw > told; equal $? 0 'the rest of a batch with long values'
+expect 0 'Sound: all 5 roots' check values.fw --all --walk
+# A refused batch's constants give way to those of the next.
+(echo '5 1 "the constant of a refused batch" 2 assert'; echo '4 1 1 2 assert'; echo ---) > refused.txt
+expect 4 'OutOfOrder \(4\): datom 1' insert values.fw refused.txt
+(echo '5 1 "the constant of an accepted batch, somewhat longer" 2 assert'; echo ---) > accepted.txt
+expect 0 'is in' insert values.fw accepted.txt
+expect 0 '"the constant of an accepted batch, somewhat longer"' list values.fw --from 5
+expect 0 'Sound: all 6 roots' check values.fw --all --walk
+# Older roots go on listing what they listed.
+"$florin" list values.fw --root @2 | sed 's/  */ /g; s/^ //' > listed; same listed values.plain 'long values at an older root'
+# One batch in any order, and a listing as input for another page size; binary words are for the same store.
+tac values.txt | sed 1d | grep -v -e --- > backwards.txt; echo --- >> backwards.txt
+expect 0 'created backwards.fw.*12 datoms' create backwards.fw --page-size 568 --from backwards.txt
+"$florin" list backwards.fw | sed 's/  */ /g; s/^ //' > listed; same listed values.plain 'long values in any order'
+"$florin" create wide.fw --page-size 568 > /dev/null
+"$florin" list values.fw --root @2 --every 5 | "$florin" insert wide.fw > told; equal $? 0 'a listing with long values is an input'
+"$florin" list wide.fw | sed 's/  */ /g; s/^ //' > listed; same listed values.plain 'long values in pages of 568'
+"$florin" list values.fw --root @2 --binary --every 12 > values.bin
+expect 0 'a branch from root none' insert values.fw values.bin --binary --root none --branch
+"$florin" list values.fw | sed 's/  */ /g; s/^ //' > listed; same listed values.plain 'long values by their words'
+expect 0 'created other.fw' create other.fw --page-size 256
+unchanged other.fw expect 11 'BadConstant \(11\): datom 1, batch 1: 1 1 0x4[0-9a-f]{15} 2 assert\. .*next: write long values as text' insert other.fw values.bin --binary
+# Texts of any length, and a heap that grows from one batch to the next.
+awk 'BEGIN { for (i = 1; i <= 40; i++) { s = sprintf("%03d", i); while (length(s) < i * i * 10) s = s "0123456789"; print i, 1, "\"" s "\"", 2, "assert"; if (i % 8 == 0) print "---" } }' > texts.txt
+expect 0 'created texts.fw' create texts.fw --page-size 256 --room 1
+expect 0 '5 batches with 40 datoms' insert texts.fw texts.txt
+list texts.fw > listed; grep -v -e --- texts.txt > expected; same listed expected 'texts of up to 16,000 bytes'
+expect 0 'Sound: all 5 roots' check texts.fw --all --walk
+drawn texts.fw
+
 # The binary form: a batch begins with its number of datoms. And from one page size to another.
 "$florin" list words.fw --binary > words.bin
 equal "$(stat -c %s words.bin)" 448 'bytes of 14 datoms'
@@ -255,14 +350,14 @@ unchanged sent.fw expect 0 '^\{"batch":1,"state":"in_before","datoms":2,"pages":
 unchanged sent.fw expect 0 '^\{"batches":0,"datoms":0,"pages":0,"in_before":0,"root":[0-9]+\} $' insert sent.fw empty.txt --json
 expect 0 '^\{"entity":29,.*,"operation":"assert","batch":1\} florin: 1 of 3' missing sent.fw three.txt --json
 expect 0 '^\{"datoms":[0-9]+,"root":[0-9]+\} $' count sent.fw --json
-expect 0 '^\{"copied":"sent.fw","to":"sent.copy","batches":[0-9]+,"pages":[0-9]+,"root":[0-9]+\} $' backup sent.fw sent.copy --json
+expect 0 '^\{"copied":"sent.fw","to":"sent.copy","batches":[0-9]+,"pages":[0-9]+,"root":[0-9]+,"heap_bytes":0\} $' backup sent.fw sent.copy --json
 "$florin" dump sent.fw > sent.dump
 expect 0 '^\{"loaded":"sent.load","page_size":256,"batches":[0-9]+,"datoms":[0-9]+,"pages":[0-9]+,"root":[0-9]+\} $' load sent.load sent.dump --json
-expect 0 '^\{"sound":true,"roots":[0-9]+,"pages":[0-9]+,"walked":1\} $' check sent.fw --all --json
+expect 0 '^\{"sound":true,"roots":[0-9]+,"pages":[0-9]+,"walked":1,"heap_bytes":0\} $' check sent.fw --all --json
 expect 64 '^\{"error":"Usage","status":64,"message":"there is no command frob\.","next":"florin --help shows what can be said\."\} $' frob --json
 expect 77 '^\{"error":"NotClosed","status":77,"batch":1,"line":1,"datoms":4,' insert sent.fw open.txt --json
 expect 0 '^\{"entity":1,"attribute":1,"value":0,"transaction":2,"operation":"assert"\} .*"value":"","transaction":2,"operation":"retract".*"value":\{"bytes":"00"\}.*"value":"a#b"' list words.fw --json
-expect 0 '^\{"receipt":1,"root":[0-9]+,"from":null,"datoms":3,"pages":1,"page_count":1,"time":[0-9]+,"branch":false,"datoms_sum":"[0-9a-f]{16}","pages_sum":"[0-9a-f]{16}"\} \{"receipt":2' roots sent.fw --json
+expect 0 '^\{"receipt":1,"root":[0-9]+,"from":null,"datoms":3,"pages":1,"page_count":1,"time":[0-9]+,"branch":false,"datoms_sum":"[0-9a-f]{16}","pages_sum":"[0-9a-f]{16}","heap_length":0\} \{"receipt":2' roots sent.fw --json
 expect 0 '^\{"store":"c.fw","bytes":[0-9]+,"page_size":256,.*"levels":\[\{"level":0,' stat c.fw --json
 expect 0 '^\{"sound":true,"root":[0-9]+,"pages":[0-9]+\} $' check c.fw --json
 expect 0 '^\{"created":"json.fw","page_size":4096\} $' create json.fw --json
@@ -277,6 +372,14 @@ fi
 if command -v xxh64sum > /dev/null; then
     "$florin" list sent.fw --from 30 --to 32 --binary > two.bin
     equal "$("$florin" roots sent.fw | awk 'END { print $NF }')" "$(xxh64sum two.bin 2> /dev/null | cut -d ' ' -f 1)" 'the checksum of a batch'
+    # Of long values by their content: a datom that names one has no offset, and the constant behind it.
+    (word 7; word 1; printf '\0\0\0\0\0\0\0\100'; word 3; printf '\377\377\377\377\377\377\377\377'
+        word 7; word 1; printf '\0\0\0\0\0\0\0\300'; word 3; word 9; printf '123456789\0\0\0\0\0\0\0') > summed.bin
+    printf '7 1 18446744073709551615 2 assert\n7 1 "123456789" 2 assert\n---\n' > summed.txt
+    for store in wide.fw values.fw; do
+        "$florin" insert $store summed.txt > /dev/null
+        equal "$("$florin" roots $store | awk '/^@/ { sum = $NF } END { print sum }')" "$(xxh64sum summed.bin 2> /dev/null | cut -d ' ' -f 1)" "the checksum of long values in $store"
+    done
 else
     echo 'skipped: xxh64sum, of the package xxhash, is not there'
 fi
@@ -285,10 +388,6 @@ fi
 expect 0 'root 6: 13 datoms, 0 of them pending, in 4 pages page 6, level 1, 2 of 6 datoms ├─ page 0, level 0' tree c.fw --root 6
 expect 0 '├┄ 7 1 7 2 assert  pending' tree c.fw --root 3
 expect 0 'level 1, 6 of 6 datoms ├─ page 0, level 0, 3 of 6 datoms ├─ 3' tree c.fw --root 3 --levels 1
-drawn() {
-    expect 0 'drew picture.svg' tree "$@" --svg picture.svg --force
-    holds "the picture of $*" xmllint --noout picture.svg
-}
 for store in c.fw words.fw again.fw batches.fw; do drawn $store; done
 drawn c.fw --root none
 drawn c.fw --root @2

@@ -1,12 +1,19 @@
 # shellcheck shell=bash disable=SC2154
 # Killed and cut at many points of an insert, and opened again: nothing that was told to be in is lost, nothing is half in.
 
-# A feed of 12 batches in which each batch is spread over the whole tree, and what the tree lists after each.
+# A feed of 12 batches in which each batch is spread over the whole tree, and what the tree lists after each. A value is its entity, or one
+# that is long: texts of its own and of several batches, and large integers.
 feed_of() {
-    local entities=$1 n
+    local entities=$1 values=$2 n
     : > feed.txt
     for n in $(seq 1 12); do
-        seq "$n" 12 "$entities" | awk -v n="$n" '{ print $1, 1, $1, 2 * n, "assert" }' > "batch.$n"
+        seq "$n" 12 "$entities" | awk -v n="$n" -v values="$values" '
+            function value(e) {
+                if (values == "short") return e
+                if (e % 5 == 0) return "92233720368547" sprintf("%05d", e)
+                return e % 3 == 0 ? "\"a text of several batches, " e % 70 "\"" : "\"the text of order " e " in batch " n "\""
+            }
+            { print $1, 1, value($1), 2 * n, "assert" }' > "batch.$n"
         cat "batch.$n" >> feed.txt
         echo --- >> feed.txt
     done
@@ -51,9 +58,10 @@ killed_at() {
     { FLORIN_KILL_AT=$at LD_PRELOAD=$out/cut.so "$florin" "$@" > said 2> complained; status=$?; } 2> /dev/null
 }
 
-# A page of 8192 bytes is two blocks of the disk, and may be half on it.
-for size in 256 4096 8192; do
-    feed_of 1500
+# A page of 8192 bytes is two blocks of the disk, and may be half on it. With long values a batch has the heap to bring to the disk too.
+for kind in 256:short 4096:short 8192:short 256:long 4096:long; do
+    size=${kind%:*}
+    feed_of 1500 "${kind#*:}"
     rm -f base.fw
     "$florin" create base.fw --page-size $size --room 2 > /dev/null
 
@@ -61,17 +69,17 @@ for size in 256 4096 8192; do
     for at in $(seq 1 500); do
         cp base.fw killed.fw
         killed_at "$at" insert killed.fw feed.txt
-        intact killed.fw "$(told said)" "pages of $size, killed at call $at"
+        intact killed.fw "$(told said)" "pages of $kind, killed at call $at"
         [ $status -eq 0 ] && break
         if [ $((at % 5)) -eq 0 ]; then
             "$florin" insert killed.fw feed.txt --resend > said 2> complained || fail "sent again after call $at: $(head -n 1 complained)"
-            intact killed.fw 12 "pages of $size, killed at call $at and sent again"
+            intact killed.fw 12 "pages of $kind, killed at call $at and sent again"
         fi
     done
     equal "$status" 0 'the last run is not killed'
     equal "$(told said)" 12 'the last run has all batches'
     holds "killed at $at calls" test "$at" -gt 40
-    echo "   pages of $size: killed at $((at - 1)) calls"
+    echo "   pages of $kind: killed at $((at - 1)) calls"
 
     # The power cut at each sync, with any part of what was written since on the disk.
     rm -rf images; mkdir images
@@ -80,15 +88,15 @@ for size in 256 4096 8192; do
     equal $? 0 'the run that is cut'
     cuts=0
     for image in images/*; do
-        intact "$image" "${image##*.}" "pages of $size, cut at ${image##*/}"
+        intact "$image" "${image##*.}" "pages of $kind, cut at ${image##*/}"
         cuts=$((cuts + 1))
     done
-    echo "   pages of $size: $cuts images of a cut"
+    echo "   pages of $kind: $cuts images of a cut"
     holds "$cuts images of a cut" test "$cuts" -gt 140
     # One in ten is written to again.
     for image in images/*[05].*; do
         "$florin" insert "$image" feed.txt --resend > said 2> complained || fail "sent again to ${image##*/}: $(head -n 1 complained)"
-        intact "$image" 12 "pages of $size, cut at ${image##*/} and sent again"
+        intact "$image" 12 "pages of $kind, cut at ${image##*/} and sent again"
     done
 done
 
@@ -121,7 +129,7 @@ holds "killed $kills times" test "$kills" -gt 4
 echo "   killed $kills times at any time"
 
 # Create, backup and upgrade: no store, or a whole one.
-b 0 50 > first.txt; d 0 50 > first.listed
+(d 0 50; echo '51 1 "a long value" 2 assert') > first.listed; (cat first.listed; echo ---) > first.txt
 for at in $(seq 1 40); do
     rm -f new.fw*
     killed_at "$at" create new.fw --from first.txt

@@ -26,7 +26,7 @@ again() {
         lasting "$store" > one; lasting sized.fw > other; same one other "$store in pages of $size: batches"
         listings "$store" > one; listings sized.fw > other; same one other "$store in pages of $size: listings"
     done
-    size=$(sed -nE 's/^#@ dump 1 page-size ([0-9]+) .*/\1/p' again.dump)
+    size=$(sed -nE 's/^#@ dump [12] page-size ([0-9]+) .*/\1/p' again.dump)
     "$florin" dump sized.fw | "$florin" load back.fw --page-size "$size" > /dev/null
     extents "$store" > one; extents back.fw > other; same one other "$store: there and back"
 }
@@ -57,6 +57,19 @@ cat > words.txt <<'END'
 END
 "$florin" create words.fw --page-size 256 --from words.txt > /dev/null
 again words.fw
+
+# Long values, of which batches share some; sent again, refused and sent in any order.
+printf '9 1 "first text" 2 assert\n8 1 "second text" 2 assert\n7 1 18446744073709551615 2 assert\n6 1 "first text" 2 assert\n---\n' > long.first
+(for i in $(seq 10 30); do echo "$i 1 \"a text, number $((i % 7))\" 2 assert"; echo "$i 2 $((i % 3))461168601842738790 2 assert"; echo ---; done) > long.feed
+"$florin" create long.fw --page-size 256 --from long.first > /dev/null
+"$florin" insert long.fw long.feed --quiet > /dev/null
+printf '31 1 "a text that is refused" 2 assert\n30 1 1 2 assert\n---\n' | "$florin" insert long.fw > /dev/null 2>&1
+printf '31 1 "a text that is taken" 2 assert\n---\n' | "$florin" insert long.fw > /dev/null
+printf '31 1 "a text of a branch" 2 assert\n---\n' | "$florin" insert long.fw --root @1 --branch > /dev/null
+again long.fw
+equal "$(sed -n 2p again.dump | cut -d ' ' -f 1-3)" '#@ dump 2' 'the form of a dump with long values'
+sed 's/"a text that is taken"/"a text that is takem"/' again.dump > what.dump
+expect 75 'Altered \(75\): batch 23 of what.dump is not as it was dumped: its datoms have another checksum' load new.fw what.dump
 
 # Batches of all sizes, spread over a tree of several levels, so that an insert flushes page after page.
 seq 0 5999 | awk '{ print ($1 * 3571) % 6000, 1, $1, 2, "assert" }' > spread.txt
@@ -118,7 +131,8 @@ edited 's/batch 5 from/batch 5 "from/' 65 'line [0-9]+: the string .* has no clo
 edited 's/time [0-9]*/time soon/' 65 'line 3: the time soon is no number'
 edited 's/batches 7/batches 6/' 65 'a line #@ end .. of a dump is due here'
 edited 's/batches 7/batches 8/' 65 'a line #@ batch .. of a dump is due here'
-edited 's/dump 1 /dump 2 /' 76 'OtherFormat \(76\): what.dump is a dump of form 2'
+edited 's/dump 1 /dump 3 /' 76 'OtherFormat \(76\): what.dump is a dump of form 3'
+edited 's/dump 1 /dump 2 /' 75 'its lines have another checksum than its last one says'
 # What no single batch shows is shown by the checksum of all lines: a time, or a root that is named by its page.
 edited 's/\(batch 5.*time\) [0-9]*/\1 7/' 75 'its lines have another checksum than its last one says'
 edited "s/batch 5 from @4/batch 5 from $(sed -nE 's/^#@ batch 4 .* root ([0-9]+) .*/\1/p' fed.dump)/" 75 'its lines have another checksum'

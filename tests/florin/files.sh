@@ -108,7 +108,8 @@ forged order=1 76 'OtherFormat \(76\): forged.fw was made by a newer florin: it 
 forged parties=2 76 'it has two parties'
 forged allowance0=5 76 'it has two parties'
 forged root1=0 76 'it has two parties'
-forged heap_length=8 76 'it has long values'
+forged heap_length=8 68 'it counts 8 bytes of long values, more than the file holds'
+forged heap_length=18446744073709551608 68 'it counts 18,446,744,073,709,551,608 bytes of long values'
 forged length0=4100 76 'it has a part of an unknown kind'
 # Receipts: any byte of them, and a head of one moment with receipts of another, as a copy may have them. Every command finds it; what needs
 # none of them goes on where that is said.
@@ -130,6 +131,17 @@ refuses 68 'receipts of older.fw are not those' older.fw
 cp good.fw older.fw; tail -c +8193 newer.fw | dd of=older.fw bs=8192 seek=1 conv=notrunc status=none
 list older.fw > listed; d 0 40 > expected; same listed expected 'an older head with newer bytes is a store of its moment'
 expect 0 'Sound: all 2 roots' check older.fw --all
+
+# A store with long values, and heads that say too much or too little of them.
+cp good.fw plain.fw; slot_of_plain=$slot
+printf '50 1 "a long value" 2 assert\n51 1 "another long value" 2 assert\n---\n' > values.txt
+"$florin" insert good.fw values.txt > /dev/null; slot=$(newest good.fw)
+forged heap_length=60 68 'its long values have 60 bytes, no multiple of 8'
+forged heap_length=1000000 68 'it counts 1,000,000 bytes of long values, more than the file holds'
+forged heap_length=48 68 'receipts of forged.fw are not those'
+forged heap_length=64 68 'receipts of forged.fw are not those'
+forged heap_length=0 68 'receipts of forged.fw are not those'
+cp plain.fw good.fw; slot=$slot_of_plain
 
 # Any bit of any byte that counts: it is found by check --all, or, in a head, told by a note. No command is at a loss for an answer.
 "$florin" create bits.fw --page-size 256 --room 20 > /dev/null
@@ -160,6 +172,13 @@ flipped 8192 $((12 * 128)) '68' 40
 flipped 12288 $((count * 8)) '75' 30
 flipped 16384 $((count * 256)) '33 75' 90
 equal "$found:$wrong" 200:0 'flipped bits that were found, and others'
+# So with the heap, which this store has behind its pages.
+(for i in $(seq 40 49); do echo "$i 1 \"the long value of $i\" 2 assert"; echo ---; done) | "$florin" insert bits.fw --quiet > /dev/null
+heap=$("$florin" stat bits.fw --json | sed 's/.*"heap_bytes":\([0-9]*\).*/\1/')
+heap_at=$(($(grep -abo 'the long value of 40' bits.fw | head -n 1 | cut -d : -f 1) - 8))
+equal "$heap" $((10 * 32)) 'bytes of ten long values'
+flipped $heap_at "$heap" '33 75' 60
+equal "$found:$wrong" 260:0 'flipped bits of long values that were found, and others'
 
 # A store of florin 0.1: refused with a word on what to do, and made into one of today's format.
 zcat "$here/format1.fw.gz" > one.fw

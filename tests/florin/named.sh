@@ -10,7 +10,7 @@ declare -A number=([Level]=1 [Count]=2 [Form]=3 [Order]=4 [LeafChild]=5 [LastChi
 declare -A meaning=(
     [Level]='its level is over 7'
     [Count]='it counts more datoms than a page of its size holds'
-    [Form]='a datom in it is malformed, or has the value max'
+    [Form]='a datom in it is malformed, has the value max, or names no constant'
     [Order]='its datoms do not rise'
     [LeafChild]='its level is 0, and it has a child'
     [LastChild]='its level is above 0, and it has no last child'

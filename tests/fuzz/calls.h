@@ -10,8 +10,9 @@
 constexpr size_t STORE_ROOM = 1 << 17;
 constexpr size_t SCRATCH_ROOM = 619584 + GUARD;
 constexpr size_t CURSOR = 264;
+constexpr size_t HEAP_ROOM = 4096, RECORD = 24;
 
-enum class Entry { Initialise, Insert, Fetch, Check, Start, Step, Held, Named };
+enum class Entry { Initialise, Insert, Fetch, Check, Start, Step, Held, Named, AppendInteger, AppendBytes };
 
 struct Call {
     Entry entry;
@@ -20,9 +21,26 @@ struct Call {
     uint64_t root = NONE;
     // How much of the store is lent.
     size_t store_length;
-    // The batch, or the lower and upper bound, or the cursor.
+    // The batch or the bytes to append, or the lower and upper bound, or the cursor.
     std::vector<uint8_t> batch, lower, upper, cursor;
     size_t scratch_length = 0, datom_length = 32, answer_length = 32;
+    // How much of the heap is lent, how much of that is said to be in use, and how long the record is that says so.
+    size_t heap_lent = 0;
+    uint64_t heap_length = 0;
+    size_t record_length = RECORD;
+    // The integer to append.
+    uint64_t value = 0;
+
+    bool appends() const { return entry == Entry::AppendInteger || entry == Entry::AppendBytes; }
+
+    // Page size, page count and heap length, cut short or with noise behind.
+    std::vector<uint8_t> record() const {
+        std::vector<uint8_t> bytes(std::max(record_length, RECORD), 0x3c);
+        uint64_t words[] = {page_size, page_count, heap_length};
+        memcpy(bytes.data(), words, RECORD);
+        bytes.resize(record_length);
+        return bytes;
+    }
 
     bool writes() const { return entry == Entry::Initialise || entry == Entry::Insert || entry == Entry::Named; }
 
@@ -51,14 +69,16 @@ struct Answer {
 
 // All slices of a call, in one of the two placements.
 struct Slices {
-    Lent store, batch, scratch, lower, upper, cursor, datom, answer;
+    Lent store, heap, record, batch, scratch, lower, upper, cursor, datom, answer;
 
     explicit Slices(End end)
-        : store(STORE_ROOM, end), batch(8192, end), scratch(SCRATCH_ROOM, end), lower(GUARD, end), upper(GUARD, end),
+        : store(STORE_ROOM, end), heap(HEAP_ROOM, end), record(GUARD, end), batch(8192, end), scratch(SCRATCH_ROOM, end), lower(GUARD, end), upper(GUARD, end),
           cursor(GUARD, end), datom(GUARD, end), answer(GUARD, end) {}
 
     void lay(const Call &call) {
         static const std::vector<uint8_t> unwritten(GUARD, 0x5a);
+        const std::vector<uint8_t> words = call.record();
+        record.lay(words.data(), words.size());
         batch.lay(call.batch.data(), call.batch.size());
         scratch.lay(call.scratch_length);
         lower.lay(call.lower.data(), call.lower.size());
@@ -69,37 +89,41 @@ struct Slices {
     }
 
     void must_be_whole() const {
-        for (const Lent *lent : {&store, &batch, &scratch, &lower, &upper, &cursor, &datom, &answer}) {
+        for (const Lent *lent : {&store, &heap, &record, &batch, &scratch, &lower, &upper, &cursor, &datom, &answer}) {
             lent->must_be_whole();
         }
     }
 
     uint64_t make(const Call &call) {
         uint8_t *out = answer.bytes();
-        const uint8_t *pages = store.for_reading();
-        size_t room = call.store_length, words = call.answer_length;
+        const uint8_t *pages = store.for_reading(), *constants = heap.for_reading(), *said = record.for_reading();
+        size_t room = call.store_length, words = call.answer_length, lent = call.heap_lent, length = record.length();
         switch (call.entry) {
         case Entry::Initialise:
-            return florinwick_initialise(store.bytes(), room, call.page_size, call.page_count, batch.for_reading(), batch.length(),
+            return florinwick_initialise(store.bytes(), room, constants, lent, said, length, batch.for_reading(), batch.length(),
                     scratch.bytes(), scratch.length(), out, words);
         case Entry::Insert:
-            return florinwick_insert(store.bytes(), room, call.page_size, call.page_count, call.root, batch.for_reading(),
+            return florinwick_insert(store.bytes(), room, constants, lent, said, length, call.root, batch.for_reading(),
                     batch.length(), scratch.bytes(), scratch.length(), out, words);
         case Entry::Named:
-            return florinwick_insert_named(store.bytes(), room, call.page_size, call.page_count, call.root, batch.for_reading(),
+            return florinwick_insert_named(store.bytes(), room, constants, lent, said, length, call.root, batch.for_reading(),
                     batch.length(), scratch.bytes(), scratch.length(), out, words);
         case Entry::Fetch:
-            return florinwick_fetch(pages, room, call.page_size, call.page_count, call.root, out, words);
+            return florinwick_fetch(pages, room, said, length, call.root, out, words);
         case Entry::Check:
-            return florinwick_check(pages, room, call.page_size, call.page_count, call.root, out, words);
+            return florinwick_check(pages, room, constants, lent, said, length, call.root, out, words);
         case Entry::Start:
-            return florinwick_list_start(pages, room, call.page_size, call.page_count, call.root, lower.for_reading(),
+            return florinwick_list_start(pages, room, constants, lent, said, length, call.root, lower.for_reading(),
                     lower.length(), upper.for_reading(), upper.length(), cursor.bytes(), cursor.length(), out, words);
         case Entry::Step:
-            return florinwick_list_step(pages, room, call.page_size, call.page_count, cursor.bytes(), cursor.length(),
+            return florinwick_list_step(pages, room, constants, lent, said, length, cursor.bytes(), cursor.length(),
                     datom.bytes(), datom.length(), out, words);
         case Entry::Held:
-            return florinwick_held(pages, room, call.page_size, call.page_count, call.root, batch.for_reading(), batch.length(), out, words);
+            return florinwick_held(pages, room, constants, lent, said, length, call.root, batch.for_reading(), batch.length(), out, words);
+        case Entry::AppendInteger:
+            return florinwick_append_u64(heap.bytes(), lent, call.heap_length, call.value, out, words);
+        case Entry::AppendBytes:
+            return florinwick_append_bytes(heap.bytes(), lent, call.heap_length, batch.for_reading(), batch.length(), out, words);
         }
         abort();
     }
@@ -135,9 +159,18 @@ public:
         }
     }
 
+    // And the same heap.
+    void heap(const std::vector<uint8_t> &content) {
+        for (Slices *slices : {&front_, &back_}) {
+            slices->heap.lay(content.data(), content.size());
+        }
+    }
+
     const uint8_t *pages() const { return front_.store.bytes(); }
+    const uint8_t *constants() const { return front_.heap.bytes(); }
 
     void poke(size_t at, uint8_t byte) { front_.store.bytes()[at] = back_.store.bytes()[at] = byte; }
+    void poke_heap(size_t at, uint8_t byte) { front_.heap.bytes()[at] = back_.heap.bytes()[at] = byte; }
 
     // In a store that was never damaged every page that is written must be readable.
     Answer call(const Call &call, bool is_sound) {
@@ -147,7 +180,10 @@ public:
         judge_faults(call, answer);
         uint64_t pages = call.writes() ? pages_changed(call, answer) : 0;
         for (uint64_t id = call.page_count; is_sound && id < call.page_count + pages; id++) {
-            must(is_written_page(pages_at(id, call), call.page_size, id), "a page was written that is not as pages are");
+            must(is_written_page(pages_at(id, call), call.page_size, id, used(call)), "a page was written that is not as pages are");
+        }
+        if (call.appends()) {
+            judge_append(call, answer);
         }
         Answer again = back_.call(call);
         must(again.number == answer.number && again.root == answer.root && again.pages == answer.pages
@@ -156,6 +192,9 @@ public:
         // A call that reads has its store in memory that cannot be written.
         must(!call.writes() || memcmp(front_.store.bytes(), back_.store.bytes(), front_.store.length()) == 0,
                 "two calls with the same arguments leave different stores");
+        // Nor can any but an append write to the heap.
+        must(!call.appends() || memcmp(front_.heap.bytes(), back_.heap.bytes(), front_.heap.length()) == 0,
+                "two calls with the same arguments leave different heaps");
         return answer;
     }
 
@@ -164,22 +203,25 @@ private:
 
     // Which numbers an entry may give, and what the other words then are.
     static void judge_words(const Call &call, const Answer &answer) {
-        static const uint64_t may_give[] = {0x31f, 0x3ff, 0x23, 0x23 | uint64_t{1} << 33, 0x4a3, 0x83 | uint64_t{1} << 32, 0x100bf, 0x3ff};
+        static const uint64_t may_give[] = {0xb1f, 0xbff, 0x23, 0x23 | uint64_t{1} << 33, 0x4a3, 0x83 | uint64_t{1} << 32, 0x108bf, 0xbff, 0x1803, 0x1803};
         uint64_t number = answer.number, batch = call.batch.size() / 32;
         must(number < 64 && may_give[static_cast<int>(call.entry)] >> number & 1, "a number that this entry does not give");
         if (call.answer_length != 32) {
             must(number == 1, "an answer area of a wrong length is not answered by 1");
             return;
         }
-        bool is_refused = number != 0 && number < 32, keeps_root = call.entry != Entry::Fetch && call.entry != Entry::Step;
+        bool is_refused = number != 0 && number < 32, keeps_root = call.entry != Entry::Fetch && call.entry != Entry::Step && !call.appends();
         must(!is_refused || answer.root == (keeps_root ? call.root : 0), "a refused call does not give back its root");
-        bool has_pages = call.writes() && number == 0, is_named = answer.is_faulty() && call.names() != 0;
+        bool has_pages = (call.writes() || call.appends()) && number == 0, is_named = answer.is_faulty() && call.names() != 0;
         must(has_pages || is_named || answer.pages == 0, "a third word that is not used is not 0");
         must(!is_named || (answer.pages < 64 && call.names() >> answer.pages & 1), "a fault that this entry does not name");
-        must(call.writes() || is_refused || answer.root == 0, "a word that is not used is not 0");
+        must(call.writes() || call.appends() || is_refused || answer.root == 0, "a word that is not used is not 0");
         switch (number) {
         case 3: case 4: case 6: case 16:
             must(answer.detail < batch, "an index past the batch");
+            break;
+        case 11:
+            must(call.appends() ? answer.detail == 0 : answer.detail < batch, "an index past the batch, or one of an append");
             break;
         case 7: case 33:
             must(call.entry == Entry::Step || answer.detail < call.page_count, "a page past the count");
@@ -195,9 +237,39 @@ private:
         }
     }
 
+    // The heap that a call may read, where it is not refused by 1.
+    Heap used(const Call &call) const { return {constants(), std::min<uint64_t>(call.heap_length, front_.heap.length())}; }
+
+    // "1 for a heap length over its slice or no multiple of 8; then 11, then 12": what an append answers, and the bytes that it leaves. The
+    // other heap is still as before.
+    void judge_append(const Call &call, const Answer &answer) const {
+        bool is_integer = call.entry == Entry::AppendInteger;
+        std::vector<uint8_t> bytes(8);
+        uint64_t first = is_integer ? call.value : call.batch.size();
+        memcpy(bytes.data(), &first, 8);
+        if (!is_integer) {
+            bytes.insert(bytes.end(), call.batch.begin(), call.batch.end());
+            bytes.resize((bytes.size() + 7) / 8 * 8);
+        }
+        bool is_wrong = call.answer_length != 32 || call.heap_length > call.heap_lent || call.heap_length % 8 != 0;
+        bool is_inline = is_integer ? tag_of(call.value) == Integer : call.batch.size() < 8;
+        uint64_t number = is_wrong ? 1 : is_inline ? 11 : call.heap_lent - call.heap_length < bytes.size() ? 12 : 0;
+        must(answer.number == number, "an append is not refused as it is to be, or is");
+        if (number != 0) {
+            must(memcmp(constants(), back_.heap.bytes(), back_.heap.length()) == 0, "a refused append has changed the heap");
+            return;
+        }
+        uint64_t tag = is_integer ? IntegerAt : BytesAt, end = call.heap_length + bytes.size();
+        must(answer.root == (tag << 62 | call.heap_length) && answer.pages == bytes.size(), "an append does not name its constant");
+        must(memcmp(constants() + call.heap_length, bytes.data(), bytes.size()) == 0, "a constant is not as it is to be laid");
+        must(memcmp(constants(), back_.heap.bytes(), call.heap_length) == 0
+                && memcmp(constants() + end, back_.heap.bytes() + end, back_.heap.length() - end) == 0,
+                "an append has changed a byte beside its constant");
+    }
+
     // What is named is what the page's bytes say, as far as that can be told from the page, the root or the cursor alone.
     void judge_faults(const Call &call, const Answer &answer) const {
-        if (call.answer_length == 32 && answer.number != 1) {
+        if (call.answer_length == 32 && answer.number != 1 && !call.appends()) {
             if (answer.is_faulty() && call.names() != 0) {
                 judge_page(call, answer.pages, answer.detail);
             }
@@ -221,7 +293,7 @@ private:
         bool is_walked = call.entry == Entry::Check || call.entry == Entry::Insert || call.entry == Entry::Named
                 || (call.entry == Entry::Held && !call.batch.empty())
                 || (call.entry == Entry::Start && (answer.number != 0 || word_at(answer.cursor.data()) != 0));
-        bool is_before = (answer.number > 0 && answer.number <= 5) || answer.number == 10;
+        bool is_before = (answer.number > 0 && answer.number <= 5) || answer.number == 10 || answer.number == 11;
         uint64_t rule = !is_walked || is_before || call.root >= call.page_count ? NO_FAULT : broken(call, call.root);
         must(rule == NO_FAULT || (answer.is_faulty() && answer.detail == call.root), "a root that cannot be read is passed over");
         must(rule == NO_FAULT || call.names() == 0 || answer.pages == rule, "a root's first broken rule is not named");
@@ -261,7 +333,7 @@ private:
             : index > count_of(bytes, call.page_size) ? PastCount : NO_FAULT;
     }
 
-    uint64_t broken(const Call &call, uint64_t page) const { return broken_rule(pages_at(page, call), call.page_size, page); }
+    uint64_t broken(const Call &call, uint64_t page) const { return broken_rule(pages_at(page, call), call.page_size, page, used(call)); }
 
     const uint8_t *pages_at(uint64_t id, const Call &call) const { return pages() + id * call.page_size; }
 

@@ -1,4 +1,4 @@
-// A fuzzer over the C interface. An input is a script of calls on one store; what a call answers is the fuzzer's feedback, as the
+// A fuzzer over the C interface. An input is a script of calls on one store and one heap; what a call answers is the fuzzer's feedback, as the
 // archive itself has no counters.
 #include <cstdint>
 #include <optional>
@@ -8,6 +8,10 @@
 namespace {
 
 constexpr size_t MOST_CALLS = 24, MOST_STEPS = 24;
+
+// How much of a heap there is, and from which byte on a script speaks of it: with lower ones it means what it meant without a heap.
+constexpr size_t HEAP_SLICE = 604;
+constexpr uint8_t NEW = 240;
 
 // libFuzzer keeps an input that reaches a counter for the first time.
 constexpr size_t COUNTERS = 16384;
@@ -24,7 +28,7 @@ void note(std::initializer_list<uint64_t> what) {
 
 // How often each call named each fault, told when the run ends: what was never named was never tried.
 struct Named {
-    uint64_t times[8][NothingLeft + 1] = {};
+    uint64_t times[10][NothingLeft + 1] = {};
 
     ~Named() {
         static const std::pair<Entry, const char *> calls[] = {
@@ -39,6 +43,22 @@ struct Named {
     }
 };
 Named named_so_far;
+
+// How often each call gave each of the numbers that have to do with the heap.
+struct Given {
+    uint64_t times[10][64] = {};
+
+    ~Given() {
+        for (int number : {0, 1, 10, 11, 12}) {
+            fprintf(stderr, "%d given by initialise, insert, fetch, check, start, step, held, insert_named, append_u64, append_bytes:", number);
+            for (auto &call : times) {
+                fprintf(stderr, " %llu", static_cast<unsigned long long>(call[number]));
+            }
+            fprintf(stderr, "\n");
+        }
+    }
+};
+Given given_so_far;
 
 // Small numbers as they are, others by magnitude.
 uint64_t about(uint64_t number) {
@@ -67,10 +87,15 @@ public:
         return first < 224 ? first : first < 248 ? ends[first % 6] : bytes(8);
     }
 
-    uint64_t value() {
+    // Inline, one of a word that may not be, or a constant of a heap that is so long, or beside one.
+    uint64_t value(uint64_t heap_length) {
         uint8_t kind = byte();
         if (kind < 128) {
             return kind;
+        }
+        if (kind >= 240 && kind < 248) {
+            uint64_t offset = 8 * below(heap_length / 8 + 2), tag = kind % 2 ? BytesAt : IntegerAt;
+            return tag << 62 | (offset + (kind % 8 < 6 ? 0 : below(8)));
         }
         if (kind < 248) {
             uint64_t length = kind % 8, word = (0x80 | length) << 56;
@@ -82,7 +107,7 @@ public:
         return number();
     }
 
-    Datom datom() { return {number(), below(4), value(), number()}; }
+    Datom datom(uint64_t heap_length) { return {number(), below(4), value(heap_length), number()}; }
 
 private:
     const uint8_t *at_, *end_;
@@ -110,9 +135,14 @@ struct World {
     Twice twice, named;
     uint64_t size, count = 0;
     size_t length;
+    // How long the heap's slice is, and how much of it is in use.
+    size_t heap_lent = 0;
+    uint64_t heap_length = 0;
+    // What stands on it, in order.
+    std::vector<uint64_t> constants;
     std::vector<uint64_t> roots;
     std::vector<Led> held;
-    // No page was damaged.
+    // No page was damaged, and no constant.
     bool is_sound = true;
     uint64_t last_number = 0;
     std::vector<uint8_t> cursor;
@@ -128,17 +158,24 @@ struct World {
         cursor.assign(CURSOR, 0);
         twice.store(std::vector<uint8_t>(length, 0xc3));
         named.store(std::vector<uint8_t>(length, 0xc3));
+        heap_lent = HEAP_SLICE, heap_length = 0;
+        constants.clear();
+        twice.heap(std::vector<uint8_t>(heap_lent, 0xc3));
+        named.heap(std::vector<uint8_t>(heap_lent, 0xc3));
     }
+
+    Heap heap() const { return {twice.constants(), heap_length}; }
 
     Call good(Entry entry) {
         Call call{entry, size, count, NONE, length, {}, {}, {}, cursor};
         call.scratch_length = florinwick_scratch_need(size);
+        call.heap_lent = heap_lent, call.heap_length = heap_length;
         return call;
     }
 
     Answer make(const Call &call) {
         Answer answer = twice.call(call, is_sound);
-        if (call.writes()) {
+        if (call.writes() || call.appends()) {
             make_named(call, answer);
         }
         uint64_t entry = static_cast<uint64_t>(call.entry);
@@ -147,6 +184,7 @@ struct World {
         note({entry, answer.number, about(answer.detail), 2});
         note({entry, answer.number, about(answer.pages), about(call.batch.size() / 32), 3});
         note_fault(call, answer);
+        given_so_far.times[entry][answer.number]++;
         last_number = answer.number;
         return answer;
     }
@@ -159,7 +197,9 @@ struct World {
                 "the insert that names answers otherwise");
         must(again.pages == answer.pages || (answer.number == 7 && answer.pages == 0), "the insert that names writes other pages");
         must(memcmp(twice.pages(), named.pages(), length) == 0, "the insert that names leaves another store");
+        must(memcmp(twice.constants(), named.constants(), heap_lent) == 0, "an append that is made again leaves another heap");
         note_fault(call, again);
+        given_so_far.times[static_cast<uint64_t>(call.entry)][again.number] += call.entry == Entry::Named;
     }
 
     static void note_fault(const Call &call, const Answer &answer) {
@@ -182,17 +222,17 @@ struct World {
         uint64_t amount = kind % 132;
         if (kind < 132) {
             // A run of entities.
-            uint64_t first = script.bytes(2), by = 1 + script.below(5), value = script.value();
+            uint64_t first = script.bytes(2), by = 1 + script.below(5), value = script.value(heap_length);
             for (uint64_t i = 0; i < amount; i++) {
                 datoms.push_back({first + i * by, 1, value, 3});
             }
         } else {
             for (uint64_t i = 0; i < amount % 12; i++) {
-                datoms.push_back(script.datom());
+                datoms.push_back(script.datom(heap_length));
             }
         }
         if (is_sorted) {
-            std::sort(datoms.begin(), datoms.end(), is_below);
+            std::sort(datoms.begin(), datoms.end(), heap().below());
         }
         return bytes_of(datoms);
     }
@@ -200,7 +240,12 @@ struct World {
     // Lengths and numbers that a call may not have.
     void spoil(Call &call) {
         uint64_t off = script.byte();
-        switch (script.below(9)) {
+        uint8_t which = script.byte();
+        if (which >= NEW) {
+            spoil_lent(call, off, which);
+            return;
+        }
+        switch (which % 9) {
         case 0: call.answer_length = off % 48; break;
         case 1: call.page_size = script.number(); break;
         case 2: call.page_count = script.number(); break;
@@ -211,6 +256,70 @@ struct World {
         case 7: call.datom_length = off % 48; break;
         default: (off % 2 ? call.lower : call.upper).resize(off % 40);
         }
+    }
+
+    // The same of the heap and the record.
+    void spoil_lent(Call &call, uint64_t off, uint8_t which) {
+        switch (which % 4) {
+        case 0: call.heap_length = script.number(); break;
+        case 1: call.heap_length -= std::min<uint64_t>(call.heap_length, off); break;
+        case 2: call.heap_lent -= std::min<size_t>(call.heap_lent, off); break;
+        default: call.record_length = off % 48;
+        }
+    }
+
+    // A constant for the heap; now and then what has an inline form, or what stands there already.
+    void append() {
+        uint8_t kind = script.byte();
+        Call call = good(kind % 2 ? Entry::AppendBytes : Entry::AppendInteger);
+        call.value = kind < 32 ? script.number() : script.bytes(2) | uint64_t{1} << (62 + kind % 4 / 2);
+        uint64_t length = script.below(4) ? 8 + script.below(20) : script.below(10);
+        call.batch.assign(length, script.byte());
+        for (uint64_t changes = script.below(4); changes > 0 && !call.batch.empty(); changes--) {
+            size_t place = script.byte() % call.batch.size();
+            call.batch[place] = script.byte();
+        }
+        if (kind >= 224 && !constants.empty()) {
+            copy(call, constants[kind % constants.size()]);
+        }
+        bool is_spoilt = script.below(8) == 0;
+        if (is_spoilt) {
+            spoil(call);
+        }
+        Answer answer = make(call);
+        note({9, answer.number, about(heap_length), call.batch.size() % 8});
+        if (answer.number == 0 && is_spoilt) {
+            // It may have written over constants, or past the length.
+            is_sound = false;
+        } else if (answer.number == 0) {
+            constants.push_back(answer.root);
+            must(heap().length + answer.pages <= heap_lent, "an append passes the heap");
+            heap_length += answer.pages;
+            must(heap().is_storable({0, 0, answer.root, 0}), "a constant that was appended is none");
+        }
+    }
+
+    // The content of a constant once more.
+    void copy(Call &call, uint64_t word) const {
+        const uint8_t *at = twice.constants() + offset_of(word);
+        call.entry = tag_of(word) == BytesAt ? Entry::AppendBytes : Entry::AppendInteger;
+        call.value = word_at(at);
+        if (call.entry == Entry::AppendBytes && heap().has(offset_of(word) + 8, call.value)) {
+            call.batch.assign(at + 8, at + 8 + call.value);
+        }
+    }
+
+    // A byte of the heap, mostly of a constant's first word.
+    void damage_heap() {
+        if (heap_length == 0) {
+            return;
+        }
+        uint64_t place = script.byte(), which = script.below(4);
+        size_t at = which == 0 || constants.empty() ? place * 2 % heap_length : offset_of(constants[place % constants.size()]) + (which == 1 ? 0 : 7);
+        uint8_t byte = script.byte();
+        is_sound = false;
+        twice.poke_heap(at, byte);
+        named.poke_heap(at, byte);
     }
 
     void write() {
@@ -249,7 +358,7 @@ struct World {
         return root >= count ? held[0] : which == roots.end() ? Led() : held[static_cast<size_t>(which - roots.begin())];
     }
 
-    static Led with(Led led, const std::vector<uint8_t> &batch) {
+    Led with(Led led, const std::vector<uint8_t> &batch) const {
         if (!led) {
             return led;
         }
@@ -257,8 +366,8 @@ struct World {
         for (size_t at = 0; at < batch.size(); at += 32) {
             led->push_back(datom_at(batch.data() + at));
         }
-        std::sort(led->begin() + old, led->end(), is_below);
-        std::inplace_merge(led->begin(), led->begin() + old, led->end(), is_below);
+        std::sort(led->begin() + old, led->end(), heap().below());
+        std::inplace_merge(led->begin(), led->begin() + old, led->end(), heap().below());
         return led;
     }
 
@@ -279,7 +388,7 @@ struct World {
         must(make(check).number == 0, "a tree that was built by these calls is not sound");
     }
 
-    // What is answered of a batch in a sound store: 2, 3 and 4 as insert has them, then the first datom that the root does not hold.
+    // What is answered of a batch in a sound store: 2, 3, 11 and 4 as insert has them, then the first datom that the root does not hold.
     void ask_for(uint64_t root, const std::vector<uint8_t> &batch) {
         Call call = good(Entry::Held);
         call.root = root, call.batch = batch;
@@ -297,12 +406,14 @@ struct World {
                 }
             }
         };
-        first(3, [](size_t, const Datom &datom) { return !is_storable(datom); });
-        first(4, [&](size_t i, const Datom &datom) { return i > 0 && !is_below(datom_at(batch.data() + 32 * i - 32), datom); });
+        Heap used = heap();
+        first(3, [](size_t, const Datom &datom) { return !is_formed(datom); });
+        first(11, [&](size_t, const Datom &datom) { return !used.is_storable(datom); });
+        first(4, [&](size_t i, const Datom &datom) { return i > 0 && !used.is_below(datom_at(batch.data() + 32 * i - 32), datom); });
         if (number == 0 && root != NONE && root >= count) {
             number = 5;
         }
-        first(16, [&](size_t, const Datom &datom) { return !std::binary_search(there->begin(), there->end(), datom, is_below); });
+        first(16, [&](size_t, const Datom &datom) { return !std::binary_search(there->begin(), there->end(), datom, used.below()); });
         must(answer.number == number && answer.detail == detail, "a batch is not held as it went in");
     }
 
@@ -311,13 +422,22 @@ struct World {
         std::vector<Datom> datoms;
         std::vector<Datom> from = held_at(root()).value_or(std::vector<Datom>());
         for (size_t i = script.byte(), by = 1 + script.below(7); i < from.size() && datoms.size() < 128; i += by) {
-            datoms.push_back(from[i]);
+            datoms.push_back(by_other_word(from[i]));
         }
         if (script.below(2)) {
-            datoms.push_back(script.datom());
+            datoms.push_back(script.datom(heap_length));
         }
-        std::sort(datoms.begin(), datoms.end(), is_below);
+        std::sort(datoms.begin(), datoms.end(), heap().below());
         return bytes_of(datoms);
+    }
+
+    // The datom with a constant of equal content at another offset, if there is one behind its own.
+    Datom by_other_word(Datom datom) const {
+        for (uint64_t word : constants) {
+            bool is_equal = tag_of(word) == tag_of(datom[2]) && heap().content(word) == heap().content(datom[2]);
+            datom[2] = is_equal && word > datom[2] ? word : datom[2];
+        }
+        return datom;
     }
 
     void ask() {
@@ -346,8 +466,8 @@ struct World {
     void list() {
         Call call = good(Entry::Start);
         call.root = root();
-        put(call.lower, script.below(3) ? Datom{script.bytes(2), 0, 0, 0} : script.datom());
-        put(call.upper, script.below(3) ? Datom{NONE, NONE, NONE, NONE} : script.datom());
+        put(call.lower, script.below(3) ? Datom{script.bytes(2), 0, 0, 0} : script.datom(heap_length));
+        put(call.upper, script.below(3) ? Datom{NONE, NONE, NONE, NONE} : script.datom(heap_length));
         if (script.below(16) == 0) {
             spoil(call);
         }
@@ -370,7 +490,7 @@ struct World {
                 return;
             }
             Datom datom = datom_at(answer.datom.data());
-            must(!must_rise || is_first || is_below(last, datom), "a listing does not rise");
+            must(!must_rise || is_first || heap().is_below(last, datom), "a listing does not rise");
             last = datom, is_first = false;
             cursor = answer.cursor;
         }
@@ -418,7 +538,12 @@ struct World {
 
     void run() {
         for (size_t calls = 0; calls < MOST_CALLS && !script.is_over(); calls++) {
-            switch (script.below(8)) {
+            uint8_t what = script.byte();
+            if (what >= NEW) {
+                what % 8 < 6 ? append() : damage_heap();
+                continue;
+            }
+            switch (what % 8) {
             case 0: case 1: case 2: write(); break;
             case 3: list(); break;
             case 4: read_one(); break;
@@ -433,7 +558,7 @@ struct World {
 }
 
 extern "C" int LLVMFuzzerTestOneInput(const uint8_t *data, size_t length) {
-    static World world{Script(nullptr, 0), {}, {}, 256, 0, 0, {}, {}, true, 0, {}};
+    static World world{Script(nullptr, 0), {}, {}, 256, 0, 0, 0, 0, {}, {}, {}, true, 0, {}};
     world.begin(data, length);
     world.run();
     return 0;

@@ -21,4 +21,4 @@ rm -rf build/fuzz/corpus
 cp -r tests/fuzz/corpus build/fuzz/corpus
 build/fuzz/fuzz -runs="${1:-10000000}" -seed="${2:-1}" -max_len=400 -entropic=0 -print_final_stats=1 -verbosity=1 \
     -artifact_prefix=build/fuzz/ build/fuzz/corpus 2> build/fuzz/log || { tail -40 build/fuzz/log >&2; exit 1; }
-grep -E '^(Done|faults |stat::(number_of_executed_units|average_exec_per_sec))' build/fuzz/log
+grep -E '^(Done|faults |[0-9]+ given |stat::(number_of_executed_units|average_exec_per_sec))' build/fuzz/log

@@ -45,13 +45,14 @@ fn main() {
     process::exit(if tally.failed == 0 { 0 } else { 1 });
 }
 
-/// Every page that was recorded as bytes, with its id.
+/// Every page that was recorded as bytes, with its id, but for those with constants of a heap.
 fn recorded_pages(mut file: &[u8]) -> Vec<(u64, Vec<u8>)> {
     let mut pages = Vec::new();
-    let (mut size, mut count) = (0, 0);
+    let (mut size, mut count, mut is_long) = (0, 0, false);
     while !file.is_empty() {
         match Record::decode(&mut file).expect("a record") {
-            Record::Begin { page_size, .. } => (size, count) = (page_size as usize, 0),
+            Record::Begin { page_size, heap_room, .. } => (size, count, is_long) = (page_size as usize, 0, heap_room > 0),
+            _ if is_long => {}
             Record::Initialise { written, .. } | Record::Insert { written, .. } => {
                 if let Carried::Raw(bytes) = written.pages {
                     pages.extend(bytes.chunks_exact(size).zip(count..).map(|(page, id)| (id, page.to_vec())));
@@ -60,7 +61,7 @@ fn recorded_pages(mut file: &[u8]) -> Vec<(u64, Vec<u8>)> {
             }
             Record::Poke { page, bytes } if expected::read(&bytes, page).is_ok() => pages.push((page, bytes)),
             // Damage is done to pages that can be read.
-            Record::Poke { .. } | Record::List { .. } | Record::Check { .. } | Record::Named { .. } | Record::End { .. } => {}
+            Record::Poke { .. } | Record::List { .. } | Record::Check { .. } | Record::Named { .. } | Record::End { .. } | Record::Heap { .. } => {}
         }
     }
     pages

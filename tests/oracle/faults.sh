@@ -6,6 +6,7 @@ set -euo pipefail
 here=$(cd "$(dirname "${BASH_SOURCE[0]}")" && pwd)
 repo=$(cd "$here/../.." && pwd)
 sound=$repo/build/oracle
+recorded=$repo/crates/replay/stdin
 out=$repo/build/oracle-faults
 flags=(-C opt-level=0 -C debug-assertions=on -C overflow-checks=on -C codegen-units=1)
 # shellcheck source=steps.sh
@@ -37,10 +38,10 @@ while IFS='|' read -r file name script; do
         htree)
             build_noblit patched
             build_harness "$out/harness" ;;
-        datom | node | size) build_harness "$out/harness" ;;
+        datom | heap | node | size) build_harness "$out/harness" ;;
     esac
     here=$out/tests/oracle build_driver
-    if "$out/oracle" replay "$repo/crates/replay/stdin" > "$out/replay" 2>&1; then
+    if "$out/oracle" replay "$recorded" > "$out/replay" 2>&1; then
         missed=$((missed + 1))
         echo "MISSED   $name"
     else

@@ -47,7 +47,7 @@ build_against() {
 rust_file() {
     case $1 in
         htree) echo "$out/source/patched/htree.rs" ;;
-        datom) echo "$out/harness/datom.rs" ;;
+        datom | heap) echo "$out/harness/$1.rs" ;;
         size) echo "$out/harness/page_size_8192.rs" ;;
     esac
 }

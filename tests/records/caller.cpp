@@ -1,5 +1,5 @@
-// Document 01's examples c, e, f, g and h with an array of records, as a C++ program has them: each call also with the bytes of the
-// same datoms, on a store of its own. Says nothing if all is as it should be.
+// Document 01's examples c, e, f, g and h with an array of records, as a C++ program has them, and datoms with long values: each call also
+// with the bytes of the same datoms, on a store of its own. Says nothing if all is as it should be.
 #include "florinwick.h"
 
 #include <array>
@@ -30,12 +30,16 @@ std::vector<florinwick_datom> run(std::uint64_t from, std::uint64_t count) {
     return records;
 }
 
+void put(std::vector<std::uint8_t> &bytes, std::uint64_t word) {
+    for (int i = 0; i < 8; ++i) bytes.push_back(static_cast<std::uint8_t>(word >> (8 * i)));
+}
+
 std::vector<std::uint8_t> bytes_of(const std::vector<florinwick_datom> &records) {
     std::vector<std::uint8_t> bytes;
+    // No bytes are still at an address.
+    bytes.reserve(1);
     for (const florinwick_datom &record : records) {
-        for (std::uint64_t word : {record.entity, record.attribute, record.value, record.transaction_operation}) {
-            for (int i = 0; i < 8; ++i) bytes.push_back(static_cast<std::uint8_t>(word >> (8 * i)));
-        }
+        for (std::uint64_t word : {record.entity, record.attribute, record.value, record.transaction_operation}) put(bytes, word);
     }
     return bytes;
 }
@@ -44,18 +48,39 @@ struct Stores {
     std::vector<std::uint8_t> by_records = std::vector<std::uint8_t>(64 * page_size);
     std::vector<std::uint8_t> by_bytes = by_records;
     std::vector<std::uint8_t> scratch = std::vector<std::uint8_t>(florinwick_scratch_need(page_size));
+    std::vector<std::uint8_t> heap = std::vector<std::uint8_t>(64);
+    std::uint64_t heap_length = 0;
     std::uint64_t count = 0;
     std::uint64_t root = FLORINWICK_NONE;
+
+    // The value word that names a string of more than seven bytes.
+    std::uint64_t append(const std::vector<std::uint8_t> &text) {
+        std::array<std::uint8_t, 32> told{};
+        const std::uint64_t number =
+            florinwick_append_bytes(heap.data(), heap.size(), heap_length, text.data(), text.size(), told.data(), told.size());
+        expect("append", number == FLORINWICK_DONE && told[15] >= 0xc0);
+        const std::uint64_t word = (std::uint64_t{3} << 62) | heap_length;
+        for (unsigned i = 0; i < 8; ++i) expect("the word", told[8 + i] == static_cast<std::uint8_t>(word >> (8 * i)));
+        heap_length += told[16];
+        return word;
+    }
+
+    // The store's record: page size, page count, heap length.
+    std::vector<std::uint8_t> record() const {
+        std::vector<std::uint8_t> bytes;
+        for (std::uint64_t word : {page_size, count, heap_length}) put(bytes, word);
+        return bytes;
+    }
 
     // The number, root, pages and index of a call that both entries must answer alike.
     void insert(const char *name, const std::vector<florinwick_datom> &records, std::array<std::uint8_t, 4> expected) {
         std::array<std::uint8_t, 32> told{}, told_of_bytes{};
-        const std::vector<std::uint8_t> bytes = bytes_of(records);
+        const std::vector<std::uint8_t> bytes = bytes_of(records), record = this->record();
         const std::uint64_t number =
-            florinwick_insert_records(by_records.data(), by_records.size(), page_size, count, root, records.data(), records.size(),
-                                      scratch.data(), scratch.size(), told.data(), told.size());
-        florinwick_insert(by_bytes.data(), by_bytes.size(), page_size, count, root, bytes.data(), bytes.size(),
-                          scratch.data(), scratch.size(), told_of_bytes.data(), told_of_bytes.size());
+            florinwick_insert_records(by_records.data(), by_records.size(), heap.data(), heap.size(), record.data(), record.size(), root,
+                                      records.data(), records.size(), scratch.data(), scratch.size(), told.data(), told.size());
+        florinwick_insert(by_bytes.data(), by_bytes.size(), heap.data(), heap.size(), record.data(), record.size(), root, bytes.data(),
+                          bytes.size(), scratch.data(), scratch.size(), told_of_bytes.data(), told_of_bytes.size());
         expect(name, told == told_of_bytes && by_records == by_bytes && number == expected[0]);
         for (std::size_t i = 0; i < 4; ++i) expect(name, told[8 * i] == expected[i]);
         if (number == FLORINWICK_DONE) {
@@ -78,5 +103,11 @@ int main() {
     std::vector<florinwick_datom> none(1);
     none.pop_back();
     stores.insert("h", none, {0, 7, 1, 0});
+    // Two texts of equal content at two offsets are one datom.
+    const std::vector<std::uint8_t> text{'a', 't', ' ', 'm', 'a', 'r', 'k', 'e', 't'};
+    const std::uint64_t one = stores.append(text), other = stores.append(text);
+    stores.insert("a long value", {{20, 1, one, 3}}, {0, 8, 1, 0});
+    stores.insert("the same at another offset", {{20, 1, other, 3}}, {FLORINWICK_REPEATED, 8, 0, 0});
+    stores.insert("no constant", {{20, 1, 5, 3}, {21, 1, one + 8, 3}}, {FLORINWICK_BAD_CONSTANT, 8, 0, 1});
     return failures == 0 ? 0 : 1;
 }

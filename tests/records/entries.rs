@@ -2,7 +2,7 @@
 
 use harness::{Answer, Datom, Random};
 
-use crate::library::{bytes_of, call, Call, Entry, Lent};
+use crate::library::{bytes_of, call, Beside, Call, Entry, Lent};
 
 /// A datom as a C or C++ program has it.
 #[repr(C)]
@@ -16,7 +16,7 @@ struct Record {
 
 extern "C" {
     fn florinwick_insert_records(
-        store: *mut u8, store_length: usize, page_size: u64, page_count: u64, root: u64,
+        store: *mut u8, store_length: usize, heap: *const u8, heap_length: usize, record: *const u8, record_length: usize, root: u64,
         batch: *const Record, batch_count: usize, scratch: *mut u8, scratch_length: usize,
         answer: *mut u8, answer_length: usize,
     ) -> u64;
@@ -24,9 +24,8 @@ extern "C" {
 
 /// What both entries are given besides the store.
 #[derive(Clone)]
-pub struct Given {
-    pub page_size: u64,
-    pub page_count: u64,
+pub struct Given<'a> {
+    pub beside: Beside<'a>,
     pub root: u64,
     pub batch: Vec<Datom>,
     /// How much of the scratch is lent.
@@ -40,9 +39,8 @@ pub fn insert(
     given: &Given, by_bytes: &mut [u8], by_records: &mut [u8], scratch: &mut Lent, random: &mut Random,
 ) -> Result<Answer, String> {
     let bytes = bytes_of(&given.batch);
-    let (page_size, page_count) = (given.page_size, given.page_count);
     let entry = Entry::Insert(given.root);
-    let byte_call = Call { entry, page_size, page_count, batch: &bytes, scratch: given.scratch, area: given.area };
+    let byte_call = Call { entry, beside: given.beside, batch: &bytes, scratch: given.scratch, area: given.area };
     let expected = call(by_bytes, &byte_call, scratch, random)?;
     let answer = insert_records(given, by_records, scratch, random)?;
     if answer != expected {
@@ -59,13 +57,14 @@ fn insert_records(given: &Given, store: &mut [u8], scratch: &mut Lent, random: &
     let mut area = Lent::of_length(given.area, random);
     let before = area.content().to_vec();
     let past = scratch.content()[given.scratch..].to_vec();
-    let returned = unsafe {
+    let heap = given.beside.heap;
+    let returned = given.beside.recorded(random, |record, _| Ok(unsafe {
         florinwick_insert_records(
-            store.as_mut_ptr(), store.len(), given.page_size, given.page_count, given.root,
+            store.as_mut_ptr(), store.len(), heap.as_ptr(), heap.len(), record.as_ptr(), record.len(), given.root,
             records.as_ptr(), records.len(), scratch.content_mut().as_mut_ptr(), given.scratch,
             area.content_mut().as_mut_ptr(), given.area,
         )
-    };
+    }))?;
     if scratch.content()[given.scratch..] != past[..] {
         return Err("bytes past the scratch were changed".to_string());
     }

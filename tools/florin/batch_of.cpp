@@ -1,6 +1,5 @@
 #include "batch_of.h"
 
-#include "checksum.h"
 #include "datom_text.h"
 #include "held.h"
 #include "walk.h"
@@ -31,8 +30,10 @@ std::vector<Datom> written_by(const StoreFile &store, const Receipt &receipt, st
         }
         for (unsigned i = 0; i < page->count(); ++i) datoms.push_back(page->datom(i));
     }
-    std::sort(datoms.begin(), datoms.end());
-    datoms.erase(std::unique(datoms.begin(), datoms.end()), datoms.end());
+    const florinwick::HeapView heap = store.heap();
+    std::sort(datoms.begin(), datoms.end(), florinwick::ByContent{heap});
+    const auto equal = [&](const Datom &a, const Datom &b) { return heap.compare(a, b) == 0; };
+    datoms.erase(std::unique(datoms.begin(), datoms.end(), equal), datoms.end());
     return datoms;
 }
 
@@ -55,7 +56,7 @@ Batch batch_of(const StoreFile &store, const Receipt &receipt, std::uint64_t num
     if (batch.datoms() != receipt.datoms) {
         throw altered("its receipt says " + counted(receipt.datoms, "datom") + ", and " + grouped(batch.datoms()) + " are found.", number);
     }
-    if (!receipt.is_upgraded() && checksum(batch.bytes.data(), batch.bytes.size()) != receipt.datoms_sum) {
+    if (!receipt.is_upgraded() && batch.sum(store.heap()) != receipt.datoms_sum) {
         throw altered("its datoms have not the checksum that its receipt has.", number);
     }
     return batch;

@@ -1,5 +1,6 @@
 #include "batches.h"
 
+#include "checksum.h"
 #include "datom_text.h"
 
 #include <cerrno>
@@ -7,6 +8,7 @@
 namespace florin {
 
 using florinwick::Datom;
+using florinwick::HeapView;
 
 namespace {
 
@@ -19,21 +21,50 @@ void Batch::add(const Datom &datom) {
     datom.write(bytes.data() + bytes.size() - Datom::size);
 }
 
-std::string Batch::place_of(std::uint64_t at) const {
+void Batch::add(const TypedDatom &typed) {
+    if (typed.long_value) long_values[datoms()] = *typed.long_value;
+    add(typed.datom);
+}
+
+TypedDatom Batch::typed(std::uint64_t at) const {
+    const auto value = long_values.find(at);
+    return {datom(at), value == long_values.end() ? std::nullopt : std::optional<LongValue>(value->second)};
+}
+
+void Batch::set_value(std::uint64_t at, florinwick::Value value) {
+    Datom changed = datom(at);
+    changed.value = value;
+    changed.write(bytes.data() + at * Datom::size);
+}
+
+std::string Batch::place_of(std::uint64_t at, const HeapView &heap) const {
     std::string place = "batch " + std::to_string(number);
     if (at < lines.size()) place += ", line " + std::to_string(lines[at]);
-    if (at < datoms()) place += ": " + datom_text(datom(at));
+    if (at < datoms()) place += ": " + datom_text(typed(at), heap);
     return place;
 }
 
-Json Batch::place_json(std::uint64_t at) const {
+Json Batch::place_json(std::uint64_t at, const HeapView &heap) const {
     Json place = {{"batch", number}};
     if (at < lines.size()) place.put("line", lines[at]);
-    if (at < datoms()) place.put("text", datom_text(datom(at)));
+    if (at < datoms()) place.put("text", datom_text(typed(at), heap));
     return place;
 }
 
-std::string batch_text(const Batch &batch, Form form) {
+std::uint64_t Batch::sum(const HeapView &heap) const {
+    std::vector<std::uint8_t> summed;
+    for (std::uint64_t at = 0; at < datoms(); ++at) {
+        const auto value = long_values.find(at);
+        if (value != long_values.end()) {
+            add_summed(summed, datom(at), value->second);
+        } else {
+            add_summed(summed, datom(at), heap);
+        }
+    }
+    return checksum(summed.data(), summed.size());
+}
+
+std::string batch_text(const Batch &batch, Form form, const HeapView &heap) {
     std::string text;
     if (form == Form::Binary) {
         std::uint8_t count[8];
@@ -41,7 +72,7 @@ std::string batch_text(const Batch &batch, Form form) {
         text.assign(count, count + sizeof count);
         return text.append(batch.bytes.begin(), batch.bytes.end());
     }
-    for (std::uint64_t i = 0; i < batch.datoms(); ++i) text += datom_text(batch.datom(i)) + "\n";
+    for (std::uint64_t i = 0; i < batch.datoms(); ++i) text += datom_text(batch.typed(i), heap) + "\n";
     return text + "---\n";
 }
 
@@ -63,10 +94,10 @@ bool Batches::next(Batch &batch) {
     return found;
 }
 
-Trouble Batches::refused(const florinwick::Answer &answer, const Batch &batch) const {
+Trouble Batches::refused(const florinwick::Answer &answer, const Batch &batch, const HeapView &heap) const {
     const bool of_datom = answer.carries() == florinwick::Carries::Index;
-    Trouble trouble = refusal(answer, of_datom ? batch.place_of(answer.detail) : "batch " + std::to_string(batch.number));
-    trouble.more.put_all(batch.place_json(of_datom ? answer.detail : batch.datoms()));
+    Trouble trouble = refusal(answer, of_datom ? batch.place_of(answer.detail, heap) : "batch " + std::to_string(batch.number));
+    trouble.more.put_all(batch.place_json(of_datom ? answer.detail : batch.datoms(), heap));
     return trouble;
 }
 

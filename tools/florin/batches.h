@@ -8,9 +8,11 @@
 #define FLORIN_BATCHES_H
 
 #include "florinwick.hpp"
+#include "long_values.h"
 #include "trouble.h"
 
 #include <cstdio>
+#include <map>
 #include <string>
 #include <vector>
 
@@ -22,17 +24,24 @@ struct Batch {
     std::uint64_t number = 0;                // from 1 on
     std::vector<std::uint8_t> bytes;
     std::vector<std::uint64_t> lines;        // of each datom, in a text
+    std::map<std::uint64_t, LongValue> long_values;   // of a text, by datom; StoreFile puts them on its heap, and their words into the bytes
 
     std::uint64_t datoms() const { return bytes.size() / florinwick::Datom::size; }
     florinwick::Datom datom(std::uint64_t at) const { return florinwick::Datom::read(bytes.data() + at * florinwick::Datom::size); }
+    // One by its words, which name constants of the store that the batch is for.
     void add(const florinwick::Datom &datom);
-    // How a refusal names one of its datoms: batch, line and the datom itself.
-    std::string place_of(std::uint64_t at) const;
-    Json place_json(std::uint64_t at) const;
+    void add(const TypedDatom &typed);
+    TypedDatom typed(std::uint64_t at) const;
+    void set_value(std::uint64_t at, florinwick::Value value);
+    // How a refusal names one of its datoms: batch, line and the datom itself. The heap is that of the store that the batch is for.
+    std::string place_of(std::uint64_t at, const florinwick::HeapView &heap) const;
+    Json place_json(std::uint64_t at, const florinwick::HeapView &heap) const;
+    // Of its datoms as they stand here, which for the checksum of a receipt is ascending.
+    std::uint64_t sum(const florinwick::HeapView &heap) const;
 };
 
-// In the form in which Batches reads it.
-std::string batch_text(const Batch &batch, Form form);
+// In the form in which Batches reads it. As text its long values are read on the heap; binary it has words, for the same store alone.
+std::string batch_text(const Batch &batch, Form form, const florinwick::HeapView &heap);
 
 class Batches {
 public:
@@ -50,7 +59,7 @@ public:
     // The next batch, of one datom at least. False at the end. Throws Trouble at a line that is no datom, and at an end within a batch.
     bool next(Batch &batch);
     // For what rests on a batch being as it was read: a refusal of it, with its place.
-    Trouble refused(const florinwick::Answer &answer, const Batch &batch) const;
+    Trouble refused(const florinwick::Answer &answer, const Batch &batch, const florinwick::HeapView &heap) const;
 
 private:
     // One more than the library takes, and none behind it: a batch too large is refused by the library and fills no memory.

@@ -6,6 +6,7 @@
 namespace florin {
 
 using florinwick::Datom;
+using florinwick::HeapView;
 using florinwick::Value;
 
 namespace {
@@ -68,19 +69,25 @@ std::uint64_t parse_raw(const std::string &word) {
     return number;
 }
 
-Value parse_text_value(const std::string &word) {
-    const auto value = Value::text(unquoted(word));
-    if (!value) throw BadText{"the string " + word + " has more than 7 bytes"};
-    return *value;
+// A value that has an inline form goes into the word, any other beside it.
+template <class Content>
+void take_value(TypedDatom &typed, const std::optional<Value> &value, const Content &content) {
+    typed.datom.value = value.value_or(Value::max());
+    if (!value) typed.long_value = content;
 }
 
-Value parse_value(const std::string &word) {
-    if (word == "max") return Value::max();
-    if (word[0] == '"') return parse_text_value(word);
-    if (word.compare(0, 2, "0x") == 0) return Value{parse_raw(word)};
-    const auto value = Value::integer(parse_number(word, "value"));
-    if (!value) throw BadText{"the value " + word + " is 2^62 or more"};
-    return *value;
+void parse_value(TypedDatom &typed, const std::string &word) {
+    if (word == "max") {
+        typed.datom.value = Value::max();
+    } else if (word[0] == '"') {
+        const std::string text = unquoted(word);
+        take_value(typed, Value::text(text), text);
+    } else if (word.compare(0, 2, "0x") == 0) {
+        typed.datom.value = Value{parse_raw(word)};
+    } else {
+        const std::uint64_t number = parse_number(word, "value");
+        take_value(typed, Value::integer(number), number);
+    }
 }
 
 std::uint64_t parse_transaction(const std::string &word) {
@@ -128,36 +135,36 @@ std::uint64_t parse_number(const std::string &word, const std::string &what) {
     return number;
 }
 
-Datom parse_datom(const std::vector<std::string> &words) {
+TypedDatom parse_datom(const std::vector<std::string> &words) {
     if (words.size() != 5) {
         throw BadText{"a datom has 5 words, entity attribute value transaction assert|retract, and here are " + std::to_string(words.size())};
     }
-    Datom datom;
-    datom.entity = parse_number(words[0], "entity");
-    datom.attribute = parse_number(words[1], "attribute");
-    datom.value = parse_value(words[2]);
-    datom.transaction_operation = parse_transaction(words[3]) + parse_operation(words[4]);
-    return datom;
+    TypedDatom typed;
+    typed.datom.entity = parse_number(words[0], "entity");
+    typed.datom.attribute = parse_number(words[1], "attribute");
+    parse_value(typed, words[2]);
+    typed.datom.transaction_operation = parse_transaction(words[3]) + parse_operation(words[4]);
+    return typed;
 }
 
-Datom parse_bound(const std::string &text) {
+TypedDatom parse_bound(const std::string &text) {
     const std::vector<std::string> words = words_of_line(text);
     if (words.empty() || words.size() > 5) throw BadText{"a bound has 1 to 5 words, and \"" + text + "\" has " + std::to_string(words.size())};
-    Datom bound = Datom::min();
+    TypedDatom typed{Datom::min()};
+    Datom &bound = typed.datom;
     bound.entity = number_or_max(words[0], "entity");
     if (words.size() > 1) bound.attribute = number_or_max(words[1], "attribute");
-    if (words.size() > 2) bound.value = parse_value(words[2]);
+    if (words.size() > 2) parse_value(typed, words[2]);
     if (words.size() > 3) bound.transaction_operation = words[3] == "max" ? kMax : parse_transaction(words[3]);
     if (words.size() > 4) bound.transaction_operation |= parse_operation(words[4]);
-    return bound;
+    return typed;
 }
 
 namespace {
 
-std::string quoted(Value value) {
+std::string quoted(std::string_view bytes) {
     std::string text = "\"";
-    for (std::size_t i = 0; i < value.text_size(); ++i) {
-        const char c = value.text_byte(i);
+    for (char c : bytes) {
         char escaped[8];
         if (c == '"' || c == '\\') {
             text += '\\';
@@ -185,24 +192,34 @@ std::string counted(std::uint64_t number, const std::string &thing) {
     return grouped(number) + " " + thing + (number == 1 ? "" : hisses ? "es" : "s");
 }
 
-std::string value_text(Value value) {
-    if (value.is_integer()) return std::to_string(value.word);
+std::string value_text(Value value, const HeapView &heap) {
+    if (const auto integer = heap.integer_of(value)) return std::to_string(*integer);
+    if (const auto text = heap.text_of(value)) return quoted(text->view());
     if (value.is_max()) return "max";
-    if (value.is_text()) return quoted(value);
     char raw[24];
     std::snprintf(raw, sizeof raw, "0x%016llx", static_cast<unsigned long long>(value.word));
     return raw;
 }
 
+std::string value_text(const LongValue &value) {
+    if (const auto *integer = std::get_if<std::uint64_t>(&value)) return std::to_string(*integer);
+    return quoted(std::get<std::string>(value));
+}
+
+std::string short_value_text(Value value, const HeapView &heap, std::size_t most) {
+    const std::string text = value_text(value, heap);
+    return text.size() <= most ? text : text.substr(0, most - 3) + "..\"";
+}
+
 namespace {
 
-Json value_json(Value value) {
-    if (value.is_integer()) return value.word;
-    if (!value.is_text()) return value_text(value);
+Json value_json(Value value, const HeapView &heap) {
+    if (const auto integer = heap.integer_of(value)) return *integer;
+    const auto bytes = heap.text_of(value);
+    if (!bytes) return value_text(value, heap);
     std::string text, hex;
     bool printable = true;
-    for (std::size_t i = 0; i < value.text_size(); ++i) {
-        const char c = value.text_byte(i);
+    for (char c : bytes->view()) {
         char digits[4];
         std::snprintf(digits, sizeof digits, "%02x", static_cast<unsigned>(static_cast<unsigned char>(c)));
         text += c;
@@ -214,9 +231,9 @@ Json value_json(Value value) {
 
 }  // namespace
 
-Json datom_json(const Datom &datom, std::uint64_t batch) {
-    Json object = {{"entity", datom.entity}, {"attribute", datom.attribute}, {"value", value_json(datom.value)}, {"transaction", datom.transaction()},
-                   {"operation", datom.is_assert() ? "assert" : "retract"}};
+Json datom_json(const Datom &datom, const HeapView &heap, std::uint64_t batch) {
+    Json object = {{"entity", datom.entity}, {"attribute", datom.attribute}, {"value", value_json(datom.value, heap)},
+                   {"transaction", datom.transaction()}, {"operation", datom.is_assert() ? "assert" : "retract"}};
     if (batch != 0) object.put("batch", batch);
     return object;
 }
@@ -227,9 +244,19 @@ std::string sum_text(std::uint64_t sum) {
     return text;
 }
 
-std::string datom_text(const Datom &datom) {
-    return std::to_string(datom.entity) + " " + std::to_string(datom.attribute) + " " + value_text(datom.value) + " " +
-           std::to_string(datom.transaction()) + (datom.is_assert() ? " assert" : " retract");
+namespace {
+
+std::string datom_text(const Datom &datom, const std::string &value) {
+    return std::to_string(datom.entity) + " " + std::to_string(datom.attribute) + " " + value + " " + std::to_string(datom.transaction()) +
+           (datom.is_assert() ? " assert" : " retract");
+}
+
+}  // namespace
+
+std::string datom_text(const Datom &datom, const HeapView &heap) { return datom_text(datom, value_text(datom.value, heap)); }
+
+std::string datom_text(const TypedDatom &typed, const HeapView &heap) {
+    return typed.long_value ? datom_text(typed.datom, value_text(*typed.long_value)) : datom_text(typed.datom, heap);
 }
 
 }  // namespace florin

@@ -26,7 +26,7 @@ struct Subject {
     std::uint64_t batch_of(std::uint64_t page) const;
 };
 
-void draw_page(std::FILE *out, const PageView &page);
+void draw_page(std::FILE *out, const PageView &page, const florinwick::HeapView &heap);
 void draw_text(std::FILE *out, const Subject &subject);
 std::string draw_svg(const Subject &subject);
 

@@ -232,7 +232,7 @@ private:
         canvas_.rect(kind + "bar", card.x + 1, y + 0.5, 4, Measure::row - 1);
         canvas_.text("mono end", card.x + widths.entity_end(), base, std::to_string(datom.entity));
         canvas_.text("mono soft end", card.x + widths.attribute_end(), base, std::to_string(datom.attribute));
-        canvas_.text("mono", card.x + widths.value_start(), base, value_text(datom.value));
+        canvas_.text("mono", card.x + widths.value_start(), base, short_value_text(datom.value, subject_.reader.heap(), Measure::value));
         canvas_.text("mono soft end", end - 2 * Measure::character, base, std::to_string(datom.transaction()));
         canvas_.text(datom.is_assert() ? "mono end plus" : "mono end minus", end, base, datom.is_assert() ? "+" : kMinus);
     }

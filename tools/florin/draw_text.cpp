@@ -46,7 +46,8 @@ public:
 private:
     void datom(const PageView &page, unsigned at, const std::string &indent) {
         const char *branch = page.level() == 0 ? "  " : page.is_pending(at) ? "├┄ " : "├─ ";
-        std::fprintf(out_, "%s%s%s%s\n", indent.c_str(), branch, datom_text(page.datom(at)).c_str(), kind_of(page, at));
+        std::fprintf(out_, "%s%s%s%s\n", indent.c_str(), branch, datom_text(page.datom(at), subject_.reader.heap()).c_str(),
+                     kind_of(page, at));
     }
 
     void child(const PageView &page, unsigned at, const std::string &indent, bool last, unsigned levels) {
@@ -69,7 +70,7 @@ private:
 
 }  // namespace
 
-void draw_page(std::FILE *out, const PageView &page) {
+void draw_page(std::FILE *out, const PageView &page, const florinwick::HeapView &heap) {
     if (!page.is_plausible()) {
         std::fprintf(out, "page %s: level %u, %u of %u datoms; no page can have these\n", page_text(page.id()).c_str(), page.level(),
                      page.count(), page.capacity());
@@ -78,7 +79,7 @@ void draw_page(std::FILE *out, const PageView &page) {
     std::fprintf(out, "%s\n", line_of(page).c_str());
     for (unsigned i = 0; i <= page.count(); ++i) {
         if (page.has_child(i)) std::fprintf(out, "  child %s\n", page_text(page.child(i)).c_str());
-        if (i < page.count()) std::fprintf(out, "%5u  %s%s\n", i, datom_text(page.datom(i)).c_str(), kind_of(page, i));
+        if (i < page.count()) std::fprintf(out, "%5u  %s%s\n", i, datom_text(page.datom(i), heap).c_str(), kind_of(page, i));
     }
 }
 

@@ -1,6 +1,5 @@
 #include "dump_text.h"
 
-#include "checksum.h"
 #include "datom_text.h"
 
 #include <cerrno>
@@ -9,7 +8,8 @@ namespace florin {
 
 namespace {
 
-const char kVersion[] = "1";
+const char kPlain[] = "1";
+const char kWithLongValues[] = "2";
 const char kNoSum[] = "-";
 const char kWelcome[] = "# A store of florin as text. florin load makes the same store of it; florin insert takes its batches.\n";
 const char kNoStore[] = " No store was made.";
@@ -21,7 +21,8 @@ std::string LinesSum::text() const { return sum_text(XXH64_digest(&state_)); }
 // --- writing
 
 std::string DumpText::head(const Head &head) {
-    const std::string text = std::string(kWelcome) + "#@ dump " + kVersion + " page-size " + std::to_string(head.page_size) + " batches " +
+    const char *form = head.heap_length > 0 ? kWithLongValues : kPlain;
+    const std::string text = std::string(kWelcome) + "#@ dump " + form + " page-size " + std::to_string(head.page_size) + " batches " +
                              std::to_string(head.receipts) + "\n";
     sum_.add(text);
     return text;
@@ -32,13 +33,13 @@ std::string DumpText::from_text(std::uint64_t root) const {
     return batch == batch_of_root_.end() ? page_text(root) : "@" + std::to_string(batch->second);
 }
 
-std::string DumpText::batch(const Receipt &receipt, const Batch &batch) {
+std::string DumpText::batch(const Receipt &receipt, const Batch &batch, const florinwick::HeapView &heap) {
     const auto number = [](const char *name, std::uint64_t value) { return std::string(name) + std::to_string(value); };
     const std::string note = number("#@ batch ", batch.number) + " from " + from_text(receipt.from) + number(" time ", receipt.time) +
                              number(" datoms ", receipt.datoms) + number(" pages ", receipt.pages) + number(" root ", receipt.root) +
                              " sum " + (receipt.is_upgraded() ? kNoSum : sum_text(receipt.datoms_sum)) + "\n";
     batch_of_root_[receipt.root] = batch.number;
-    const std::string text = note + batch_text(batch, Form::Text);
+    const std::string text = note + batch_text(batch, Form::Text, heap);
     sum_.add(text);
     return text;
 }
@@ -50,7 +51,7 @@ std::string DumpText::end() const { return "#@ end " + sum_.text() + "\n"; }
 DumpReader::DumpReader(const std::string &path) : path_(path), file_(path == "-" ? stdin : std::fopen(path.c_str(), "rb")) {
     if (file_ == nullptr) throw system_trouble(errno, "read", path);
     const std::vector<std::string> words = read_note({"dump", "page-size", "batches"});
-    if (words[0] != kVersion) {
+    if (words[0] != kPlain && words[0] != kWithLongValues) {
         throw Trouble{kOtherFormat, "OtherFormat",
                       name() + " is a dump of form " + words[0] + ", of a newer florin." + kNoStore, "use that florin."};
     }
@@ -75,7 +76,7 @@ bool DumpReader::next(DumpedBatch &dumped) {
     read_datoms(dumped.batch);
     const Batch &batch = dumped.batch;
     if (batch.datoms() != datoms) throw altered(batch, "it has " + counted(batch.datoms(), "datom") + ", and had " + grouped(datoms));
-    const std::string sum = sum_text(checksum(batch.bytes.data(), batch.bytes.size()));
+    const std::string sum = sum_text(batch.sum({}));
     if (words[6] != kNoSum && words[6] != sum) throw altered(batch, "its datoms have another checksum");
     read_ += 1;
     return true;
@@ -168,8 +169,8 @@ Trouble DumpReader::altered(const Batch &batch, const std::string &what) const {
 
 Trouble DumpReader::refused(const florinwick::Answer &answer, const Batch &batch) const {
     const bool of_datom = answer.carries() == florinwick::Carries::Index;
-    Trouble trouble = refusal(answer, of_datom ? batch.place_of(answer.detail) : "batch " + std::to_string(batch.number));
-    trouble.more.put_all(batch.place_json(of_datom ? answer.detail : batch.datoms()));
+    Trouble trouble = refusal(answer, of_datom ? batch.place_of(answer.detail, {}) : "batch " + std::to_string(batch.number));
+    trouble.more.put_all(batch.place_json(of_datom ? answer.detail : batch.datoms(), {}));
     trouble.what += kNoStore;
     return trouble;
 }

@@ -14,6 +14,7 @@
 // A line #@ has names and what they are. To florin insert it is a comment, so that takes a dump too, as the batches that it has.
 //   from   the batch whose root this one was inserted at, not the root's page: in a store with another page size that is another one. Only
 //          where no batch led to it, as florin 0.1 allowed, it is the page.
+//   dump   the form: 2 where there are long values, which stand in their lines as all others; a florin before 0.5 refuses it by name
 //   sum    checksum of the datoms, as florin roots shows it; - where the store has none
 //   end    checksum of all lines before it. A dump without it was cut off.
 #ifndef FLORIN_DUMP_TEXT_H
@@ -48,7 +49,7 @@ private:
 class DumpText {
 public:
     std::string head(const Head &head);
-    std::string batch(const Receipt &receipt, const Batch &batch);
+    std::string batch(const Receipt &receipt, const Batch &batch, const florinwick::HeapView &heap);
     std::string end() const;
 
 private:

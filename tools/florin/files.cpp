@@ -133,21 +133,42 @@ void NewFile::keep() {
     sync_directory_of(path_);
 }
 
-// The place for all extents is taken first, so that each can be put where the one before ends.
-void Mapping::map(int file, const std::vector<Extent> &extents, Kind kind, bool may_write, const std::string &path) {
-    unmap();
+namespace {
+
+std::uint64_t bytes_of(const std::vector<Extent> &extents, Kind kind) {
     std::uint64_t size = 0;
     for (const Extent &extent : extents) size += extent.kind == kind ? extent.length : 0;
+    return size;
+}
+
+}  // namespace
+
+void Mapping::map(int file, const std::vector<Extent> &extents, Kind kind, bool may_write, const std::string &path) {
+    unmap();
+    reserve(bytes_of(extents, kind), PROT_NONE, path);
+    map_extents(file, extents, kind, may_write ? PROT_READ | PROT_WRITE : PROT_READ, MAP_SHARED, path);
+}
+
+void Mapping::map_aside(int file, const std::vector<Extent> &extents, Kind kind, std::uint64_t room, const std::string &path) {
+    unmap();
+    reserve(bytes_of(extents, kind) + room, PROT_READ | PROT_WRITE, path);
+    map_extents(file, extents, kind, PROT_READ | PROT_WRITE, MAP_PRIVATE, path);
+}
+
+// The place for all extents is taken first, so that each can be put where the one before ends.
+void Mapping::reserve(std::uint64_t size, int protection, const std::string &path) {
     if (size == 0) return;
-    void *const place = mmap(nullptr, size, PROT_NONE, MAP_PRIVATE | MAP_ANONYMOUS | MAP_NORESERVE, -1, 0);
+    void *const place = mmap(nullptr, size, protection, MAP_PRIVATE | MAP_ANONYMOUS | MAP_NORESERVE, -1, 0);
     if (place == MAP_FAILED) throw system_trouble(errno, "map", path);
     data_ = static_cast<std::uint8_t *>(place);
     size_ = size;
+}
+
+void Mapping::map_extents(int file, const std::vector<Extent> &extents, Kind kind, int protection, int sharing, const std::string &path) {
     std::uint64_t at = 0;
     for (const Extent &extent : extents) {
         if (extent.kind != kind) continue;
-        const int protection = may_write ? PROT_READ | PROT_WRITE : PROT_READ;
-        void *const mapped = mmap(data_ + at, extent.length, protection, MAP_SHARED | MAP_FIXED, file, static_cast<off_t>(extent.offset));
+        void *const mapped = mmap(data_ + at, extent.length, protection, sharing | MAP_FIXED, file, static_cast<off_t>(extent.offset));
         if (mapped == MAP_FAILED) throw system_trouble(errno, "map", path);
         at += extent.length;
     }

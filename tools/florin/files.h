@@ -57,10 +57,14 @@ public:
     Mapping &operator=(const Mapping &) = delete;
 
     void map(int file, const std::vector<Extent> &extents, Kind kind, bool may_write, const std::string &path);
+    // To be written to in memory alone, with so many bytes of memory behind the extents. Nothing of it comes into the file.
+    void map_aside(int file, const std::vector<Extent> &extents, Kind kind, std::uint64_t room, const std::string &path);
     std::uint8_t *data() const { return data_; }
     std::uint64_t size() const { return size_; }
 
 private:
+    void reserve(std::uint64_t size, int protection, const std::string &path);
+    void map_extents(int file, const std::vector<Extent> &extents, Kind kind, int protection, int sharing, const std::string &path);
     void unmap();
 
     std::uint8_t *data_ = nullptr;

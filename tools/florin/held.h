@@ -9,7 +9,7 @@
 
 namespace florin {
 
-// Their indices, ascending. Throws Trouble where the library refuses to say: a page that cannot be read, a batch that is no batch.
+// Their indices, ascending. The batch's long values are on the reader's heap already. Throws Trouble where the library refuses to say: a page that cannot be read, a batch that is no batch.
 std::vector<std::uint64_t> missing_of(const florinwick::Reader &reader, std::uint64_t root, const Batch &batch);
 
 }  // namespace florin

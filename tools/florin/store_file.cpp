@@ -8,6 +8,8 @@
 #include <chrono>
 #include <cstring>
 #include <ctime>
+#include <functional>
+#include <tuple>
 
 #include <fcntl.h>
 #include <sys/file.h>
@@ -19,11 +21,14 @@ using florinwick::Answer;
 using florinwick::ByteArea;
 using florinwick::ByteView;
 using florinwick::Datom;
+using florinwick::HeapView;
 using florinwick::Number;
+using florinwick::Put;
 
 namespace {
 
 const std::uint64_t kLeastGrowth = 256 * 1024;
+const std::uint64_t kLeastHeapGrowth = 16 * 1024;
 
 Trouble not_a_store(const std::string &path, const std::string &why) {
     return {kNotAStore, "NotAStore", path + " is no store of florin: " + why + ".", "name a file that florin create has made."};
@@ -59,21 +64,33 @@ Slots read_slots(int file, const std::string &path) {
 }
 
 // Ascending, as the checksum of a batch takes its datoms.
-std::vector<std::uint8_t> sorted_batch(ByteView batch) {
+Batch sorted(const Batch &batch, const HeapView &heap) {
     std::vector<Datom> datoms;
-    for (std::size_t at = 0; at + Datom::size <= batch.size(); at += Datom::size) datoms.push_back(Datom::read(batch.data() + at));
-    std::sort(datoms.begin(), datoms.end());
-    std::vector<std::uint8_t> bytes(datoms.size() * Datom::size);
-    for (std::size_t i = 0; i < datoms.size(); ++i) datoms[i].write(bytes.data() + i * Datom::size);
-    return bytes;
+    for (std::uint64_t at = 0; at < batch.datoms(); ++at) datoms.push_back(batch.datom(at));
+    std::sort(datoms.begin(), datoms.end(), florinwick::ByContent{heap});
+    Batch by_content;
+    for (const Datom &datom : datoms) by_content.add(datom);
+    return by_content;
+}
+
+// The datoms of a batch that have long values, in the tree's order. So the same batch, however it is sorted, leaves the same heap.
+std::vector<std::uint64_t> in_order_of_values(const Batch &batch) {
+    std::vector<std::uint64_t> datoms;
+    for (const auto &each : batch.long_values) datoms.push_back(each.first);
+    const auto key = [&](std::uint64_t at) {
+        const Datom datom = batch.datom(at);
+        return std::make_tuple(datom.entity, datom.attribute, std::cref(batch.long_values.at(at)), datom.transaction_operation);
+    };
+    std::sort(datoms.begin(), datoms.end(), [&](std::uint64_t a, std::uint64_t b) { return key(a) < key(b); });
+    return datoms;
 }
 
 }  // namespace
 
 // --- a new store
 
-Answer StoreFile::create(const std::string &path, std::uint64_t page_size, std::uint64_t room_pages, std::optional<ByteView> first) {
-    return build(path, page_size, room_pages, [&](StoreFile &store) { return first ? store.initialise(*first) : Answer{}; });
+Answer StoreFile::create(const std::string &path, std::uint64_t page_size, std::uint64_t room_pages, Batch &first) {
+    return build(path, page_size, room_pages, [&](StoreFile &store) { return first.bytes.empty() ? Answer{} : store.initialise(first); });
 }
 
 Answer StoreFile::build(const std::string &path, std::uint64_t page_size, std::uint64_t room_pages,
@@ -83,7 +100,7 @@ Answer StoreFile::build(const std::string &path, std::uint64_t page_size, std::u
     NewFile file(path);
     StoreFile store(path, file.file());
     store.head_.page_size = page_size;
-    store.add_extents(rounded_up(room_pages * page_size), rounded_up(room_pages * kSumBytes), kBlock);
+    store.add_extents({rounded_up(room_pages * page_size), rounded_up(room_pages * kSumBytes), kBlock, 0});
     if (const int error = reserve(file.file(), store.head_.end())) throw system_trouble(error, "reserve room for", path);
     store.map(true);
     const Answer answer = fill(store);
@@ -95,10 +112,11 @@ Answer StoreFile::build(const std::string &path, std::uint64_t page_size, std::u
     return answer;
 }
 
-void write_store(const std::string &path, Head head, ByteView pages, ByteView sums, ByteView receipts) {
+void write_store(const std::string &path, Head head, const StoreParts &given) {
     NewFile file(path);
     head.extents.clear();
-    const std::pair<Kind, ByteView> parts[] = {{Kind::Receipts, receipts}, {Kind::Sums, sums}, {Kind::Pages, pages}};
+    const std::pair<Kind, ByteView> parts[] = {
+        {Kind::Receipts, given.receipts}, {Kind::Sums, given.sums}, {Kind::Heap, given.heap}, {Kind::Pages, given.pages}};
     for (const auto &part : parts) head.append(part.first, rounded_up(part.second.size()));
     if (const int error = reserve(file.file(), head.end())) throw system_trouble(error, "reserve room for", path);
     std::uint64_t at = kHeadsBytes;
@@ -121,8 +139,15 @@ void StoreFile::copy_to(const std::string &path) const {
         throw Trouble{kAltered, "Altered", "page " + std::to_string(at) + " of " + path_ + " is not as it was written. No copy was made.",
                       "run florin check --all, and restore the file from an older backup; cp copies the file as it is.", {{"page", at}}};
     }
-    write_store(path, head_, pages(), {sums_.data(), static_cast<std::size_t>(kSumBytes * head_.page_count)},
-                {receipts_.data(), static_cast<std::size_t>(kReceiptBytes * head_.receipts)});
+    if (const std::uint64_t batch = heap_parts().first_altered()) {
+        throw Trouble{kAltered, "Altered",
+                      "the long values of batch @" + std::to_string(batch) + " of " + path_ + " are not as they were written. No copy was made.",
+                      "run florin check --all, and restore the file from an older backup; cp copies the file as it is.", {{"receipt", batch}}};
+    }
+    write_store(path, head_,
+                {pages(), {sums_.data(), static_cast<std::size_t>(kSumBytes * head_.page_count)},
+                 {receipts_.data(), static_cast<std::size_t>(kReceiptBytes * head_.receipts)},
+                 {heap_.data(), static_cast<std::size_t>(head_.heap_length)}});
 }
 
 // --- opening
@@ -171,6 +196,7 @@ void StoreFile::load_head() {
     if (!slots.first && !slots.second) throw bad_head(path_, "neither of its two slots is valid");
     head_ = !slots.second || (slots.first && slots.first->sequence > slots.second->sequence) ? *slots.first : *slots.second;
     broken_slot_ = !(slots.first && slots.second);
+    heap_end_ = head_.heap_length;
     // The checksum was right, and yet the head may have been made by another program.
     if (const std::string news = news_of(head_); !news.empty()) {
         throw other_format(path_ + " was made by a newer florin: it has " + news + ". It was left as it is.", "use that florin.");
@@ -184,6 +210,7 @@ void StoreFile::map(bool may_write) {
     pages_.map(file_, head_.extents, Kind::Pages, may_write, path_);
     sums_.map(file_, head_.extents, Kind::Sums, may_write, path_);
     receipts_.map(file_, head_.extents, Kind::Receipts, may_write, path_);
+    heap_.map(file_, head_.extents, Kind::Heap, may_write, path_);
     if (may_write) scratch_.resize(florinwick_scratch_need(head_.page_size));
 }
 
@@ -205,7 +232,7 @@ bool StoreFile::are_receipts_whole() const {
         chain = chain_of(at);
         last = receipt;
     }
-    return chain == head_.chain && last.root == head_.root() && last.page_count == head_.page_count;
+    return chain == head_.chain && last.root == head_.root() && last.page_count == head_.page_count && last.heap_length == head_.heap_length;
 }
 
 // --- what there is
@@ -252,23 +279,28 @@ std::uint64_t StoreFile::free_pages() const { return lent().size() / head_.page_
 
 bool StoreFile::has_place_for_receipt() const { return receipts_.size() / kReceiptBytes > head_.receipts; }
 
-Answer StoreFile::insert(std::uint64_t root, ByteView batch, const Terms &terms) {
-    const auto call = [&](florinwick::Store &tree) { return tree.insert_at(root, batch); };
+Answer StoreFile::insert(std::uint64_t root, Batch &batch, const Terms &terms) {
+    const Answer put = put_values(batch, terms.may_grow);
+    if (!put.done()) return {put.number, root};
+    const auto call = [&](florinwick::Store &tree) { return tree.insert_at(root, batch.bytes); };
     return write_tree(call, root, batch, terms);
 }
 
-Answer StoreFile::initialise(ByteView batch) {
-    const auto call = [&](florinwick::Store &tree) { return tree.initialise(batch); };
+Answer StoreFile::initialise(Batch &batch) {
+    const Answer put = put_values(batch, true);
+    if (!put.done()) return put;
+    const auto call = [&](florinwick::Store &tree) { return tree.initialise(batch.bytes); };
     return write_tree(call, florinwick::none, batch, Terms{});
 }
 
 template <class Call>
-Answer StoreFile::write_tree(Call call, std::uint64_t from, ByteView batch, const Terms &terms) {
-    florinwick::Store tree(lent(), head_.page_size, ByteArea(scratch_), head_.page_count, head_.root());
+Answer StoreFile::write_tree(Call call, std::uint64_t from, const Batch &batch, const Terms &terms) {
+    florinwick::Store tree(lent(), heap_lent(), record(), ByteArea(scratch_), head_.root());
     Answer answer = call(tree);
     while (answer.number == Number::NoRoom && terms.may_grow) {
         grow();
         tree.lend(lent());
+        tree.lend_heap(heap_lent());
         answer = call(tree);
     }
     // An empty batch at root none writes no page, and there is nothing to keep.
@@ -276,23 +308,33 @@ Answer StoreFile::write_tree(Call call, std::uint64_t from, ByteView batch, cons
     return answer;
 }
 
-void StoreFile::commit(const Answer &answer, std::uint64_t from, ByteView batch, const Terms &terms) {
-    const std::vector<std::uint8_t> datoms = sorted_batch(batch);
+void StoreFile::commit(const Answer &answer, std::uint64_t from, const Batch &batch, const Terms &terms) {
+    const florinwick::StoreRecord next = record_after(record(), answer);
     Receipt receipt;
     receipt.from = from;
     receipt.root = answer.root;
     receipt.pages = answer.pages;
-    receipt.page_count = head_.page_count + answer.pages;
-    receipt.datoms = datoms.size() / Datom::size;
+    receipt.page_count = next.page_count;
+    receipt.datoms = batch.datoms();
     receipt.time = terms.time ? *terms.time : static_cast<std::uint64_t>(std::time(nullptr));
     receipt.flags = terms.flags;
-    receipt.datoms_sum = checksum(datoms.data(), datoms.size());
+    receipt.datoms_sum = sorted(batch, heap()).sum(heap());
     receipt.pages_sum = put_sums(head_.page_count, answer.pages);
+    receipt.heap_length = next.heap_length;
+    receipt.heap_sum = sum_of_constants();
     put_receipt(receipt);
     head_.page_count = receipt.page_count;
+    head_.heap_length = receipt.heap_length;
     head_.roots[0] = receipt.root;
     settle();
     write_head();
+    keep_constants();
+}
+
+// Of those past the heap length that counts.
+std::uint64_t StoreFile::sum_of_constants() const {
+    if (heap_end_ == head_.heap_length) return 0;
+    return checksum(heap_.data() + head_.heap_length, static_cast<std::size_t>(heap_end_ - head_.heap_length));
 }
 
 // Of pages past the count; gives the checksum of them all.
@@ -322,28 +364,41 @@ void StoreFile::settle() {
     if (owns_file_) sync(file_, path_);
 }
 
-// What there is too little of, by half; where the disk has not so much, by less: what the batch needs may be a page.
 void StoreFile::grow() {
+    const bool pages = has_place_for_receipt();
+    const std::uint64_t least = rounded_up(pages ? head_.page_size : kReceiptBytes), half = rounded_up((pages ? pages_ : receipts_).size() / 2);
+    grow_by(least, std::max(half, pages ? kLeastGrowth : least),
+            [&](std::uint64_t more) { return pages ? Growth{more, 0, 0, 0} : Growth{0, 0, more, 0}; });
+}
+
+void StoreFile::grow_heap(std::uint64_t need) {
+    const std::uint64_t least = rounded_up(need);
+    grow_by(least, std::max({rounded_up(heap_.size() / 2), kLeastHeapGrowth, least}), [](std::uint64_t more) { return Growth{0, 0, 0, more}; });
+}
+
+// What there is too little of, by half; where the disk has not so much, by less: what the batch needs may be a page.
+template <class GrowthOf>
+void StoreFile::grow_by(std::uint64_t least, std::uint64_t wanted, GrowthOf growth_of) {
     if (head_.extents.size() + 2 > kMostExtents) {
         throw Trouble{kNoSpace, "NoSpace", path_ + " has grown too often by small parts. Root and pages are as they were.",
                       "florin backup makes a copy of it in few parts; go on with that."};
     }
-    const bool pages = has_place_for_receipt();
-    const std::uint64_t least = rounded_up(pages ? head_.page_size : kReceiptBytes), half = rounded_up((pages ? pages_ : receipts_).size() / 2);
     int error = 0;
-    for (std::uint64_t more : {std::max(half, pages ? kLeastGrowth : least), 64 * least, 16 * least, 4 * least, least}) {
-        error = extend(pages ? more : 0, pages ? 0 : more);
+    for (std::uint64_t more : {wanted, 64 * least, 16 * least, 4 * least, least}) {
+        if (more > wanted) continue;
+        error = extend(growth_of(more));
         if (error == 0) return;
     }
     throw system_trouble(error, "enlarge", path_);
 }
 
 // The error where the disk, or a limit, has not so much; the file is then as it was.
-int StoreFile::extend(std::uint64_t more_pages, std::uint64_t more_receipts) {
+int StoreFile::extend(Growth growth) {
     const std::uint64_t size = size_of(file_, path_);
     const Head before = head_;
-    const std::uint64_t capacity = (pages_.size() + more_pages) / head_.page_size * kSumBytes;
-    add_extents(more_pages, capacity > sums_.size() ? rounded_up(capacity - sums_.size()) : 0, more_receipts);
+    const std::uint64_t capacity = (pages_.size() + growth.pages) / head_.page_size * kSumBytes;
+    growth.sums = capacity > sums_.size() ? rounded_up(capacity - sums_.size()) : 0;
+    add_extents(growth);
     const int error = head_.end() > kLargestFile ? EFBIG : reserve(file_, head_.end());
     if (error == 0) {
         map(true);
@@ -357,10 +412,88 @@ int StoreFile::extend(std::uint64_t more_pages, std::uint64_t more_receipts) {
 }
 
 // Pages last, so that a file which has to grow by little grows by more of the same extent.
-void StoreFile::add_extents(std::uint64_t pages, std::uint64_t sums, std::uint64_t receipts) {
-    head_.append(Kind::Receipts, receipts);
-    head_.append(Kind::Sums, sums);
-    head_.append(Kind::Pages, pages);
+void StoreFile::add_extents(const Growth &growth) {
+    head_.append(Kind::Receipts, growth.receipts);
+    head_.append(Kind::Sums, growth.sums);
+    head_.append(Kind::Heap, growth.heap);
+    head_.append(Kind::Pages, growth.pages);
+}
+
+// --- long values
+
+// Those of a batch before that was refused do not count, and give way.
+Answer StoreFile::put_values(Batch &batch, bool may_grow) {
+    fresh_.clear();
+    heap_end_ = head_.heap_length;
+    if (batch.long_values.empty()) return {};
+    know_constants();
+    for (std::uint64_t at : in_order_of_values(batch)) {
+        const Put put = put_value(batch.long_values.at(at), may_grow);
+        if (!put.done()) return {put.number};
+        batch.set_value(at, put.value);
+    }
+    // The disk has the constants before it has a page that names them.
+    if (heap_end_ > head_.heap_length) settle();
+    return {};
+}
+
+Put StoreFile::put_value(const LongValue &value, bool may_grow) {
+    for (const ConstantIndex *index : {&known_, &fresh_}) {
+        if (const auto found = index->find(heap(), value)) return {Number::Done, *found, 0};
+    }
+    Put put = append(value);
+    if (put.number == Number::HeapFull && may_grow) {
+        grow_heap(constant_of(value).size());
+        put = append(value);
+    }
+    if (put.done()) fresh_.add(heap(), put.value);
+    return put;
+}
+
+Put StoreFile::append(const LongValue &value) {
+    florinwick::StoreRecord next = record();
+    const Put put = std::visit([&](const auto &content) { return florinwick::put(heap_lent(), next, content); }, value);
+    heap_end_ = next.heap_length;
+    return put;
+}
+
+// What was altered is not named again.
+void StoreFile::know_constants() {
+    if (knows_constants_) return;
+    const HeapParts parts = heap_parts();
+    for (std::uint64_t batch = 1; batch <= head_.receipts; ++batch) {
+        if (!parts.is_altered(batch)) known_.add_part(heap(), parts.begin_of(batch), parts.end_of(batch));
+    }
+    knows_constants_ = true;
+}
+
+void StoreFile::keep_constants() {
+    known_.add_all(fresh_);
+    fresh_.clear();
+}
+
+void StoreFile::put_aside(Batch &batch) {
+    heap_end_ = head_.heap_length;
+    for (const auto &[at, value] : batch.long_values) batch.set_value(at, put_aside({batch.datom(at), value}).value);
+}
+
+Datom StoreFile::put_aside(const TypedDatom &bound) {
+    Datom datom = bound.datom;
+    if (!bound.long_value) return datom;
+    const std::uint64_t need = constant_of(*bound.long_value).size();
+    if (!heap_is_aside_ || heap_.size() - heap_end_ < need) make_room_aside(need);
+    const Put put = append(*bound.long_value);
+    if (!put.done()) throw refusal({put.number}, "");
+    datom.value = put.value;
+    return datom;
+}
+
+// What was put aside before comes along.
+void StoreFile::make_room_aside(std::uint64_t need) {
+    const std::vector<std::uint8_t> before(heap_.data() + head_.heap_length, heap_.data() + heap_end_);
+    heap_.map_aside(file_, head_.extents, Kind::Heap, rounded_up(2 * before.size() + need), path_);
+    std::copy(before.begin(), before.end(), heap_.data() + head_.heap_length);
+    heap_is_aside_ = true;
 }
 
 }  // namespace florin

@@ -83,7 +83,6 @@ std::optional<Head> decode_head(const std::uint8_t *slot) {
 std::string news_of(const Head &head) {
     if (head.order != 0) return "another order";
     if (head.parties != 1 || head.allowances[0] != 0 || head.allowances[1] != 0 || head.roots[1] != florinwick::none) return "two parties";
-    if (head.heap_length != 0) return "long values";
     for (const Extent &extent : head.extents) {
         if (static_cast<std::uint64_t>(extent.kind) >= kKinds) return "a part of an unknown kind";
     }
@@ -121,6 +120,10 @@ std::string fault_of(const Head &head, std::uint64_t file_size) {
     if (head.receipts > head.bytes_of(Kind::Receipts) / kReceiptBytes) {
         return "it counts " + grouped(head.receipts) + " receipts, more than the file holds";
     }
+    if (head.heap_length > head.bytes_of(Kind::Heap)) {
+        return "it counts " + grouped(head.heap_length) + " bytes of long values, more than the file holds";
+    }
+    if (head.heap_length % 8 != 0) return "its long values have " + grouped(head.heap_length) + " bytes, no multiple of 8";
     if (head.root() != florinwick::none && head.root() >= head.page_count) {
         return "its root is page " + std::to_string(head.root()) + " of " + grouped(head.page_count);
     }
@@ -130,14 +133,16 @@ std::string fault_of(const Head &head, std::uint64_t file_size) {
 namespace {
 
 constexpr int kReceiptWords = 15;   // the checksum is the sixteenth
-constexpr int kChainAt = 11;        // which word has the checksum of the receipt before; those behind it are zero
+constexpr int kChainAt = 11;        // which word has the checksum of the receipt before
+constexpr int kHeapSumAt = 12;      // and which that of the constants; those behind it are zero
 
 }  // namespace
 
 void encode_receipt(const Receipt &receipt, std::uint64_t chain_before, std::uint8_t *at) {
     const std::uint64_t words[kReceiptWords] = {receipt.from,  receipt.root,       receipt.pages,     receipt.page_count,
                                                 receipt.datoms, receipt.time,      receipt.flags,     receipt.datoms_sum,
-                                                receipt.pages_sum, receipt.party, receipt.heap_length, chain_before};
+                                                receipt.pages_sum, receipt.party, receipt.heap_length, chain_before,
+                                                receipt.heap_sum};
     for (int i = 0; i < kReceiptWords; ++i) put_word(at + 8 * i, words[i]);
     put_word(at + 8 * kReceiptWords, checksum(at, 8 * kReceiptWords));
 }
@@ -148,6 +153,7 @@ Receipt decode_receipt(const std::uint8_t *at) {
                                             &receipt.datoms,    &receipt.time,  &receipt.flags,      &receipt.datoms_sum,
                                             &receipt.pages_sum, &receipt.party, &receipt.heap_length};
     for (int i = 0; i < kChainAt; ++i) *words[i] = word_at(at, i);
+    receipt.heap_sum = word_at(at, kHeapSumAt);
     return receipt;
 }
 
@@ -159,7 +165,8 @@ bool follows(const std::uint8_t *at, std::uint64_t chain_before) {
 
 bool may_follow(const Receipt &receipt, const Receipt &before) {
     const std::uint64_t pages = receipt.page_count - before.page_count;
-    return receipt.page_count > before.page_count && receipt.pages == pages && receipt.root >= before.page_count && receipt.root < receipt.page_count;
+    return receipt.page_count > before.page_count && receipt.pages == pages && receipt.root >= before.page_count &&
+           receipt.root < receipt.page_count && receipt.heap_length >= before.heap_length && receipt.heap_length % 8 == 0;
 }
 
 }  // namespace florin

@@ -6,7 +6,7 @@
 //                   pages      page p is at p * page size of the extents of its kind put together
 //                   sums       a checksum of 8 bytes for each page
 //                   receipts   one of 128 bytes for each batch that is in
-//                   heap       long values; this florin makes none
+//                   heap       long values: the library's heap is the extents of this kind put together. None while there are none
 //
 // The head names the extents and says how much of each kind counts. What counts is never written again and never moves: the file grows
 // by further extents at its end. So whoever has read a head has a whole store as of that head, be it a reader beside a feed or a copy
@@ -14,7 +14,14 @@
 //
 // A head is a slot's first words: the mark, then what struct Head has in its order, then the number of extents, two words that are zero,
 // and two words for each extent: its offset, and its length plus its kind. The rest is zero up to the checksum in the slot's last word.
-// Heap, order, parties, allowances and the second root are for stores that this florin does not make: it refuses them.
+// Order, parties, allowances and the second root are for stores that this florin does not make: it refuses them.
+//
+// A receipt is what struct Receipt has in its order, but for the checksum of its constants: the first eleven words, the checksum of the
+// receipt before, the checksum of the constants, two words that are zero, and the checksum of all these words.
+//
+// Constants lie on the heap one behind the other, as the library appended them, and a batch's lie together: from the heap length of the
+// receipt before it up to its own. So every byte of the heap that counts has the checksum of one receipt. A batch without new constants has
+// 0 there, so a store without long values is one of florin 0.2 to 0.4 too; those refuse a store with any by name.
 #ifndef FLORIN_STORE_FORMAT_H
 #define FLORIN_STORE_FORMAT_H
 
@@ -50,7 +57,7 @@ struct Head {
     std::uint64_t sequence = 0;
     std::uint64_t page_size = 0;
     std::uint64_t page_count = 0;
-    std::uint64_t heap_length = 0;
+    std::uint64_t heap_length = 0;                                   // in bytes, a multiple of 8
     std::uint64_t order = 0;
     std::uint64_t parties = 1;
     std::uint64_t allowances[2] = {0, 0};
@@ -79,10 +86,11 @@ struct Receipt {
     std::uint64_t datoms = 0;
     std::uint64_t time = 0;                  // seconds since 1970
     std::uint64_t flags = 0;
-    std::uint64_t datoms_sum = 0;            // checksum of the batch, ascending, as bytes
+    std::uint64_t datoms_sum = 0;            // checksum of the batch, ascending, as bytes; long_values.h says how of long ones
     std::uint64_t pages_sum = 0;             // checksum of the checksums of the pages written
     std::uint64_t party = 0;
     std::uint64_t heap_length = 0;           // afterwards
+    std::uint64_t heap_sum = 0;              // checksum of the constants that it appended; 0 for none
 
     bool went_back() const { return (flags & kBack) != 0; }
     bool is_upgraded() const { return (flags & kUpgraded) != 0; }
@@ -103,7 +111,7 @@ Receipt decode_receipt(const std::uint8_t *at);
 // Each receipt has the checksum of the one before, so none can be changed, left out or moved.
 std::uint64_t chain_of(const std::uint8_t *at);
 bool follows(const std::uint8_t *at, std::uint64_t chain_before);
-// A batch writes a page at least, and its root is one of those that it writes.
+// A batch writes a page at least, and its root is one of those that it writes. The heap does not get shorter.
 bool may_follow(const Receipt &receipt, const Receipt &before);
 
 constexpr std::uint64_t rounded_up(std::uint64_t bytes) { return (bytes + kBlock - 1) / kBlock * kBlock; }

@@ -53,10 +53,10 @@ void add_run(std::vector<Row> &rows, unsigned from, unsigned length) {
 
 }  // namespace
 
-void Widths::take(const florinwick::Datom &datom) {
+void Widths::take(const florinwick::Datom &datom, const florinwick::HeapView &heap) {
     entity = std::max(entity, std::to_string(datom.entity).size());
     attribute = std::max(attribute, std::to_string(datom.attribute).size());
-    value = std::max(value, value_text(datom.value).size());
+    value = std::max(value, short_value_text(datom.value, heap, Measure::value).size());
     transaction = std::max(transaction, std::to_string(datom.transaction()).size());
 }
 
@@ -89,7 +89,7 @@ std::size_t Layout::build(const PageView &page) {
     const std::size_t at = cards_.size();
     cards_.push_back({page, styles_[page.level()], {}, {}, {}});
     if (cards_[at].style == Style::Full) choose_rows(cards_[at]);
-    for (unsigned i = 0; i < page.count(); ++i) widths_.take(page.datom(i));
+    for (unsigned i = 0; i < page.count(); ++i) widths_.take(page.datom(i), subject_.reader.heap());
     for (unsigned i = 0; i <= page.count(); ++i) {
         if (!page.has_child(i)) continue;
         const auto child = subject_.child(page, i);

@@ -18,6 +18,7 @@ struct Measure {
     static constexpr double pad = 8;
     static constexpr double strip = 20;         // height of a card that has one line only
     static constexpr double margin = 36;
+    static constexpr std::size_t value = 30;    // characters that are shown of one
     static constexpr double top = 154;          // where the columns begin
 };
 
@@ -50,7 +51,7 @@ struct Card {
 struct Widths {
     std::size_t entity = 1, attribute = 1, value = 1, transaction = 1;
 
-    void take(const florinwick::Datom &datom);
+    void take(const florinwick::Datom &datom, const florinwick::HeapView &heap);
     double entity_end() const { return Measure::pad + 8 + Measure::character * static_cast<double>(entity); }
     double attribute_end() const { return entity_end() + Measure::character * static_cast<double>(attribute + 2); }
     double value_start() const { return attribute_end() + 2 * Measure::character; }

@@ -63,8 +63,12 @@ Words words_of(Number number) {
         case Number::TooMany:
             return {"A batch has at most 128 datoms. Nothing was written.", "cut it into batches: a line --- after each, or --every 128."};
         case Number::BadDatom:
-            return {"Its value is neither an integer below 2^62 nor a string of at most 7 bytes. Nothing was written.",
-                    "correct that datom and send the batch again."};
+            return {"Its value is max, or a raw word that is no value. Nothing was written.", "correct that datom and send the batch again."};
+        case Number::BadConstant:
+            return {"Its value names a place on the heap of this store where no such value lies. Nothing was written.",
+                    "write long values as text: raw words and binary batches name those that lie in this very store."};
+        case Number::HeapFull:
+            return {"A long value does not fit into the file. Root and pages are as they were.", "leave out --no-grow, so that the file may grow."};
         case Number::OutOfOrder:
             return {"The datoms of a batch rise: by entity, attribute, value, transaction. Nothing was written.",
                     "put that datom in its place, or take it out if it stands there twice, and send the batch again."};
@@ -82,7 +86,7 @@ Words words_of(Number number) {
         case Number::NoRoom:
             return {"The next page does not fit into the file. Root and pages are as they were.", "leave out --no-grow, so that the file may grow."};
         case Number::BadBound:
-            return {"The value of a bound is neither an integer below 2^62, nor a string of at most 7 bytes, nor max.", "correct --from or --to."};
+            return {"The value of a bound is a raw word that is no value in this store.", "correct --from or --to."};
         case Number::Unsound:
             return {"It is the first page with a fault that the check met.",
                     "restore the file from a backup; florin check --all says which roots are sound."};
@@ -128,9 +132,10 @@ Trouble refusal(const Answer &answer, const std::string &place) {
 
 std::string statuses_text() {
     return "Exit status: 0 done. The library's numbers: BadStore 1, TooMany 2, BadDatom 3, OutOfOrder 4,\n"
-           "NoPage 5, Repeated 6, Damaged 7, TooTall 8, NoRoom 9, BadBound 10, Unsound 33. Of florin: Usage 64,\n"
-           "BadText 65, NoInput 66, NotAStore 67, BadHead 68, CutShort 69, Exists 70, NoSpace 71, NotPermitted 72,\n"
-           "Busy 73, System 74, Altered 75, OtherFormat 76, NotClosed 77, NotARoot 78.\n";
+           "NoPage 5, Repeated 6, Damaged 7, TooTall 8, NoRoom 9, BadBound 10, BadConstant 11, HeapFull 12,\n"
+           "Unsound 33. Of florin: Usage 64, BadText 65, NoInput 66, NotAStore 67, BadHead 68, CutShort 69,\n"
+           "Exists 70, NoSpace 71, NotPermitted 72, Busy 73, System 74, Altered 75, OtherFormat 76, NotClosed 77,\n"
+           "NotARoot 78.\n";
 }
 
 namespace {

@@ -10,7 +10,7 @@
 
 namespace florin {
 
-// Exit statuses besides those of the library, which are its numbers: 1 to 10, and 33 for Unsound.
+// Exit statuses besides those of the library, which are its numbers: 1 to 12, and 33 for Unsound.
 enum Status {
     kDone = 0,
     kUsage = 64,         // wrong words on the command line
@@ -24,7 +24,7 @@ enum Status {
     kNotPermitted = 72,  // a file that may not be written or read
     kBusy = 73,          // a store that another process writes to
     kSystem = 74,        // anything else that the system refuses
-    kAltered = 75,       // a page that is not as it was written
+    kAltered = 75,       // a page or a long value that is not as it was written
     kOtherFormat = 76,   // a store of an older or a newer florin
     kNotClosed = 77,     // an input that ends within a batch
     kNotARoot = 78,      // a root that no receipt gave, or an older one without a word that it is meant

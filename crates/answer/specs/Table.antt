@@ -2,9 +2,11 @@
 use Prim.Native.Nat.{ℕ}
 use Rattle.store.specs.declared.PageId.{PageId}
 use Rattle.answer.specs.declared.Refusal.{Refusal}
-use Rattle.answer.specs.declared.Refusal.the-variants.{BadStore, TooMany, BadDatom, OutOfOrder, NoPage, Repeated, Damaged, TooTall, NoRoom, BadBound, NotHeld}
+use Rattle.answer.specs.declared.Refusal.the-variants.{BadStore, TooMany, BadDatom, OutOfOrder, NoPage, Repeated, Damaged, TooTall, NoRoom, BadBound, BadConstant, HeapFull, NotHeld}
 use Rattle.answer.specs.declared.Answer.{Answer}
 use Rattle.answer.specs.declared.Answer.the-variants as answer
+use Rattle.answer.specs.declared.Append.{Append}
+use Rattle.answer.specs.declared.Append.the-variants as append
 use Rattle.answer.specs.declared.Held.{Held}
 use Rattle.answer.specs.declared.Held.the-variants as held
 use Rattle.answer.specs.declared.Fetch.{Fetch}
@@ -29,6 +31,9 @@ numberOf (Damaged p f) = 7
 numberOf TooTall = 8
 numberOf NoRoom = 9
 numberOf BadBound = 10
+-- document 02, Two: "11 BadConstant(i) .. 12 HeapFull"
+numberOf (BadConstant i) = 11
+numberOf HeapFull = 12
 -- document 02, Ten: "16 NotHeld(i)"
 numberOf (NotHeld i) = 16
 
@@ -44,6 +49,8 @@ detailOf (Damaged p f) = p .0
 detailOf TooTall = 0
 detailOf NoRoom = 0
 detailOf BadBound = 0
+detailOf (BadConstant i) = i
+detailOf HeapFull = 0
 detailOf (NotHeld i) = i
 
 -- the four words; the third is also a fault's number
@@ -82,6 +89,11 @@ plain number = record { number = number; root = 0; pages = 0; detail = 0 }
 abbrev pub heldWords : PageId → Held → Words
 heldWords given held.All = plain 0
 heldWords given (held.Refused r) = namedWords (given .0) r
+
+-- document 02, Two: the value "names an offset", and the caller's heap length grows by the bytes appended; both 0 if refused
+abbrev pub appendWords : Append → Words
+appendWords (append.Stored value bytes) = record { number = 0; root = value .0; pages = bytes; detail = 0 }
+appendWords (append.Refused r) = refusedWords 0 r
 
 abbrev pub fetchWords : Fetch → Words
 fetchWords fetch.Given = plain 0

@@ -1,5 +1,6 @@
 // What a call may answer. specs/Table.antt gives each case the number and the four words of document 01's table.
 use datom::Datom;
+use datom::Value;
 use store::PageId;
 ghost use mathlib.Core.Path.{_≡_};
 ghost use Rattle.answer.specs.Names.{ruleNumber, faultNumber, faultIn};
@@ -74,6 +75,8 @@ pub enum Refusal {
     TooTall,
     NoRoom,
     BadBound,
+    BadConstant(usize),
+    HeapFull,
     NotHeld(usize),
 }
 
@@ -92,6 +95,8 @@ impl Refusal {
             Refusal::TooTall => 8,
             Refusal::NoRoom => 9,
             Refusal::BadBound => 10,
+            Refusal::BadConstant(_) => 11,
+            Refusal::HeapFull => 12,
             Refusal::NotHeld(_) => 16,
         }
     }
@@ -104,6 +109,7 @@ impl Refusal {
             Refusal::BadDatom(i) => i as u64,
             Refusal::OutOfOrder(i) => i as u64,
             Refusal::Repeated(i) => i as u64,
+            Refusal::BadConstant(i) => i as u64,
             Refusal::NotHeld(i) => i as u64,
             Refusal::Damaged(p, _) => p.0,
             Refusal::BadStore => 0,
@@ -112,6 +118,7 @@ impl Refusal {
             Refusal::TooTall => 0,
             Refusal::NoRoom => 0,
             Refusal::BadBound => 0,
+            Refusal::HeapFull => 0,
         }
     }
 
@@ -130,6 +137,8 @@ impl Refusal {
             Refusal::TooTall => 0,
             Refusal::NoRoom => 0,
             Refusal::BadBound => 0,
+            Refusal::BadConstant(_) => 0,
+            Refusal::HeapFull => 0,
             Refusal::NotHeld(_) => 0,
         }
     }
@@ -144,6 +153,12 @@ pub enum Answer {
 // Of the call that asks whether a tree holds a batch: it holds all of it, or why not.
 pub enum Held {
     All,
+    Refused(Refusal),
+}
+
+// Of an append to the heap: the value that names the constant, and the bytes by which the heap has grown.
+pub enum Append {
+    Stored { value: Value, bytes: u64 },
     Refused(Refusal),
 }
 

@@ -11,7 +11,8 @@ use Rattle.datom.specs.declared.Datom.{Datom}
 use Rattle.datom.specs.Datom.{datomAt, datomOf, datomsOf}
 use Rattle.datom.specs.Laws.{datoms-from}
 use Rattle.index.specs.Order.{isLess}
-use Rattle.answer.specs.declared.Refusal.the-variants.{BadDatom, OutOfOrder}
+use Rattle.answer.specs.declared.Refusal.{Refusal}
+use Rattle.answer.specs.declared.Refusal.the-variants.{OutOfOrder}
 use Rattle.rules.specs.Lookup.{clear, found}
 use Rattle.rules.specs.Insert.{formFault, lowFault, orderFault}
 
@@ -19,16 +20,16 @@ abbrev D : Type 0
 D = List Datom
 
 -- at the head of a rest, and past the end
-module _ (ok : Datom → Bool) (i : ℕ) where
-  pub form-on : {l : D} {x : Datom} {r : D} → l ≡ x ∷ r → ok x ≡ true → formFault ok i l ≡ formFault ok (i + 1) r
+module _ (bad : ℕ → Refusal) (ok : Datom → Bool) (i : ℕ) where
+  pub form-on : {l : D} {x : Datom} {r : D} → l ≡ x ∷ r → ok x ≡ true → formFault bad ok i l ≡ formFault bad ok (i + 1) r
   unfolding formFault
   form-on e h = rw (e, formFault, h, add-one)
 
-  pub form-stop : {l : D} {x : Datom} {r : D} → l ≡ x ∷ r → ok x ≡ false → formFault ok i l ≡ found (BadDatom i)
+  pub form-stop : {l : D} {x : Datom} {r : D} → l ≡ x ∷ r → ok x ≡ false → formFault bad ok i l ≡ found (bad i)
   unfolding formFault
   form-stop e h = rw (e, formFault, h)
 
-  pub form-end : (n : ℕ) (b : List ℕ) → n ≤ i → formFault ok i (drop i (datomsOf n b)) ≡ clear
+  pub form-end : (n : ℕ) (b : List ℕ) → n ≤ i → formFault bad ok i (drop i (datomsOf n b)) ≡ clear
   unfolding formFault
   form-end n b h = rw (cells-end datomOf 32 n i b h)
 

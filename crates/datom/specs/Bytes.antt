@@ -13,7 +13,7 @@ use Rattle.store.specs.Words.{little, bytesOf}
 use Rattle.store.specs.Laws.{bytes-little, low-bytes}
 use Rattle.datom.specs.declared.Value.{Value}
 use Rattle.datom.specs.declared.Inline.the-variants.{Made, TooLarge}
-use Rattle.datom.specs.Value.{isInt, strLen, isStr, str, content, inlineStr}
+use Rattle.datom.specs.Value.{isInt, strLen, isStr, str, inlineContent, inlineStr}
 
 pub little-below : (n : ℕ) (s : List ℕ) → ((i : ℕ) → getD s i 0 < 256) → length s ≤ n → little s < 256 ^ n
 unfolding little
@@ -90,6 +90,6 @@ module _ (s : List ℕ) (bytes : (i : ℕ) → getD s i 0 < 256) (short : length
       low-bytes (length s) (7 - length s) (little s) (128 + length s) in
       ap (bytesOf (length s)) e ∙ rw k at w ∙ bytes-little s bytes
 
-  pub inline-content : content made ≡ str s
-  unfolding content
+  pub inline-content : inlineContent made ≡ str s
+  unfolding inlineContent
   inline-content = rw (no-int, is-str, long, same-bytes)

@@ -4,7 +4,7 @@ use mathlib.Core.Bool.{Bool}
 use mathlib.Core.List.{List, _++_}
 use Rattle.store.specs.Words.{bytesOf, wordAt, cells, spread}
 use Rattle.datom.specs.declared.Datom.{Datom}
-use Rattle.datom.specs.Value.{storedValue, boundValue}
+use Rattle.datom.specs.Value.{formedValue, storedValue, boundValue}
 
 -- "32 bytes: entity, attribute, value, transaction_operation, each 8 bytes little-endian."
 unfoldable pub datomAt : List ℕ → ℕ → Datom
@@ -31,11 +31,14 @@ abbrev pub datomsBytes : List Datom → List ℕ
 datomsBytes ds = spread datomBytes ds
 
 -- a datom is well formed if its value is; the other words may be anything
-unfoldable pub storedDatom : Datom → Bool
-storedDatom d = storedValue (d .value)
+unfoldable pub formedDatom : Datom → Bool
+formedDatom d = formedValue (d .value)
 
-unfoldable pub boundDatom : Datom → Bool
-boundDatom d = boundValue (d .value)
+unfoldable pub storedDatom : List ℕ → Datom → Bool
+storedDatom h d = storedValue h (d .value)
+
+unfoldable pub boundDatom : List ℕ → Datom → Bool
+boundDatom h d = boundValue h (d .value)
 
 -- what a datom that comes from bytes has: each word below 2^64
 pub record WordSized (d : Datom) : Type 0 where

@@ -1,4 +1,4 @@
--- A datom's bytes and words round-trip, and a well-formed value is told by its content.
+-- A datom's bytes and words round-trip, and what an inline byte string's word is made of.
 use Prim.Native.Nat.{ℕ, zero, suc, _+_, _-_, _*_, _/_, _%_, _^_, _≤_, _<_}
 use native.Mathlib.Nat.{div-div-eq-div-mul, mod-add-div, add-zero}
 use native.Mathlib.Omega.{arith}
@@ -14,7 +14,7 @@ use Rattle.store.specs.Cells.{drop-take-le, cells-at, cells-from}
 use Rattle.store.specs.Laws.{apart, both, bytes-length, little-bytes, low-bytes, word-back, word-small}
 use Rattle.datom.specs.declared.Datom.{Datom}
 use Rattle.datom.specs.declared.Value.{Value}
-use Rattle.datom.specs.Value.{maxWord, isInt, strLen, isStr, isMax, storedValue, boundValue, int, str, top, content}
+use Rattle.datom.specs.Value.{strLen, isStr}
 use Rattle.datom.specs.Datom.{datomAt, datomOf, datomBytes, datomsOf, WordSized}
 
 pub datom-length : (d : Datom) → length (datomBytes d) ≡ 32
@@ -96,55 +96,6 @@ str-form v h =
   where
     head : (x r : ℕ) → r + 64 * (x / 64) ≡ x → x / 64 ≡ 2 → x ≡ 128 + r
     head x r p q = omega arith
-
--- the string's bytes, as a number
-str-low : (v : Value) → Str v → little (bytesOf (strLen v) (v .0)) ≡ v .0 % 2 ^ 56
-str-low v s = low (strLen v) (s .few) (s .low)
-  where
-    low : (n : ℕ) → n ≤ 7 → v .0 % 2 ^ 56 < 256 ^ n → little (bytesOf n (v .0)) ≡ v .0 % 2 ^ 56
-    low n few small =
-        let seven : n + (7 - n) ≡ 7 = omega arith in
-        let whole : v .0 % 2 ^ 56 + 2 ^ 56 * (v .0 / 2 ^ 56) ≡ v .0 = mod-add-div (v .0) (2 ^ 56) in
-        let drops : bytesOf n (v .0 % 2 ^ 56 + 256 ^ (n + (7 - n)) * (v .0 / 2 ^ 56)) ≡ bytesOf n (v .0 % 2 ^ 56) =
-        low-bytes n (7 - n) (v .0 % 2 ^ 56) (v .0 / 2 ^ 56) in
-        let same : bytesOf n (v .0) ≡ bytesOf n (v .0 % 2 ^ 56) = ap (bytesOf n) (sym whole) ∙ (rw seven at drops) in
-        rw same (little-bytes n (v .0 % 2 ^ 56) small)
-
--- what a value may be
-pub data Form (v : Value) : Type 0 where
-  anInt : isInt v ≡ true → content v ≡ int (v .0) → Form v
-  aStr : Str v → content v ≡ str (bytesOf (strLen v) (v .0)) → Form v
-  aMax : v .0 ≡ maxWord → content v ≡ top → Form v
-
-pub form-of : (v : Value) → boundValue v ≡ true → Form v
-unfolding boundValue storedValue content isMax
-form-of v h = side (isInt v) refl (isStr v) refl
-  where
-    side : (a : Bool) → isInt v ≡ a → (b : Bool) → isStr v ≡ b → Form v
-    side true p b q = anInt p (rw p)
-    side false p true q = aStr (str-form v q) (rw (p, q))
-    side false p false q = aMax (eqb-true (v .0) maxWord (rw (p, q) at h)) (rw (p, q))
-
-str-tells : (v w : Value) → Str v → Str w → bytesOf (strLen v) (v .0) ≡ bytesOf (strLen w) (w .0) → v .0 ≡ w .0
-str-tells v w s t e =
-    let len : strLen v ≡ strLen w = sym (bytes-length (strLen v) (v .0)) ∙ ap length e ∙ bytes-length (strLen w) (w .0) in
-    let low : v .0 % 2 ^ 56 ≡ w .0 % 2 ^ 56 = sym (str-low v s) ∙ ap little e ∙ str-low w t in
-    let high : v .0 / 2 ^ 56 ≡ w .0 / 2 ^ 56 = cc (s .head, t .head) in
-    sym (mod-add-div (v .0) (2 ^ 56)) ∙ ap₂ (λ (l h : ℕ). l + 2 ^ 56 * h) low high ∙ mod-add-div (w .0) (2 ^ 56)
-
-pub content-tells : (v w : Value) → boundValue v ≡ true → boundValue w ≡ true → content v ≡ content w → v ≡ w
-content-tells v w p q e = ap (λ (n : ℕ). record { 0 = n }) (side (form-of v p) (form-of w q))
-  where
-    side : Form v → Form w → v .0 ≡ w .0
-    side (anInt a c) (anInt b d) = cc
-    side (anInt a c) (aStr b d) = absurd (apart (cc))
-    side (anInt a c) (aMax b d) = absurd (apart (cc))
-    side (aStr a c) (anInt b d) = absurd (apart (cc))
-    side (aStr a c) (aStr b d) = str-tells v w a b (cc)
-    side (aStr a c) (aMax b d) = absurd (apart (cc))
-    side (aMax a c) (anInt b d) = absurd (apart (cc))
-    side (aMax a c) (aStr b d) = absurd (apart (cc))
-    side (aMax a c) (aMax b d) = cc
 
 -- a bit shifted by n bytes
 pub shifted : (n : ℕ) → n ≤ 7 → (1 * 2 ^ (8 * n)) % 18446744073709551616 ≡ 256 ^ n

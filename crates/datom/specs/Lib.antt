@@ -4,3 +4,5 @@ pub mod Word
 pub mod Datom
 pub mod Laws
 pub mod Bytes
+pub mod Stored
+pub mod Content

@@ -1,10 +1,10 @@
-// Datoms and what they are made of, after datom.rs of the Rust. The heap, temporaries and text are left out.
+// Datoms and what they are made of, after datom.rs of the Rust. Temporaries and text are left out.
 ghost use mathlib.Core.Path.{_≡_};
 ghost use Prim.Native.Nat.{_+_, _^_, _-_, _≤_};
 ghost use lib.ListN.{length};
 ghost use Rattle.store.specs.Words.{little};
-ghost use Rattle.datom.specs.Value.{maxWord, isInt, isStr, isMax, storedValue, boundValue, inlineInt, boolInt, inlineStr};
-ghost use Rattle.datom.specs.Datom.{datomAt, storedDatom, boundDatom};
+ghost use Rattle.datom.specs.Value.{maxWord, isInt, isStr, isMax, isExternal, offsetOf, formedValue, storedValue, boundValue, inlineInt, boolInt, inlineStr};
+ghost use Rattle.datom.specs.Datom.{datomAt, formedDatom, storedDatom, boundDatom};
 ghost use Rattle.datom.specs.Word.{lastWord, transactionOf, operationOf};
 
 // The largest word: the max of every type here but the transaction's, which is even.
@@ -104,7 +104,7 @@ impl TidOp {
     }
 }
 
-// An integer or a byte string of up to seven bytes in one word, or max.
+// An integer or a byte string of up to seven bytes in one word, the offset of a longer one on the heap, or max.
 #[repr(C)]
 pub struct Value(pub u64);
 
@@ -115,7 +115,7 @@ pub enum Inline {
 }
 
 impl Value {
-    // Only the bit that marks a value outside the word; no value has it here but max.
+    // Only the bit that marks a value outside the word.
     pub const TAG_EXTERNAL: u64 = 0x4000_0000_0000_0000;
 
     // Only the bit that marks a byte string.
@@ -170,24 +170,60 @@ impl Value {
         self.0 % Value::LENGTH_BIT < past(length)
     }
 
-    // Whether a stored datom may have this value.
-    pub fn is_stored(self) -> bool
-        ensures { λ r. ⌜ r ≡ storedValue self ⌝ }
+    // Whether this names a constant, or is max: the bit that marks a value outside the word.
+    pub fn is_external(self) -> bool
+        ensures { λ r. ⌜ r ≡ isExternal self ⌝ }
+    {
+        self.0 / Value::TAG_EXTERNAL % 2 == 1
+    }
+
+    // Where the constant that this names lies on the heap.
+    pub fn offset(self) -> u64
+        ensures { λ r. ⌜ r ≡ offsetOf self ⌝ }
+    {
+        self.0 % Value::TAG_EXTERNAL
+    }
+
+    // Whether a batch may have this word, whatever the heap holds.
+    pub fn is_formed(self) -> bool
+        ensures { λ r. ⌜ r ≡ formedValue self ⌝ }
+    {
+        if self.0 < Value::TAG_BYTES {
+            return true;
+        }
+        if self.0 < Value::TAG_MASK {
+            return self.is_bytes();
+        }
+        !self.is_max()
+    }
+
+    // Whether a stored datom may have this value: a constant that it names is looked at where it stands.
+    pub fn is_stored(self, heap: &[u8]) -> bool
+        ensures { λ r. ⌜ r ≡ storedValue (now (heap .entry)) self ⌝ }
     {
         if self.0 < Value::TAG_EXTERNAL {
             return true;
         }
-        self.is_bytes()
+        if self.0 < Value::TAG_BYTES {
+            return heap::is_u64_at(heap, self.offset());
+        }
+        if self.0 < Value::TAG_MASK {
+            return self.is_bytes();
+        }
+        if self.is_max() {
+            return false;
+        }
+        heap::is_bytes_at(heap, self.offset())
     }
 
     // Whether a bound may have this value.
-    pub fn is_bound(self) -> bool
-        ensures { λ r. ⌜ r ≡ boundValue self ⌝ }
+    pub fn is_bound(self, heap: &[u8]) -> bool
+        ensures { λ r. ⌜ r ≡ boundValue (now (heap .entry)) self ⌝ }
     {
-        if self.is_stored() {
+        if self.is_max() {
             return true;
         }
-        self.is_max()
+        self.is_stored(heap)
     }
 
     pub fn from_u64_inline(value: u64) -> Inline
@@ -283,18 +319,25 @@ impl Datom {
         Datom::new(entity, attribute, value, transaction, Operation::Retract)
     }
 
-    // Whether this datom may be stored.
-    pub fn is_stored(self) -> bool
-        ensures { λ r. ⌜ r ≡ storedDatom self ⌝ }
+    // Whether a batch may have this datom, whatever the heap holds.
+    pub fn is_formed(self) -> bool
+        ensures { λ r. ⌜ r ≡ formedDatom self ⌝ }
     {
-        self.value.is_stored()
+        self.value.is_formed()
+    }
+
+    // Whether this datom may be stored.
+    pub fn is_stored(self, heap: &[u8]) -> bool
+        ensures { λ r. ⌜ r ≡ storedDatom (now (heap .entry)) self ⌝ }
+    {
+        self.value.is_stored(heap)
     }
 
     // Whether this datom may be a bound.
-    pub fn is_bound(self) -> bool
-        ensures { λ r. ⌜ r ≡ boundDatom self ⌝ }
+    pub fn is_bound(self, heap: &[u8]) -> bool
+        ensures { λ r. ⌜ r ≡ boundDatom (now (heap .entry)) self ⌝ }
     {
-        self.value.is_bound()
+        self.value.is_bound(heap)
     }
 }
 

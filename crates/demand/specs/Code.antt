@@ -1,150 +1,170 @@
 -- Demand 3 of the code, for a caller in Rattle: calls that are known by their promises alone are calls of a history, so what Statement
 -- says of a history holds of what the code did.
 use Prim.Native.Nat.{ℕ, _<_}
-use mathlib.Core.Bool.{true, false}
+use native.Mathlib.Omega.{arith}
+use mathlib.Core.Bool.{Bool, true, false}
 use mathlib.Core.List.{List}
-use mathlib.Core.Logic.{_↔_, Iff·trans}
-use mathlib.Core.Path.{_≡_, sym, _∙_}
+use mathlib.Core.Logic.{_↔_}
+use mathlib.Core.Path.{_≡_, refl, sym, _∙_}
 use lib.ListN.{length}
 use Rattle.store.specs.declared.PageId.{PageId}
-use Rattle.store.specs.declared.Extent.{Extent}
+use Rattle.store.specs.declared.StoreRecord.{StoreRecord}
+use Rattle.store.specs.Record.{extentOf}
 use Rattle.store.specs.Size.{sizes}
+use Rattle.store.specs.Laws.{apart}
 use Rattle.datom.specs.declared.Datom.{Datom}
 use Rattle.datom.specs.Datom.{datomsBytes, WordSized}
-use Rattle.index.specs.Order.{eavt}
-use Rattle.index.specs.Laws.{eavt-preorder}
+use Rattle.datom.specs.Content.{names}
 use Rattle.answer.specs.declared.Refusal.{Refusal}
 use Rattle.answer.specs.declared.Refusal.the-variants.{Repeated}
 use Rattle.answer.specs.declared.Answer.{Answer}
 use Rattle.answer.specs.declared.Answer.the-variants.{Refused}
+use Rattle.answer.specs.declared.Append.{Append}
 use Rattle.answer.specs.declared.Held.{Held}
 use Rattle.answer.specs.declared.Check.{Check}
 use Rattle.answer.specs.declared.Check.the-variants.{Sound}
 use Rattle.answer.specs.declared.Started.{Started}
 use Rattle.answer.specs.declared.Start.the-variants.{Begun}
 use Rattle.answer.specs.declared.Stepped.{Stepped}
-use Rattle.rules.specs.Store.{badScratch, envOf}
-use Rattle.rules.specs.Insert.{Outcome, batchOf, insert, initialise, insertBytes, initialiseBytes}
-use Rattle.rules.specs.Listing.{startList, whole}
-use Rattle.rules.specs.Check.{checkTree}
-use Rattle.rules.specs.Held.{heldBytes}
+use Rattle.rules.specs.Store.{orElse, badScratch, envOf}
+use Rattle.rules.specs.Insert.{Outcome, refuse, batchOf}
+use Rattle.rules.specs.Append.{badHeap}
+use Rattle.rules.specs.Calls.{ordOf, heapFault, recordGrown, insertCall, initialiseCall, insertBytesCall, initialiseBytesCall, startCall, heldCall, checkCall}
+use Rattle.rules.specs.Listing.{whole}
 use Rattle.rules.specs.Lists.{In}
 use Rattle.rules.specs.Within.{Late, Writes, insert-writes, initialise-writes, insert-bytes-writes, initialise-bytes-writes, early-unchanged}
 use Rattle.entry.specs.Reply.{Replies}
-use Rattle.history.specs.Statement.{Known, Moment, Call, inserts, beginning, Lent, Fair, left, outcomeOf, Next, Later, now, next, History, gathered, Between, StepsAlong, handed, WellFormed, Shared}
+use Rattle.append.specs.Answers.{Appends}
+use Rattle.history.specs.Statement.{Known, Moment, at, Start, Call, inserts, Constant, appending, beginning, Lent, Fair, left, outcomeOf, Next, Later, now, next, History, gathered, Between, StepsAlong, handed, WellFormed, Shared}
 use Rattle.history.specs.Statement as history
 use Rattle.history.specs.More.{Asked}
 use Rattle.history.specs.Order.{same-self}
-use Rattle.history.specs.Asked.{asked-map}
+use Rattle.history.specs.Heap.{at-laws}
 use Rattle.history.specs.Batch.{insert-records, initialise-records}
-use Rattle.demand.specs.Runs.{SameBelow, Runs, start, then}
 use Rattle.history.specs.Base.{base, base-beyond, shared-same}
+use Rattle.demand.specs.Runs.{SameBelow, SameConstants, changed, Runs, start, then}
 
 -- a call of `entry::insert` or `entry::initialise`, by its promise: it answered a and left the bytes s
 abbrev pub Gave : Moment → Call → Answer → List ℕ → Type 0
-Gave m c a s = Replies (m .extent) (m .store) s a (outcomeOf eavt m c)
+Gave m c a s = Replies (extentOf (m .recorded)) (m .store) s a (outcomeOf m c)
 
--- what may happen between two moments: a call of the code; or somebody else, at or past the count
+-- where `append::append_u64` or `append::append_bytes` leaves things, by its answer and the heap's bytes
+abbrev pub grown : Moment → Append → List ℕ → Moment
+grown m a h = record { recorded = recordGrown (m .recorded) a; store = m .store; heap = h; roots = m .roots }
+
+-- what may happen between two moments: a call of the code, or an append, by their promises; or somebody else, at or past the count and
+-- the heap's length
 pub data CodeMove (m : Moment) : Moment → Type 0 where
   ran : (c : Call) → Fair m c → (a : Answer) (s : List ℕ) → Gave m c a s → CodeMove m (left m c a s)
-  others : (s : List ℕ) → SameBelow m s → CodeMove m (record { extent = m .extent; store = s; roots = m .roots })
+  stored : (c : Constant) (a : Append) (h : List ℕ) → Appends (m .heap) h (m .recorded .heap) a (appending m c) → CodeMove m (grown m a h)
+  others : (s h : List ℕ) → SameBelow m s → SameConstants m h → CodeMove m (changed m s h)
 
-move-next : {m m₁ : Moment} → CodeMove m m₁ → Next eavt m m₁
+move-next : {m m₁ : Moment} → CodeMove m m₁ → Next m m₁
 move-next (ran c F a s R) = rw (R .answer, R .store) (history.calls c F)
-move-next (others s e) = history.others s e
+move-next (stored c a h R) = rw (R .answer, R .heap) (history.appends c)
+move-next (others s h e f) = history.others s h e f
 
-pub runs-later : {m m₁ : Moment} → Runs CodeMove m m₁ → Later eavt m m₁
+pub runs-later : {m m₁ : Moment} → Runs CodeMove m m₁ → Later m m₁
 runs-later start = now
 runs-later (then l c) = next (runs-later l) (move-next c)
 
 -- "hands out .., and ends": b is what `listing::start` gave at any later moment, r what `listing::step` gave, each at a moment later still
 abbrev pub CodeHandsOut : Moment → Known → Datom → Datom → List Datom → Type 0
 CodeHandsOut m k lo hi ds =
-    (m₁ : Moment) → Runs CodeMove m m₁ → (b : Started) → b ≡ startList eavt (m₁ .extent) (m₁ .store) (k .root) lo hi →
+    (m₁ : Moment) → Runs CodeMove m m₁ → (b : Started) → b ≡ startCall (m₁ .recorded) (m₁ .store) (m₁ .heap) (k .root) lo hi →
     (b .answer ≡ Begun)
-    × ((at : ℕ → Moment) → ((i : ℕ) → Runs CodeMove m₁ (at i)) → (n : ℕ) (r : ℕ → Stepped) → StepsAlong eavt at n (b .cursor) r → length ds < n →
+    × ((when : ℕ → Moment) → ((i : ℕ) → Runs CodeMove m₁ (when i)) → (n : ℕ) (r : ℕ → Stepped) → StepsAlong when n (b .cursor) r → length ds < n →
     handed n r ≡ whole ds)
 
 -- what a caller of the code is promised of a root
 pub record CodePromise (m : Moment) (k : Known) : Type 0 where
   pub listed :
-      (lo hi : Datom) → eavt .bound lo ≡ true → eavt .bound hi ≡ true →
-      (ds : List Datom) × Between (eavt .cmp) lo hi (gathered (k .batches)) ds × CodeHandsOut m k lo hi ds
+      (lo hi : Datom) → at m .bound lo ≡ true → at m .bound hi ≡ true →
+      (ds : List Datom) × Between (at m .cmp) lo hi (gathered (k .batches)) ds × CodeHandsOut m k lo hi ds
   pub stays : (m₁ : Moment) → Runs CodeMove m m₁ → In k (m₁ .roots)
   pub answered :
-      (b : List ℕ) → Lent (m .store) b → WellFormed eavt b → (scratch : ℕ) → badScratch (m .extent) scratch ≡ false →
+      (b : List ℕ) → Lent (m .store) b → WellFormed (at m) b → (scratch : ℕ) → badScratch (extentOf (m .recorded)) scratch ≡ false →
       (a : Answer) (s : List ℕ) → Gave m (inserts k b scratch) a s →
-      ((i : ℕ) × (a ≡ Refused (Repeated i))) ↔ ((d : Datom) × In d (batchOf b) × In d (gathered (k .batches)))
-  -- and by `held::held`: held exactly if every datom is among those that led to the root, and else the first that is not
+      ((i : ℕ) × (a ≡ Refused (Repeated i))) ↔ ((d : Datom) × In d (batchOf b) × Shared (at m .cmp) (gathered (k .batches)) d)
+  -- and by `held::held`: held exactly if every datom is equal to one of those that led to the root, and else the first that is not
   pub asked :
-      (b : List ℕ) → WellFormed eavt b → (a : Held) → a ≡ heldBytes eavt (m .extent) (m .store) (k .root) b →
-      Asked (λ d. In d (gathered (k .batches))) (batchOf b) a
+      (b : List ℕ) → WellFormed (at m) b → (a : Held) → a ≡ heldCall (m .recorded) (m .store) (m .heap) (k .root) b →
+      Asked (Shared (at m .cmp) (gathered (k .batches))) (batchOf b) a
   -- and by `invariants::check`
-  pub sound : (a : Check) → a ≡ checkTree eavt (m .extent) (m .store) (k .root) → a ≡ Sound
+  pub sound : (a : Check) → a ≡ checkCall (m .recorded) (m .store) (m .heap) (k .root) → a ≡ Sound
 
--- where an equal datom is the same one, "shares a datom" is meant literally
-pub same-datom :
-    (u : List Datom) → ((y : Datom) → In y u → eavt .stored y ≡ true) → (d : Datom) → eavt .stored d ≡ true → Shared (eavt .cmp) u d ↔ In d u
-same-datom u f d g = (shared-same u d f g, λ i. (d, i, same-self (eavt .cmp) eavt-preorder d))
+-- where no value of a batch names a constant, "shares a datom" is meant literally
+module _ (m : Moment) (u : List Datom) (f : (y : Datom) → In y u → at m .stored y ≡ true) where
+  pub same-datom : (d : Datom) → at m .stored d ≡ true → names (d .value) ≡ false → Shared (at m .cmp) u d ↔ In d u
+  same-datom d g n = (shared-same m u d f g n, λ i. (d, i, same-self (at m .cmp) (at-laws m) d))
 
-pub literal :
-    (u b : List Datom) → ((y : Datom) → In y u → eavt .stored y ≡ true) → ((y : Datom) → In y b → eavt .stored y ≡ true) →
-    ((d : Datom) × In d b × Shared (eavt .cmp) u d) ↔ ((d : Datom) × In d b × In d u)
-literal u b f g = (
-  λ w. (w .0, w .1, same-datom u f (w .0) (g (w .0) (w .1)) .0 (w .2)),
-  λ w. (w .0, w .1, same-datom u f (w .0) (g (w .0) (w .1)) .1 (w .2)),
-)
-
--- what a root of a history is asked for, literally
-pub asked-in :
-    (size : ℕ) → In size sizes → (m : Moment) → History eavt size m → (k : Known) → In k (m .roots) → (b : List ℕ) → WellFormed eavt b →
-    Asked (λ d. In d (gathered (k .batches))) (batchOf b) (heldBytes eavt (m .extent) (m .store) (k .root) b)
-asked-in size i m h k j b w =
-    asked-map (λ d v. same-datom (gathered (k .batches)) (base size i m h k j .stored) d (w .form d v)) (base-beyond size i m h k j .asked b w)
+  pub literal :
+      (b : List Datom) → ((y : Datom) → In y b → at m .stored y ≡ true) → ((y : Datom) → In y b → names (y .value) ≡ false) →
+      ((d : Datom) × In d b × Shared (at m .cmp) u d) ↔ ((d : Datom) × In d b × In d u)
+  literal b g n = (
+    λ w. (w .0, w .1, same-datom (w .0) (g (w .0) (w .1)) (n (w .0) (w .1)) .0 (w .2)),
+    λ w. (w .0, w .1, same-datom (w .0) (g (w .0) (w .1)) (n (w .0) (w .1)) .1 (w .2)),
+  )
 
 -- the theorem: what the code did, from no pages and no root on, is as promised
 abbrev pub CodeDemand3 : Type 0
 CodeDemand3 =
-    (size : ℕ) → In size sizes → (s : List ℕ) (m : Moment) → Runs CodeMove (beginning size s) m → (k : Known) → In k (m .roots) → CodePromise m k
+    (size : ℕ) → In size sizes → (s : Start) (m : Moment) → Runs CodeMove (beginning size s) m → (k : Known) → In k (m .roots) → CodePromise m k
 
 pub code : CodeDemand3
 code size i s m c k j =
-    let h : History eavt size m = (s, runs-later c) in
+    let h : History size m = (s, runs-later c) in
     let P = base size i m h k j in
     record {
       listed = λ lo hi a b.
           let w = P .listed lo hi a b in
-          (w .0, w .1, λ m₁ l r e. let q = w .2 m₁ (runs-later l) r e in (q .0, λ at later. q .1 at (λ x. runs-later (later x))));
+          (w .0, w .1, λ m₁ l r e. let q = w .2 m₁ (runs-later l) r e in (q .0, λ when later. q .1 when (λ x. runs-later (later x))));
       stays = λ m₁ l. P .stays m₁ (runs-later l);
       answered = λ b lent w scratch e a s₁ R.
-          rw (R .answer) (Iff·trans (P .answered b lent w scratch e) (literal (gathered (k .batches)) (batchOf b) (P .stored) (w .form)));
-      asked = λ b w a e. rw e (asked-in size i m h k j b w);
+          rw (R .answer) (P .answered b lent w scratch e);
+      asked = λ b w a e. rw e (base-beyond size i m h k j .asked b w);
       sound = λ a e. e ∙ base-beyond size i m h k j .sound;
     }
 
 -- a call of `records::insert` or `records::initialise` is a call with the bytes of its records
-module _ (x : Extent) (s s₁ : List ℕ) (a : Answer) (scratch : ℕ) (ds : List Datom) (w : (d : Datom) → In d ds → WordSized d) where
+module _ (q : StoreRecord) (s s₁ h : List ℕ) (a : Answer) (scratch : ℕ) (ds : List Datom) (w : (d : Datom) → In d ds → WordSized d) where
   pub by-records :
-      (root : PageId) → Replies x s s₁ a (insert eavt x s scratch root ds) → Replies x s s₁ a (insertBytes eavt x s scratch root (datomsBytes ds))
-  by-records root R = rw (insert-records ds w eavt x s scratch root) R
+      (root : PageId) → Replies (extentOf q) s s₁ a (insertCall q s h scratch root ds) →
+      Replies (extentOf q) s s₁ a (insertBytesCall q s h scratch root (datomsBytes ds))
+  by-records root R = rw (insert-records ds w q s h scratch root) R
 
   pub by-records-fresh :
-      Replies x s s₁ a (initialise eavt x s scratch ds) → Replies x s s₁ a (initialiseBytes eavt x s scratch (datomsBytes ds))
-  by-records-fresh R = rw (initialise-records ds w eavt x s scratch) R
+      Replies (extentOf q) s s₁ a (initialiseCall q s h scratch ds) →
+      Replies (extentOf q) s s₁ a (initialiseBytesCall q s h scratch (datomsBytes ds))
+  by-records-fresh R = rw (initialise-records ds w q s h scratch) R
 
--- "1 to 6 and 10 change no byte of the store.": of `entry::insert` and `entry::initialise`, `records::insert` and `records::initialise`
-module _ (x : Extent) (s s₁ : List ℕ) (r : Refusal) (early : Late r → ⊥) (scratch : ℕ) where
-  unchanged : (o : Outcome) → Writes (envOf eavt x s .allow) o → Replies x s s₁ (Refused r) o → s₁ ≡ s
-  unchanged o w R = R .store ∙ early-unchanged eavt x s o w r (sym (R .answer)) early
+-- what a call writes is what it writes by the order of its heap: a heap that is not in order is refused before
+pub call-writes : (n : ℕ) (q : StoreRecord) (h : List ℕ) (o : Outcome) → Writes n o → Writes n (orElse refuse (heapFault q h) o)
+unfolding heapFault
+call-writes n q h o w = side (badHeap (q .heap) h) refl
+  where
+    side : (b : Bool) → badHeap (q .heap) h ≡ b → Writes n (orElse refuse (heapFault q h) o)
+    side true e = rw e (record { fits = omega arith; counted = λ root k f. absurd (apart (cc)); early = λ r f l. refl })
+    side false e = rw e w
 
-  pub insert-unchanged : (root : PageId) (b : List ℕ) → Replies x s s₁ (Refused r) (insertBytes eavt x s scratch root b) → s₁ ≡ s
-  insert-unchanged root b = unchanged _ (insert-bytes-writes eavt x s scratch root b)
+-- "1 to 6 and 10 change no byte of the store.", and neither does 11: of `entry::insert` and `entry::initialise`, `records::insert` and
+-- `records::initialise`
+module _ (q : StoreRecord) (s s₁ h : List ℕ) (r : Refusal) (early : Late r → ⊥) (scratch : ℕ) where
+  unchanged : (o : Outcome) → Writes (envOf (ordOf q h) (extentOf q) s .allow) o → Replies (extentOf q) s s₁ (Refused r) o → s₁ ≡ s
+  unchanged o w R = R .store ∙ early-unchanged (ordOf q h) (extentOf q) s o w r (sym (R .answer)) early
 
-  pub initialise-unchanged : (b : List ℕ) → Replies x s s₁ (Refused r) (initialiseBytes eavt x s scratch b) → s₁ ≡ s
-  initialise-unchanged b = unchanged _ (initialise-bytes-writes eavt x s scratch b)
+  pub insert-unchanged : (root : PageId) (b : List ℕ) → Replies (extentOf q) s s₁ (Refused r) (insertBytesCall q s h scratch root b) → s₁ ≡ s
+  unfolding insertBytesCall
+  insert-unchanged root b = unchanged _ (call-writes _ q h _ (insert-bytes-writes (ordOf q h) (extentOf q) s scratch root b))
 
-  pub insert-records-unchanged : (root : PageId) (ds : List Datom) → Replies x s s₁ (Refused r) (insert eavt x s scratch root ds) → s₁ ≡ s
-  insert-records-unchanged root ds = unchanged _ (insert-writes eavt x s scratch root ds)
+  pub initialise-unchanged : (b : List ℕ) → Replies (extentOf q) s s₁ (Refused r) (initialiseBytesCall q s h scratch b) → s₁ ≡ s
+  unfolding initialiseBytesCall
+  initialise-unchanged b = unchanged _ (call-writes _ q h _ (initialise-bytes-writes (ordOf q h) (extentOf q) s scratch b))
 
-  pub initialise-records-unchanged : (ds : List Datom) → Replies x s s₁ (Refused r) (initialise eavt x s scratch ds) → s₁ ≡ s
-  initialise-records-unchanged ds = unchanged _ (initialise-writes eavt x s scratch ds)
+  pub insert-records-unchanged : (root : PageId) (ds : List Datom) → Replies (extentOf q) s s₁ (Refused r) (insertCall q s h scratch root ds) → s₁ ≡ s
+  unfolding insertCall
+  insert-records-unchanged root ds = unchanged _ (call-writes _ q h _ (insert-writes (ordOf q h) (extentOf q) s scratch root ds))
+
+  pub initialise-records-unchanged : (ds : List Datom) → Replies (extentOf q) s s₁ (Refused r) (initialiseCall q s h scratch ds) → s₁ ≡ s
+  unfolding initialiseCall
+  initialise-records-unchanged ds = unchanged _ (call-writes _ q h _ (initialise-writes (ordOf q h) (extentOf q) s scratch ds))

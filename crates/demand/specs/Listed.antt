@@ -7,15 +7,16 @@ use lib.ListN.{length}
 use Rattle.store.specs.Laws.{apart}
 use Rattle.datom.specs.declared.Datom.{Datom}
 use Rattle.datom.specs.Datom.{datomBytes}
-use Rattle.index.specs.Order.{eavt}
 use Rattle.answer.specs.declared.Cursor.{Cursor}
 use Rattle.answer.specs.declared.Step.{Step as StepAnswer}
 use Rattle.answer.specs.declared.Step.the-variants.{Yields, Ended, Refused}
 use Rattle.answer.specs.declared.Stepped.{Stepped}
 use Rattle.answer.specs.Table.{stepWords}
 use Rattle.answer.specs.Fit.{CursorFits}
-use Rattle.rules.specs.Listing.{Listed, whole, cut, more, also, stepList}
+use Rattle.rules.specs.Listing.{Listed, whole, cut, more, also}
+use Rattle.rules.specs.Calls.{stepCall}
 use Rattle.florinwick.specs.Cursor.{cursorBytes, cursor-long, cursor-back}
+use Rattle.florinwick.specs.Record.{recordIn}
 use Rattle.florinwick.specs.Listing.{stepIn, cursorStepped, datomStepped, Steps}
 use Rattle.history.specs.Statement.{Moment, StepsAlong, handed}
 use Rattle.history.specs.More.{AllFit}
@@ -23,12 +24,12 @@ use Rattle.demand.specs.Caller.{StepBytes, StepTaken, StepsTaken, Heard}
 
 -- what the rules' steps give, one after the other
 abbrev pub following : (ℕ → Moment) → Cursor → ℕ → Stepped
-following at c zero = stepList eavt (at 0 .extent) (at 0 .store) c
-following at c (suc i) = following (λ j. at (suc j)) (stepList eavt (at 0 .extent) (at 0 .store) c .cursor) i
+following at c zero = stepCall (at 0 .recorded) (at 0 .store) (at 0 .heap) c
+following at c (suc i) = following (λ j. at (suc j)) (stepCall (at 0 .recorded) (at 0 .store) (at 0 .heap) c .cursor) i
 
-pub following-steps : (n : ℕ) (at : ℕ → Moment) (c : Cursor) → StepsAlong eavt at n c (following at c)
+pub following-steps : (n : ℕ) (at : ℕ → Moment) (c : Cursor) → StepsAlong at n c (following at c)
 following-steps zero at c = tt
-following-steps (suc n) at c = (refl, following-steps n (λ j. at (suc j)) (stepList eavt (at 0 .extent) (at 0 .store) c .cursor))
+following-steps (suc n) at c = (refl, following-steps n (λ j. at (suc j)) (stepCall (at 0 .recorded) (at 0 .store) (at 0 .heap) c .cursor))
 
 -- what stands behind the first datom that was handed out
 also-whole : (d : Datom) (l : Listed) (ds : List Datom) → also d l ≡ whole ds → (rest : List Datom) × (l ≡ whole rest) × (ds ≡ d ∷ rest)
@@ -39,12 +40,12 @@ also-whole d (more rest) ds e = absurd (apart (cc))
 -- a step by its bytes is the rules' step
 module _ (m : Moment) (c : Cursor) (F : CursorFits c) (s : StepBytes) (T : StepTaken m (cursorBytes c) s) where
   abbrev ruled : Stepped
-  ruled = stepList eavt (m .extent) (m .store) c
+  ruled = stepCall (m .recorded) (m .store) (m .heap) c
 
-  step-is : stepIn eavt (m .extent) (m .store) (cursorBytes c) (T .room) ≡ ruled
+  step-is : stepIn (recordIn (T .block)) (m .store) (m .heap) (cursorBytes c) (T .room) ≡ ruled
   unfolding stepIn
   step-is =
-      rw (eq-eqb (length (cursorBytes c)) 264 (cursor-long c F), eq-eqb (length (T .room)) 32 (T .datoms), cursor-back c F)
+      rw (T .lends, eq-eqb (length (cursorBytes c)) 264 (cursor-long c F), eq-eqb (length (T .room)) 32 (T .datoms), cursor-back c F)
 
   by-bytes : Steps (s .number) (T .area) (T .told) (cursorBytes c) (s .cursor) (T .room) (s .datom) ruled
   by-bytes = rw step-is at (T .steps)

@@ -8,15 +8,15 @@ use mathlib.Core.Path.{_≡_, refl, sym, _∙_, ap}
 use borrow.Author.Tests.{eq-eqb}
 use lib.ListN.{length, length-append}
 use Rattle.store.specs.declared.PageId.{PageId}
-use Rattle.store.specs.declared.Extent.{Extent}
+use Rattle.store.specs.declared.StoreRecord.{StoreRecord}
+use Rattle.store.specs.Record.{extentOf}
 use Rattle.store.specs.Laws.{apart}
 use Rattle.store.specs.Words.{wordAt}
 use Rattle.store.specs.Size.{sizes}
 use Rattle.datom.specs.declared.Datom.{Datom}
 use Rattle.datom.specs.Datom.{datomAt, datomsBytes, WordSized}
-use Rattle.index.specs.Order.{eavt}
 use Rattle.answer.specs.declared.Refusal.{Refusal}
-use Rattle.answer.specs.declared.Refusal.the-variants.{BadStore, TooMany, BadDatom, OutOfOrder, NoPage, Repeated, Damaged, TooTall, NoRoom, BadBound, NotHeld}
+use Rattle.answer.specs.declared.Refusal.the-variants.{BadStore, TooMany, BadDatom, OutOfOrder, NoPage, Repeated, Damaged, TooTall, NoRoom, BadBound, BadConstant, HeapFull, NotHeld}
 use Rattle.answer.specs.declared.Answer.{Answer}
 use Rattle.answer.specs.declared.Answer.the-variants.{Done, Refused}
 use Rattle.answer.specs.declared.Held.{Held}
@@ -25,24 +25,26 @@ use Rattle.answer.specs.declared.Started.{Started}
 use Rattle.answer.specs.declared.Start.the-variants.{Begun}
 use Rattle.answer.specs.Table.{answerWords, heldWords}
 use Rattle.rules.specs.Store.{badStore, badScratch}
-use Rattle.rules.specs.Insert.{batchOf, insert}
-use Rattle.rules.specs.Listing.{startList}
-use Rattle.rules.specs.Held.{heldBytes}
+use Rattle.rules.specs.Insert.{batchOf}
+use Rattle.rules.specs.Append.{badHeap}
+use Rattle.rules.specs.Calls.{insertCall, startCall, heldCall}
 use Rattle.rules.specs.Entry.{wordBytes, reply, insertReply}
 use Rattle.rules.specs.Lists.{In}
 use Rattle.rules.specs.Within.{early-unchanged}
+use Rattle.florinwick.specs.Record.{recordIn}
 use Rattle.florinwick.specs.Cursor.{cursorBytes}
 use Rattle.florinwick.specs.Listing.{startIn, cursorStarted, Begins, bounds-given}
-use Rattle.history.specs.Statement.{Known, Moment, inserts, Lent, WellFormed, outcomeOf, Later, now, History, gathered, HandsOut}
+use Rattle.history.specs.Statement.{Known, Moment, at, Shared, inserts, Lent, WellFormed, outcomeOf, Later, now, History, gathered, HandsOut}
 use Rattle.history.specs.More.{FirstShared, FirstNot, Asked}
+use Rattle.history.specs.Order.{same-self}
+use Rattle.history.specs.Heap.{at-laws, later-agrees}
 use Rattle.history.specs.Batch.{insert-records}
 use Rattle.history.specs.Listing.{later-later}
 use Rattle.history.specs.Asked.{not-in}
 use Rattle.history.specs.Again.{gathered-in}
 use Rattle.history.specs.Base.{base, base-beyond}
 use Rattle.demand.specs.Area.{detail-word}
-use Rattle.demand.specs.Code.{literal, asked-in}
-use Rattle.demand.specs.Caller.{CallerHandsOut, HeldCall, CallerDemand3}
+use Rattle.demand.specs.Caller.{Lends, CallerHandsOut, HeldCall, CallerDemand3}
 use Rattle.demand.specs.Called.{AnswerLeft, left-by, writes, runs-on}
 use Rattle.demand.specs.Listed.{following, following-steps, heard}
 
@@ -58,6 +60,8 @@ six-refused (Damaged p f) e = absurd (omega arith)
 six-refused TooTall e = absurd (omega arith)
 six-refused NoRoom e = absurd (omega arith)
 six-refused BadBound e = absurd (omega arith)
+six-refused (BadConstant i) e = absurd (omega arith)
+six-refused HeapFull e = absurd (omega arith)
 six-refused (NotHeld i) e = absurd (omega arith)
 
 six : (root : PageId) (a : Answer) → (answerWords root a .number ≡ 6) ↔ ((i : ℕ) × (a ≡ Refused (Repeated i)))
@@ -69,15 +73,17 @@ six root (Refused r) = (
 
 -- a start with areas in order and two bounds of 32 bytes is the rules' start
 module _
-    (x : Extent) (s : List ℕ) (root : PageId) (lower upper : List ℕ) (inOrder : badStore x s ≡ false) (l : length lower ≡ 32) (u : length upper ≡ 32)
-    (r : ℕ) (a a₁ c c₁ : List ℕ) (answers : length a ≡ 32) (room : length c ≡ 264) (B : Begins r a a₁ c c₁ root (startIn eavt x s root lower upper c))
+    (m : Moment) (whole : badHeap (m .recorded .heap) (m .heap) ≡ false) (inOrder : badStore (extentOf (m .recorded)) (m .store) ≡ false)
+    (root : PageId) (lower upper : List ℕ) (l : length lower ≡ 32) (u : length upper ≡ 32) (q : List ℕ) (lends : Lends m q) (r : ℕ)
+    (a a₁ c c₁ : List ℕ) (answers : length a ≡ 32) (room : length c ≡ 264)
+    (B : Begins r a a₁ c c₁ root (startIn (recordIn q) (m .store) (m .heap) root lower upper c))
   where
     abbrev ruled : Started
-    ruled = startList eavt x s root (datomAt lower 0) (datomAt upper 0)
+    ruled = startCall (m .recorded) (m .store) (m .heap) root (datomAt lower 0) (datomAt upper 0)
 
-    start-is : startIn eavt x s root lower upper c ≡ ruled
+    start-is : startIn (recordIn q) (m .store) (m .heap) root lower upper c ≡ ruled
     unfolding startIn
-    start-is = rw (eq-eqb (length c) 264 room) (sym (bounds-given eavt x s root lower upper inOrder l u))
+    start-is = rw (lends, eq-eqb (length c) 264 room) (sym (bounds-given (m .recorded) (m .store) (m .heap) root lower upper whole inOrder l u))
 
     module _ (begun : ruled .answer ≡ Begun) where
       started-zero : r ≡ 0
@@ -89,44 +95,43 @@ module _
 
 -- the listing of a root, through the bytes
 module _
-    (size : ℕ) (i : In size sizes) (m : Moment) (h : History eavt size m) (k : Known) (j : In k (m .roots)) (lower upper : List ℕ)
-    (l : length lower ≡ 32) (u : length upper ≡ 32) (lo : eavt .bound (datomAt lower 0) ≡ true) (hi : eavt .bound (datomAt upper 0) ≡ true)
+    (size : ℕ) (i : In size sizes) (m : Moment) (h : History size m) (k : Known) (j : In k (m .roots)) (lower upper : List ℕ)
+    (l : length lower ≡ 32) (u : length upper ≡ 32) (lo : at m .bound (datomAt lower 0) ≡ true) (hi : at m .bound (datomAt upper 0) ≡ true)
   where
-    hands-on : (ds : List Datom) → HandsOut eavt m k (datomAt lower 0) (datomAt upper 0) ds → CallerHandsOut m k lower upper ds
-    hands-on ds H m₁ runs short r a a₁ c c₁ answers room B =
+    hands-on : (ds : List Datom) → HandsOut m k (datomAt lower 0) (datomAt upper 0) ds → CallerHandsOut m k lower upper ds
+    hands-on ds H m₁ runs short q lends r a a₁ c c₁ answers room B =
         let l₁ = runs-on size i h runs in
-        let h₁ : History eavt size m₁ = (h .0, later-later (h .1) l₁) in
-        let x = m₁ .extent in
-        let s = m₁ .store in
-        let b = startList eavt x s (k .root) (datomAt lower 0) (datomAt upper 0) in
+        let h₁ : History size m₁ = (h .0, later-later (h .1) l₁) in
+        let b = startCall (m₁ .recorded) (m₁ .store) (m₁ .heap) (k .root) (datomAt lower 0) (datomAt upper 0) in
         let Q = base-beyond size i m₁ h₁ k (base size i m h k j .stays m₁ l₁) in
+        let A = later-agrees l₁ in
         let begun = H m₁ l₁ b refl in
-        let C = Q .cursors (datomAt lower 0) (datomAt upper 0) lo hi short b refl in
-        let kept = started-cursor x s (k .root) lower upper (Q .inOrder) l u r a a₁ c c₁ answers room B (begun .0) in (
-          started-zero x s (k .root) lower upper (Q .inOrder) l u r a a₁ c c₁ answers room B (begun .0),
-          λ at later n w T f.
-              let along : (v : ℕ) → Later eavt m₁ (at v) = λ v. runs-on size i h₁ (later v) in
-              let steps = following-steps n at (b .cursor) in
-              heard n at (b .cursor) (C .0) (C .1 at along n (following at (b .cursor)) steps) ds
-              (begun .1 at along n (following at (b .cursor)) steps f) w (rw kept at T),
+        let C = Q .cursors (datomAt lower 0) (datomAt upper 0) (A .bound _ lo) (A .bound _ hi) short b refl in
+        let kept = started-cursor m₁ (Q .heapInOrder) (Q .inOrder) (k .root) lower upper l u q lends r a a₁ c c₁ answers room B (begun .0) in (
+          started-zero m₁ (Q .heapInOrder) (Q .inOrder) (k .root) lower upper l u q lends r a a₁ c c₁ answers room B (begun .0),
+          λ when later n w T f.
+              let along : (v : ℕ) → Later m₁ (when v) = λ v. runs-on size i h₁ (later v) in
+              let steps = following-steps n when (b .cursor) in
+              heard n when (b .cursor) (C .0) (C .1 when along n (following when (b .cursor)) steps) ds
+              (begun .1 when along n (following when (b .cursor)) steps f) w (rw kept at T),
         )
 
 -- the receipt for a batch that is sent again
 module _
-    (size : ℕ) (i : In size sizes) (m : Moment) (h : History eavt size m) (k : Known) (j : In k (m .roots)) (b : List ℕ) (lent : Lent (m .store) b)
-    (w : WellFormed eavt b) (scratch : ℕ) (enough : badScratch (m .extent) scratch ≡ false) (s a : List ℕ)
+    (size : ℕ) (i : In size sizes) (m : Moment) (h : History size m) (k : Known) (j : In k (m .roots)) (b : List ℕ) (lent : Lent (m .store) b)
+    (w : WellFormed (at m) b) (scratch : ℕ) (enough : badScratch (extentOf (m .recorded)) scratch ≡ false) (s a : List ℕ)
   where
     first-named :
         (r : ℕ) → AnswerLeft m (inserts k b scratch) r s a → r ≡ 6 →
-        FirstShared (eavt .cmp) (gathered (k .batches)) (batchOf b) (wordAt a 24) × (s ≡ m .store)
+        FirstShared (at m .cmp) (gathered (k .batches)) (batchOf b) (wordAt a 24) × (s ≡ m .store)
     first-named r L e =
-        let z = six (k .root) (outcomeOf eavt m (inserts k b scratch) .answer) .0 (sym (L .returns) ∙ e) in
+        let z = six (k .root) (outcomeOf m (inserts k b scratch) .answer) .0 (sym (L .returns) ∙ e) in
         let F = base-beyond size i m h k j .answered b lent w scratch enough .first (z .0) (z .1) in
         let words = answerWords (k .root) (Refused (Repeated (z .0))) in
         let short : z .0 < 128 = omega (arith, F .index, length-append (F .before) (F .datom ∷ F .rest), ap length (F .batch), w .few) in
         let area : a ≡ wordBytes words = (rw (z .1) at (L .area)) refl in (
           rw (area, detail-word words (omega arith)) F,
-          L .store ∙ early-unchanged eavt (m .extent) (m .store) _ (writes m (inserts k b scratch)) (Repeated (z .0)) (z .1) (λ late. omega (arith, late .0)),
+          L .store ∙ early-unchanged (at m) (extentOf (m .recorded)) (m .store) _ (writes m (inserts k b scratch)) (Repeated (z .0)) (z .1) (λ late. omega (arith, late .0)),
         )
 
 -- the numbers of a batch that is asked for
@@ -152,36 +157,36 @@ module _ (Among : Datom → Type 0) (root : PageId) (b : List ℕ) (few : length
   ]
 
 asked-call :
-    (size : ℕ) → In size sizes → (m : Moment) → History eavt size m → (k : Known) → In k (m .roots) → (b : List ℕ) (w : WellFormed eavt b) → (r : ℕ)
-    (a a₁ : List ℕ) → HeldCall m k b r a a₁ → AskedTold (λ d. In d (gathered (k .batches))) (k .root) b (w .few) r a₁
+    (size : ℕ) → In size sizes → (m : Moment) → History size m → (k : Known) → In k (m .roots) → (b : List ℕ) (w : WellFormed (at m) b) → (r : ℕ)
+    (a a₁ : List ℕ) → HeldCall m k b r a a₁ → AskedTold (Shared (at m .cmp) (gathered (k .batches))) (k .root) b (w .few) r a₁
 asked-call size i m h k j b w r a a₁ H =
     let z = eq-eqb (length a) 32 (H .answers) in
-    asked-told (λ d. In d (gathered (k .batches))) (k .root) b (w .few) r a₁ (heldBytes eavt (m .extent) (m .store) (k .root) b)
-    (asked-in size i m h k j b w) (rw z at (H .replied .returns)) (rw z at (H .replied .area))
+    asked-told (Shared (at m .cmp) (gathered (k .batches))) (k .root) b (w .few) r a₁ (heldCall (m .recorded) (m .store) (m .heap) (k .root) b)
+    (base-beyond size i m h k j .asked b w) (rw (z, H .lends) at (H .replied .returns)) (rw (z, H .lends) at (H .replied .area))
 
 pub caller : CallerDemand3
 caller size i s m runs k j =
-    let h : History eavt size m = (s, runs-on size i (s, now) runs) in
+    let h : History size m = (s, runs-on size i (s, now) runs) in
     let P = base size i m h k j in
     record {
       listed = λ lower upper l u lo hi.
           let w = P .listed (datomAt lower 0) (datomAt upper 0) lo hi in
           (w .0, w .1, hands-on size i m h k j lower upper l u lo hi (w .0) (w .2));
       stays = λ m₁ l. P .stays m₁ (runs-on size i h l);
-      answered = λ b lent w scratch e r s₁ a a₁ n R.
-          rw (left-by m (inserts k b scratch) r s₁ a a₁ n R .returns)
-          (Iff·trans (six (k .root) (outcomeOf eavt m (inserts k b scratch) .answer))
-          (Iff·trans (P .answered b lent w scratch e) (literal (gathered (k .batches)) (batchOf b) (P .stored) (w .form))));
-      receipt = λ b lent w scratch e r s₁ a a₁ n R.
-          first-named size i m h k j b lent w scratch e s₁ a₁ r (left-by m (inserts k b scratch) r s₁ a a₁ n R);
+      answered = λ b lent w scratch e q lends r s₁ a a₁ n R.
+          rw (left-by m q lends (inserts k b scratch) r s₁ a a₁ n R .returns)
+          (Iff·trans (six (k .root) (outcomeOf m (inserts k b scratch) .answer)) (P .answered b lent w scratch e));
+      receipt = λ b lent w scratch e q lends r s₁ a a₁ n R.
+          first-named size i m h k j b lent w scratch e s₁ a₁ r (left-by m q lends (inserts k b scratch) r s₁ a a₁ n R);
       asked = λ b w r a a₁ H. asked-call size i m h k j b w r a a₁ H;
-      keeps = λ b sent w r a a₁ H. asked-call size i m h k j b w r a a₁ H .0 .1 λ d v. gathered-in (k .batches) b sent d v;
-      sound = λ r a a₁ n A. rw (eq-eqb (length a) 32 n, base-beyond size i m h k j .sound) at (A .returns);
+      keeps = λ b sent w r a a₁ H.
+          asked-call size i m h k j b w r a a₁ H .0 .1 λ d v. (d, gathered-in (k .batches) b sent d v, same-self (at m .cmp) (at-laws m) d);
+      sound = λ q lends r a a₁ n A. rw (eq-eqb (length a) 32 n, lends, base-beyond size i m h k j .sound) at (A .returns);
     }
 
 -- a call of `florinwick_insert_records` is a call of `florinwick_insert` with the bytes of its records
 pub by-caller-records :
-    (x : Extent) (s a : List ℕ) (scratch : ℕ) (root : PageId) (ds : List Datom) → ((d : Datom) → In d ds → WordSized d) →
-    reply x s a root (insert eavt x s scratch root ds) ≡ insertReply eavt x s scratch root (datomsBytes ds) a
+    (q : StoreRecord) (s h a : List ℕ) (scratch : ℕ) (root : PageId) (ds : List Datom) → ((d : Datom) → In d ds → WordSized d) →
+    reply (extentOf q) s a root (insertCall q s h scratch root ds) ≡ insertReply q s h scratch root (datomsBytes ds) a
 unfolding insertReply
-by-caller-records x s a scratch root ds w = rw (insert-records ds w eavt x s scratch root)
+by-caller-records q s h a scratch root ds w = rw (insert-records ds w q s h scratch root)

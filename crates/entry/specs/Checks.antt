@@ -13,14 +13,15 @@ use Rattle.store.specs.Page.{isNone}
 use Rattle.store.specs.Size.{capacity, scratchNeed}
 use Rattle.store.specs.Laws.{apart}
 use Rattle.datom.specs.declared.Datom.{Datom}
-use Rattle.datom.specs.Datom.{datomsOf}
-use Rattle.index.specs.Order.{DatomOrd}
+use Rattle.datom.specs.Datom.{datomsOf, formedDatom, storedDatom}
+use Rattle.index.specs.declared.Index.{Index}
+use Rattle.index.specs.Order.{DatomOrd, orderIn}
 use Rattle.answer.specs.declared.Refusal.{Refusal}
-use Rattle.answer.specs.declared.Refusal.the-variants.{BadStore, NoPage}
+use Rattle.answer.specs.declared.Refusal.the-variants.{BadStore, BadDatom, BadConstant, NoPage}
 use Rattle.rules.specs.Page.{rising}
 use Rattle.rules.specs.Lookup.{Finding, clear, found}
 use Rattle.rules.specs.Store.{orElse, badStore, badScratch, badRoot, fetchPage, envOf}
-use Rattle.rules.specs.Insert.{Outcome, refuse, outcome, storeFault, countFault, formFault, orderFault, twinFault, rootFault, sort, freshTree, writeFresh, insertAt, insertUnder, insertCounted, initialiseCounted, bytesFault, batchOf, insertBytes, initialiseBytes}
+use Rattle.rules.specs.Insert.{Outcome, refuse, outcome, storeFault, countFault, formFault, wordFault, orderFault, twinFault, rootFault, sort, freshTree, writeFresh, insertAt, insertUnder, insertCounted, initialiseCounted, bytesFault, batchOf, insertBytes, initialiseBytes}
 use Rattle.rules.specs.Checks.{order-rises}
 use Rattle.batch.specs.declared.Count.{Count}
 use Rattle.batch.specs.declared.Count.the-variants.{Datoms, Refused}
@@ -30,13 +31,13 @@ use Rattle.batch.specs.Finding.{counted, given-count, refused-count}
 unfoldable pub countFor : Extent → List ℕ → ℕ → List ℕ → Count
 countFor x s scratch b = orElse Refused (storeFault x s scratch) (counted b)
 
--- 3 and 4 of an insert
+-- 3, 11 and 4 of an insert
 unfoldable pub insertFault : DatomOrd → List Datom → Finding
-insertFault t ds = orElse found (formFault (t .stored) 0 ds) (orderFault (t .cmp) ds)
+insertFault t ds = orElse found (wordFault t ds) (orderFault (t .cmp) ds)
 
--- 3 and 4 of an initialise
+-- 3, 11 and 4 of an initialise
 unfoldable pub initialiseFault : DatomOrd → List Datom → Finding
-initialiseFault t ds = orElse found (formFault (t .stored) 0 ds) (twinFault (t .cmp) 0 [] ds)
+initialiseFault t ds = orElse found (wordFault t ds) (twinFault (t .cmp) 0 [] ds)
 
 -- what stands once 1 and 2 are past: the store and the scratch of L bytes are in order, and n datoms are few enough
 pub record Roomy (x : Extent) (s : List ℕ) (c n L : ℕ) : Type 0 where
@@ -133,31 +134,41 @@ pub both : {A : Type 0} (give : Refusal → A) (a b : Finding) (k : A) → orEls
 both give (found r) b k = refl
 both give clear b k = refl
 
--- the ways through 3 and 4, and what comes after them
+-- the ways through 3 and 11, of any order by a heap
+module _ (i : Index) (h : List ℕ) (ds : List Datom) where
+  pub words-form : (r : Refusal) → found r ≡ formFault BadDatom formedDatom 0 ds → found r ≡ wordFault (orderIn i h) ds
+  unfolding wordFault orderIn
+  words-form r e = rw (← e)
+
+  pub words-constant : clear ≡ formFault BadDatom formedDatom 0 ds → (f : Finding) → f ≡ formFault BadConstant (storedDatom h) 0 ds → f ≡ wordFault (orderIn i h) ds
+  unfolding wordFault orderIn
+  words-constant e f k = rw (← e) k
+
+-- the ways through 3, 11 and 4, and what comes after them
 module _ (t : DatomOrd) (ds : List Datom) where
   -- of an insert
-  pub fault-form : (r : Refusal) → found r ≡ formFault (t .stored) 0 ds → found r ≡ insertFault t ds
+  pub fault-form : (r : Refusal) → found r ≡ wordFault t ds → found r ≡ insertFault t ds
   unfolding insertFault
   fault-form r h = rw (← h)
 
-  pub fault-order : clear ≡ formFault (t .stored) 0 ds → (f : Finding) → f ≡ orderFault (t .cmp) ds → f ≡ insertFault t ds
+  pub fault-order : clear ≡ wordFault t ds → (f : Finding) → f ≡ orderFault (t .cmp) ds → f ≡ insertFault t ds
   unfolding insertFault
   fault-order h f e = rw (← h) e
 
   pub fault-rises : clear ≡ insertFault t ds → rising (t .cmp) ds ≡ true
   unfolding insertFault
-  fault-rises e = side (formFault (t .stored) 0 ds) refl
+  fault-rises e = side (wordFault t ds) refl
     where
-      side : (f : Finding) → formFault (t .stored) 0 ds ≡ f → rising (t .cmp) ds ≡ true
+      side : (f : Finding) → wordFault t ds ≡ f → rising (t .cmp) ds ≡ true
       side (found r) u = let k : clear ≡ found r = rw u at e in absurd (apart (cc))
       side clear u = order-rises (t .cmp) ds (rw u at e)
 
   -- of an initialise
-  pub twin-form : (r : Refusal) → found r ≡ formFault (t .stored) 0 ds → found r ≡ initialiseFault t ds
+  pub twin-form : (r : Refusal) → found r ≡ wordFault t ds → found r ≡ initialiseFault t ds
   unfolding initialiseFault
   twin-form r h = rw (← h)
 
-  pub twin-rest : clear ≡ formFault (t .stored) 0 ds → (f : Finding) → f ≡ twinFault (t .cmp) 0 [] ds → f ≡ initialiseFault t ds
+  pub twin-rest : clear ≡ wordFault t ds → (f : Finding) → f ≡ twinFault (t .cmp) 0 [] ds → f ≡ initialiseFault t ds
   unfolding initialiseFault
   twin-rest h f e = rw (← h) e
 
@@ -165,7 +176,7 @@ module _ (t : DatomOrd) (ds : List Datom) where
     module _ (root : PageId) where
       counted-is : insertCounted t x s root ds ≡ orElse refuse (insertFault t ds) (orElse refuse (rootFault x root) (insertUnder t x s root ds))
       unfolding insertCounted insertFault
-      counted-is = sym (both refuse (formFault (t .stored) 0 ds) _ _)
+      counted-is = sym (both refuse (wordFault t ds) _ _)
 
       pub counted-found : (r : Refusal) → found r ≡ insertFault t ds → insertCounted t x s root ds ≡ refuse r
       counted-found r h = counted-is ∙ rw (← h)
@@ -186,7 +197,7 @@ module _ (t : DatomOrd) (ds : List Datom) where
 
     sorted-is : initialiseCounted t x s ds ≡ orElse refuse (initialiseFault t ds) (writeFresh (envOf t x s) (sort (t .cmp) ds))
     unfolding initialiseCounted initialiseFault
-    sorted-is = sym (both refuse (formFault (t .stored) 0 ds) _ _)
+    sorted-is = sym (both refuse (wordFault t ds) _ _)
 
     pub sorted-found : (r : Refusal) → found r ≡ initialiseFault t ds → initialiseCounted t x s ds ≡ refuse r
     sorted-found r h = sorted-is ∙ rw (← h)

@@ -2,13 +2,16 @@
 use answer::Refusal;
 use batch::Count;
 use batch::Finding;
+use index::Index;
 use store::Extent;
 ghost use mathlib.Core.Path.{_≡_};
 ghost use Prim.Native.Nat.{_*_, _≤_};
 ghost use lib.ListN.{length};
 ghost use Rattle.store.specs.Size.{mostDatoms, roomFor, scratchNeed};
 ghost use Rattle.datom.specs.Datom.{datomsOf};
-ghost use Rattle.index.specs.Order.{eavt};
+ghost use Rattle.index.specs.Order.{orderIn};
+ghost use Rattle.index.specs.declared.Index.{Index};
+ghost use Rattle.rules.specs.Insert.{wordFault};
 ghost use Rattle.batch.specs.Finding.{findingOf};
 ghost use Rattle.entry.specs.Checks.{countFor, insertFault, initialiseFault};
 
@@ -42,24 +45,35 @@ pub fn count_of(store: &[u8], extent: Extent, b: &[u8], scratch: usize) -> Count
     batch::count_of(b)
 }
 
-// Refusals 3 and 4 of an insert.
-pub fn insert_fault(b: &[u8], n: usize) -> Finding
+// Refusals 3 and 11, each of the whole batch, in any order.
+fn word_fault(b: &[u8], n: usize, heap: &[u8]) -> Finding
     requires { ⌜ 32 * n ≤ length (now b) ⌝ }
-    ensures { λ r. ⌜ findingOf r ≡ insertFault eavt (datomsOf n (now (b .entry))) ⌝ }
+    ensures { λ r. ⌜ ((i : Index) → findingOf r ≡ wordFault (orderIn i (now (heap .entry))) (datomsOf n (now (b .entry)))) ⌝ }
 {
     match batch::form_fault(b, n) {
         Finding::Found(refusal) => Finding::Found(refusal),
-        Finding::Clear => batch::order_fault(b, n),
+        Finding::Clear => batch::constant_fault(b, n, heap),
     }
 }
 
-// Refusals 3 and 4 of an initialise.
-pub fn initialise_fault(b: &[u8], n: usize) -> Finding
+// Refusals 3, 11 and 4 of an insert.
+pub fn insert_fault(b: &[u8], n: usize, by: Index, heap: &[u8]) -> Finding
     requires { ⌜ 32 * n ≤ length (now b) ⌝ }
-    ensures { λ r. ⌜ findingOf r ≡ initialiseFault eavt (datomsOf n (now (b .entry))) ⌝ }
+    ensures { λ r. ⌜ findingOf r ≡ insertFault (orderIn by (now (heap .entry))) (datomsOf n (now (b .entry))) ⌝ }
 {
-    match batch::form_fault(b, n) {
+    match word_fault(b, n, heap) {
         Finding::Found(refusal) => Finding::Found(refusal),
-        Finding::Clear => batch::twin_fault(b, n),
+        Finding::Clear => batch::order_fault(b, n, by, heap),
+    }
+}
+
+// Refusals 3, 11 and 4 of an initialise.
+pub fn initialise_fault(b: &[u8], n: usize, by: Index, heap: &[u8]) -> Finding
+    requires { ⌜ 32 * n ≤ length (now b) ⌝ }
+    ensures { λ r. ⌜ findingOf r ≡ initialiseFault (orderIn by (now (heap .entry))) (datomsOf n (now (b .entry))) ⌝ }
+{
+    match word_fault(b, n, heap) {
+        Finding::Found(refusal) => Finding::Found(refusal),
+        Finding::Clear => batch::twin_fault(b, n, by, heap),
     }
 }

@@ -2,6 +2,7 @@
 use crate::check;
 use htree::place::Inserted;
 use htree::root::Rooted;
+use index::Index;
 use memory_store::found::Opened;
 use store::Extent;
 use store::PageId;
@@ -9,7 +10,7 @@ ghost use mathlib.Core.Path.{_≡_};
 ghost use Prim.Native.Nat.{_+_, _*_, _≤_};
 ghost use lib.ListN.{length};
 ghost use Rattle.datom.specs.Datom.{datomsOf};
-ghost use Rattle.index.specs.Order.{DatomOrd, eavt};
+ghost use Rattle.index.specs.Order.{DatomOrd, orderIn};
 ghost use Rattle.rules.specs.Insert.{sort, freshTree};
 ghost use Rattle.rules.specs.Tree.{fine, insertTree};
 ghost use Rattle.rules.specs.Store.{fetchPage, envOf};
@@ -57,12 +58,14 @@ pub fn sorted(
     b: &[u8],
     n: usize,
     s: &mut [u8],
+    by: Index,
+    heap: &[u8],
 ) -> Rooted
     requires { ⌜ Passed extent (now store) c (now b) n (length (now s)) ⌝ }
-    ensures { λ r. ⌜ Roots extent (now (store .entry)) (now (store .exit)) 0 r (freshTree (envOf eavt extent (now (store .entry))) (sort (eavt .cmp) (datomsOf n (now (b .entry))))) ⌝ }
+    ensures { λ r. ⌜ Roots extent (now (store .entry)) (now (store .exit)) 0 r (freshTree (envOf (orderIn by (now (heap .entry))) extent (now (store .entry))) (sort (orderIn by (now (heap .entry)) .cmp) (datomsOf n (now (b .entry))))) ⌝ }
 {
     store::put(s, 0, b);
-    batch::sort::sort(s, n);
+    batch::sort::sort(s, n, by, heap);
     leaf(store, extent, c, n, s)
 }
 
@@ -77,14 +80,16 @@ pub fn under(
     b: &[u8],
     n: usize,
     s: &mut [u8],
+    by: Index,
+    heap: &[u8],
 ) -> Rooted
-    requires { ⌜ Passed extent (now store) c (now b) n (length (now s)) × (fetchPage eavt extent (now store) root ≡ fine (nodeAt extent (now store) root level count)) ⌝ }
-    ensures { λ r. ⌜ Roots extent (now (store .entry)) (now (store .exit)) 0 r (insertTree (envOf eavt extent (now (store .entry))) level root (datomsOf n (now (b .entry)))) ⌝ }
+    requires { ⌜ Passed extent (now store) c (now b) n (length (now s)) × (fetchPage (orderIn by (now heap)) extent (now store) root ≡ fine (nodeAt extent (now store) root level count)) ⌝ }
+    ensures { λ r. ⌜ Roots extent (now (store .entry)) (now (store .exit)) 0 r (insertTree (envOf (orderIn by (now (heap .entry))) extent (now (store .entry))) level root (datomsOf n (now (b .entry)))) ⌝ }
 {
     let m = check::room_for(c);
     store::put(s, 40 * m + 8, b);
     let opened = Opened::Node(count);
-    match htree::insert::insert_into(store, extent, c, 0, level, root, opened, s, m, n) {
+    match htree::insert::insert_into(store, extent, c, 0, level, root, opened, s, m, n, by, heap) {
         Inserted::Placed { datoms, written } => {
             htree::root::write_root(store, extent, c, written, level + 1, s, m, datoms)
         }

@@ -16,12 +16,14 @@ pub fn title() {
     words(b"Florinwick: a failover, in 256-byte pages\n\nThe feed.\n");
 }
 
-pub fn sending(first: u64, n: u64) {
+pub fn sending(first: u64, n: u64, used: u64) {
     words(b"  ");
     number(n);
     words(b" fills from number ");
     number(first);
-    words(b" on: ");
+    words(b" on, their texts at byte ");
+    number(used);
+    words(b" of the heap: ");
 }
 
 pub fn done(root: PageId, pages: u64) {
@@ -65,7 +67,9 @@ pub fn end_of_line() {
 }
 
 pub fn failover() {
-    words(b"\nThe failover. Did the last batch arrive? The replicator sends it again.\n");
+    words(
+        b"\nThe failover. Did the last batch arrive? The replicator sends it again, its texts elsewhere on the heap.\n",
+    );
 }
 
 pub fn overlap() {

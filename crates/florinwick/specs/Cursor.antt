@@ -13,9 +13,8 @@ use Rattle.store.specs.Page.{pageOf, pageBytes}
 use Rattle.store.specs.Laws.{bytes-length, bytes-little, little-bytes, word-back, word-small, cells-length, cells-spread, page-length, page-back, spread-length}
 use Rattle.answer.specs.declared.Cursor.{Cursor}
 use Rattle.answer.specs.Fit.{Eight, CursorFits}
-use Rattle.store.specs.Cells.{patch-patch, cells-at}
+use Rattle.store.specs.Cells.{patch-patch, next-block, filled, cells-at}
 use Rattle.store.specs.Bytes.{Bytes, bytes-drop, cells-back}
-use Rattle.florinwick.specs.Words.{next-block, filled}
 
 unfoldable pub cursorBytes : Cursor → List ℕ
 cursorBytes c =

@@ -2,3 +2,5 @@
 pub mod Words
 pub mod Cursor
 pub mod Listing
+pub mod Append
+pub mod Record

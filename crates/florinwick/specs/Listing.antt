@@ -7,11 +7,11 @@ use borrow.Author.Tests.{eq-eqb, ne-eqb}
 use lib.Dec.{eqb}
 use lib.ListN.{length}
 use Rattle.store.specs.declared.PageId.{PageId}
-use Rattle.store.specs.declared.Extent.{Extent}
+use Rattle.store.specs.declared.StoreRecord.{StoreRecord}
+use Rattle.store.specs.Record.{extentOf}
 use Rattle.store.specs.Words.{spread}
 use Rattle.datom.specs.declared.Datom.{Datom}
 use Rattle.datom.specs.Datom.{datomAt, datomBytes}
-use Rattle.index.specs.Order.{DatomOrd}
 use Rattle.answer.specs.declared.Refusal.the-variants.{BadStore, BadBound}
 use Rattle.answer.specs.declared.Started.{Started}
 use Rattle.answer.specs.declared.Start.the-variants as start
@@ -20,29 +20,32 @@ use Rattle.answer.specs.declared.Step.the-variants as step
 use Rattle.answer.specs.Table.{Words, startWords, stepWords, refusedWords}
 use Rattle.rules.specs.Store.{refuseIf, orElse, badStore}
 use Rattle.rules.specs.Entry.{wordBytes}
-use Rattle.rules.specs.Listing.{refuseStart, startList, refuseStep, stepList}
+use Rattle.rules.specs.Listing.{refuseStart, refuseStep}
+use Rattle.rules.specs.Append.{badHeap}
+use Rattle.rules.specs.Calls.{heapFault, startCall, stepCall}
 use Rattle.florinwick.specs.Words.{WordsIn, words, AreaReplied, not-answered, answered, area-replied-same}
 use Rattle.florinwick.specs.Cursor.{cursorBytes, cursorIn}
 
 -- a bound in bytes: a length other than 32 is no bound, so it is 10, and "checks 1, 10, 5" keeps its order
-unfoldable pub startBytes : DatomOrd → Extent → List ℕ → PageId → List ℕ → List ℕ → Started
-startBytes t x s root lower upper =
-    orElse refuseStart (refuseIf (badStore x s) BadStore)
+unfoldable pub startBytes : StoreRecord → List ℕ → List ℕ → PageId → List ℕ → List ℕ → Started
+startBytes q s h root lower upper =
+    orElse refuseStart (heapFault q h)
+    (orElse refuseStart (refuseIf (badStore (extentOf q) s) BadStore)
     (orElse refuseStart (refuseIf (not (eqb (length lower) 32 && eqb (length upper) 32)) BadBound)
-    (startList t x s root (datomAt lower 0) (datomAt upper 0)))
+    (startCall q s h root (datomAt lower 0) (datomAt upper 0))))
 
 -- a cursor area of a length other than 264 is 1
-unfoldable pub startIn : DatomOrd → Extent → List ℕ → PageId → List ℕ → List ℕ → List ℕ → Started
-startIn t x s root lower upper c = cond (eqb (length c) 264) (startBytes t x s root lower upper) (refuseStart BadStore)
+unfoldable pub startIn : StoreRecord → List ℕ → List ℕ → PageId → List ℕ → List ℕ → List ℕ → Started
+startIn q s h root lower upper c = cond (eqb (length c) 264) (startBytes q s h root lower upper) (refuseStart BadStore)
 
 -- the cursor area after a start: one that is refused leaves it as it was
 unfoldable pub cursorStarted : List ℕ → Started → List ℕ
 cursorStarted c b = elim (b .answer) [ start.Begun ↦ cursorBytes (b .cursor) | start.Refused r ↦ c ]
 
 -- a cursor area of a length other than 264, or a datom area of a length other than 32, is 1
-unfoldable pub stepIn : DatomOrd → Extent → List ℕ → List ℕ → List ℕ → Stepped
-stepIn t x s c d =
-    cond (eqb (length c) 264 && eqb (length d) 32) (stepList t x s (cursorIn c)) (refuseStep (cursorIn c) BadStore)
+unfoldable pub stepIn : StoreRecord → List ℕ → List ℕ → List ℕ → List ℕ → Stepped
+stepIn q s h c d =
+    cond (eqb (length c) 264 && eqb (length d) 32) (stepCall q s h (cursorIn c)) (refuseStep (cursorIn c) BadStore)
 
 -- "An ended or refused step returns its cursor unchanged", and no datom
 unfoldable pub cursorStepped : List ℕ → Stepped → List ℕ
@@ -80,71 +83,75 @@ steps-same r₁ r₂ a a₁ a₂ c c₁ c₂ e e₁ e₂ k A B =
     (area-replied-same r₁ r₂ a a₁ a₂ (stepWords (k .answer)) (A .answer) (B .answer), (A .cursor ∙ sym (B .cursor), A .datom ∙ sym (B .datom)))
 
 -- the start between two bounds in bytes, in the order of its refusals
-module _ (t : DatomOrd) (x : Extent) (s : List ℕ) (root : PageId) (lower upper : List ℕ) where
-  pub store-first : badStore x s ≡ true → refuseStart BadStore ≡ startBytes t x s root lower upper
-  unfolding startBytes
-  store-first e = rw e
+module _ (q : StoreRecord) (s h : List ℕ) (root : PageId) (lower upper : List ℕ) where
+  pub heap-first : badHeap (q .heap) h ≡ true → refuseStart BadStore ≡ startBytes q s h root lower upper
+  unfolding startBytes heapFault
+  heap-first e = rw e
 
-  pub lower-short : badStore x s ≡ false → (length lower ≡ 32 → ⊥) → refuseStart BadBound ≡ startBytes t x s root lower upper
-  unfolding startBytes
-  lower-short e h = rw (e, ne-eqb (length lower) 32 h)
+  module _ (whole : badHeap (q .heap) h ≡ false) where
+    pub store-first : badStore (extentOf q) s ≡ true → refuseStart BadStore ≡ startBytes q s h root lower upper
+    unfolding startBytes heapFault
+    store-first e = rw (whole, e)
 
-  pub upper-short :
-      badStore x s ≡ false → length lower ≡ 32 → (length upper ≡ 32 → ⊥) → refuseStart BadBound ≡ startBytes t x s root lower upper
-  unfolding startBytes
-  upper-short e l h = rw (e, eq-eqb (length lower) 32 l, ne-eqb (length upper) 32 h)
+    module _ (good : badStore (extentOf q) s ≡ false) where
+      pub lower-short : (length lower ≡ 32 → ⊥) → refuseStart BadBound ≡ startBytes q s h root lower upper
+      unfolding startBytes heapFault
+      lower-short n = rw (whole, good, ne-eqb (length lower) 32 n)
 
-  pub bounds-given :
-      badStore x s ≡ false → length lower ≡ 32 → length upper ≡ 32 →
-      startList t x s root (datomAt lower 0) (datomAt upper 0) ≡ startBytes t x s root lower upper
-  unfolding startBytes
-  bounds-given e l u = rw (e, eq-eqb (length lower) 32 l, eq-eqb (length upper) 32 u)
+      pub upper-short : length lower ≡ 32 → (length upper ≡ 32 → ⊥) → refuseStart BadBound ≡ startBytes q s h root lower upper
+      unfolding startBytes heapFault
+      upper-short l n = rw (whole, good, eq-eqb (length lower) 32 l, ne-eqb (length upper) 32 n)
+
+      pub bounds-given :
+          length lower ≡ 32 → length upper ≡ 32 → startCall q s h root (datomAt lower 0) (datomAt upper 0) ≡ startBytes q s h root lower upper
+      unfolding startBytes heapFault
+      bounds-given l u = rw (whole, good, eq-eqb (length lower) 32 l, eq-eqb (length upper) 32 u)
 
   pub start-unanswered :
-      (a c : List ℕ) → (length a ≡ 32 → ⊥) → Begins 1 a a c c root (startIn t x s root lower upper c)
-  start-unanswered a c h = record { answer = not-answered a _ h; cursor = rw (ne-eqb (length a) 32 h) }
+      (a c : List ℕ) → (length a ≡ 32 → ⊥) → Begins 1 a a c c root (startIn q s h root lower upper c)
+  start-unanswered a c n = record { answer = not-answered a _ n; cursor = rw (ne-eqb (length a) 32 n) }
 
   pub start-unkept :
       (r : ℕ) (a a₁ c : List ℕ) → length a ≡ 32 → (length c ≡ 264 → ⊥) → r ≡ refusedWords (root .0) BadStore .number →
-      WordsIn (refusedWords (root .0) BadStore) a₁ → Begins r a a₁ c c root (startIn t x s root lower upper c)
+      WordsIn (refusedWords (root .0) BadStore) a₁ → Begins r a a₁ c c root (startIn q s h root lower upper c)
   unfolding startIn cursorStarted
   start-unkept r a a₁ c h n e T =
       rw (ne-eqb (length c) 264 n) (record { answer = answered r a a₁ _ h e T; cursor = rw (eq-eqb (length a) 32 h) })
 
   pub start-kept :
-      (r : ℕ) (a a₁ c c₁ : List ℕ) (b : Started) → length a ≡ 32 → length c ≡ 264 → b ≡ startBytes t x s root lower upper →
+      (r : ℕ) (a a₁ c c₁ : List ℕ) (b : Started) → length a ≡ 32 → length c ≡ 264 → b ≡ startBytes q s h root lower upper →
       r ≡ startWords root (b .answer) .number → WordsIn (startWords root (b .answer)) a₁ → c₁ ≡ cursorStarted c b →
-      Begins r a a₁ c c₁ root (startIn t x s root lower upper c)
+      Begins r a a₁ c c₁ root (startIn q s h root lower upper c)
   unfolding startIn
   start-kept r a a₁ c c₁ b h n g e T k =
       rw (eq-eqb (length c) 264 n, ← g) (record { answer = answered r a a₁ _ h e T; cursor = rw (eq-eqb (length a) 32 h) k })
 
 -- a step, in the order of its refusals
-module _ (t : DatomOrd) (x : Extent) (s a c e : List ℕ) where
-  pub step-unanswered : (length a ≡ 32 → ⊥) → Steps 1 a a c c e e (stepIn t x s c e)
+module _ (q : StoreRecord) (s h a c e : List ℕ) where
+  pub step-unanswered : (length a ≡ 32 → ⊥) → Steps 1 a a c c e e (stepIn q s h c e)
   step-unanswered h = record { answer = not-answered a _ h; cursor = rw (ne-eqb (length a) 32 h); datom = rw (ne-eqb (length a) 32 h) }
 
   unkept :
       (r : ℕ) (a₁ : List ℕ) → length a ≡ 32 → (eqb (length c) 264 && eqb (length e) 32) ≡ false → r ≡ refusedWords 0 BadStore .number →
-      WordsIn (refusedWords 0 BadStore) a₁ → Steps r a a₁ c c e e (stepIn t x s c e)
+      WordsIn (refusedWords 0 BadStore) a₁ → Steps r a a₁ c c e e (stepIn q s h c e)
   unfolding stepIn cursorStepped datomStepped
   unkept r a₁ h n v T =
       rw n (record { answer = answered r a a₁ _ h v T; cursor = rw (eq-eqb (length a) 32 h); datom = rw (eq-eqb (length a) 32 h) })
 
   pub step-no-cursor :
       (r : ℕ) (a₁ : List ℕ) → length a ≡ 32 → (length c ≡ 264 → ⊥) → r ≡ refusedWords 0 BadStore .number →
-      WordsIn (refusedWords 0 BadStore) a₁ → Steps r a a₁ c c e e (stepIn t x s c e)
+      WordsIn (refusedWords 0 BadStore) a₁ → Steps r a a₁ c c e e (stepIn q s h c e)
   step-no-cursor r a₁ h n v T = unkept r a₁ h (rw (ne-eqb (length c) 264 n)) v T
 
   pub step-no-datom :
       (r : ℕ) (a₁ : List ℕ) → length a ≡ 32 → length c ≡ 264 → (length e ≡ 32 → ⊥) → r ≡ refusedWords 0 BadStore .number →
-      WordsIn (refusedWords 0 BadStore) a₁ → Steps r a a₁ c c e e (stepIn t x s c e)
+      WordsIn (refusedWords 0 BadStore) a₁ → Steps r a a₁ c c e e (stepIn q s h c e)
   step-no-datom r a₁ h n m v T = unkept r a₁ h (rw (eq-eqb (length c) 264 n, ne-eqb (length e) 32 m)) v T
 
   pub step-kept :
-      (r : ℕ) (a₁ c₁ e₁ : List ℕ) (k : Stepped) → length a ≡ 32 → length c ≡ 264 → length e ≡ 32 → k ≡ stepList t x s (cursorIn c) →
+      (r : ℕ) (a₁ c₁ e₁ : List ℕ) (k : Stepped) → length a ≡ 32 → length c ≡ 264 → length e ≡ 32 → k ≡ stepCall q s h (cursorIn c) →
       r ≡ stepWords (k .answer) .number → WordsIn (stepWords (k .answer)) a₁ → c₁ ≡ cursorStepped c k → e₁ ≡ datomStepped e k →
-      Steps r a a₁ c c₁ e e₁ (stepIn t x s c e)
+      Steps r a a₁ c c₁ e e₁ (stepIn q s h c e)
   unfolding stepIn
   step-kept r a₁ c₁ e₁ k h n m g v T i j =
       rw (eq-eqb (length c) 264 n, eq-eqb (length e) 32 m, ← g)

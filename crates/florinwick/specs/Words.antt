@@ -1,12 +1,12 @@
 -- The answer's four words in their area, and the reply of a call.
-use Prim.Native.Nat.{ℕ, _+_, _≤_}
+use Prim.Native.Nat.{ℕ}
 use native.Mathlib.Omega.{arith}
 use mathlib.Core.Bool.{cond}
-use mathlib.Core.List.{List, _++_, append-nil}
+use mathlib.Core.List.{List, append-nil}
 use mathlib.Core.Path.{_≡_, refl, sym, _∙_, ap}
 use borrow.Author.Tests.{eq-eqb, ne-eqb}
 use lib.Dec.{eqb}
-use lib.ListN.{length, drop-of-length-le}
+use lib.ListN.{length}
 use Rattle.store.specs.declared.PageId.{PageId}
 use Rattle.store.specs.declared.Extent.{Extent}
 use Rattle.store.specs.Words.{bytesOf, spread, patch}
@@ -15,15 +15,12 @@ use Rattle.answer.specs.declared.Answer.{Answer}
 use Rattle.answer.specs.Table.{Words}
 use Rattle.rules.specs.Insert.{Outcome}
 use Rattle.rules.specs.Entry.{wordBytes, Reply, replyIn}
-use Rattle.store.specs.Cells.{patch-patch}
+use Rattle.store.specs.Cells.{filled}
 use Rattle.entry.specs.Reply.{Replies}
 use Rattle.records.specs.Laid.{four-words}
 
 abbrev pub words : ℕ → ℕ → ℕ → ℕ → Words
 words number root pages detail = record { number = number; root = root; pages = pages; detail = detail }
-
-abbrev pub extentOf : ℕ → ℕ → Extent
-extentOf size count = record { size = size; count = count }
 
 -- 0 for a page size that is not known
 unfoldable pub needOf : ℕ → ℕ
@@ -52,16 +49,7 @@ pub replied-same :
     (r₁ r₂ : ℕ) (s₁ s₂ a₁ a₂ : List ℕ) (y : Reply) → Replied r₁ s₁ a₁ y → Replied r₂ s₂ a₂ y → (r₁ ≡ r₂) × (s₁ ≡ s₂) × (a₁ ≡ a₂)
 replied-same r₁ r₂ s₁ s₂ a₁ a₂ y A B = (A .returns ∙ sym (B .returns), A .store ∙ sym (B .store), A .area ∙ sym (B .area))
 
--- blocks behind one another, until they fill an area
-pub next-block :
-    (a p q : List ℕ) (n : ℕ) → length p ≡ n → n + length q ≤ length a → patch (patch a 0 p) n q ≡ patch a 0 (p ++ q)
-next-block a p q n e h =
-    ap (λ (k : ℕ). patch (patch a 0 p) k q) (let z : n ≡ 0 + length p = omega arith in z) ∙ patch-patch a 0 p q (omega arith)
-
-pub filled : (a p : List ℕ) → length a ≡ length p → patch a 0 p ≡ p
-unfolding patch
-filled a p e = ap (λ (l : List ℕ). p ++ l) (drop-of-length-le a {i = 0 + length p} (omega arith)) ∙ append-nil p
-
+-- the four words fill their area
 pub words-put :
     (a : List ℕ) → length a ≡ 32 → (p q r t : ℕ) →
     WordsIn (words p q r t) (patch (patch (patch (patch a 0 (bytesOf 8 p)) 8 (bytesOf 8 q)) 16 (bytesOf 8 r)) 24 (bytesOf 8 t))

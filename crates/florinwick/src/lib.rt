@@ -1,25 +1,26 @@
 // The library as a C or C++ program calls it: numbers and byte slices, and an area of 32 bytes for the answer's four words.
+pub mod appends;
 pub mod cursor;
 pub mod list;
 pub mod named;
 pub mod record;
+pub mod recorded;
 pub mod words;
 
 use answer::Check;
 use answer::Fetch;
 use answer::Held;
-use store::Extent;
 use store::PageId;
 ghost use mathlib.Core.Path.{_≡_};
 ghost use lib.ListN.{length};
-ghost use Rattle.index.specs.Order.{eavt};
 ghost use Rattle.store.specs.Page.{page};
+ghost use Rattle.store.specs.Record.{extentOf};
 ghost use Rattle.answer.specs.Table.{fetchWords, checkWords, heldWords};
 ghost use Rattle.rules.specs.Entry.{insertReply, initialiseReply};
 ghost use Rattle.rules.specs.Store.{fetchAnswer};
-ghost use Rattle.rules.specs.Check.{checkTree};
-ghost use Rattle.rules.specs.Held.{heldBytes};
-ghost use Rattle.florinwick.specs.Words.{Replied, AreaReplied, extentOf, needOf};
+ghost use Rattle.rules.specs.Calls.{checkCall, heldCall};
+ghost use Rattle.florinwick.specs.Record.{recordIn};
+ghost use Rattle.florinwick.specs.Words.{Replied, AreaReplied, needOf};
 
 // The number of a check that finds a fault.
 const UNSOUND: u64 = 33;
@@ -28,20 +29,20 @@ const UNSOUND: u64 = 33;
 #[no_mangle]
 pub extern "C" fn florinwick_insert(
     store: &mut [u8],
-    size: u64,
-    count: u64,
+    heap: &[u8],
+    recorded: &[u8],
     root: u64,
     batch: &[u8],
     scratch: &mut [u8],
     area: &mut [u8],
 ) -> u64
-    ensures { λ r. ⌜ Replied r (now (store .exit)) (now (area .exit)) (insertReply eavt (extentOf size count) (now (store .entry)) (length (now (scratch .entry))) (page root) (now (batch .entry)) (now (area .entry))) ⌝ }
+    ensures { λ r. ⌜ Replied r (now (store .exit)) (now (area .exit)) (insertReply (recordIn (now (recorded .entry))) (now (store .entry)) (now (heap .entry)) (length (now (scratch .entry))) (page root) (now (batch .entry)) (now (area .entry))) ⌝ }
 {
     if area.len() != words::AREA {
         return 1;
     }
-    let extent = Extent { size, count };
-    let a = entry::insert(store, extent, PageId(root), batch, scratch);
+    let stored = recorded::record_in(recorded);
+    let a = entry::insert(store, stored, PageId(root), batch, scratch, heap);
     words::tell(area, PageId(root), a)
 }
 
@@ -49,19 +50,19 @@ pub extern "C" fn florinwick_insert(
 #[no_mangle]
 pub extern "C" fn florinwick_initialise(
     store: &mut [u8],
-    size: u64,
-    count: u64,
+    heap: &[u8],
+    recorded: &[u8],
     batch: &[u8],
     scratch: &mut [u8],
     area: &mut [u8],
 ) -> u64
-    ensures { λ r. ⌜ Replied r (now (store .exit)) (now (area .exit)) (initialiseReply eavt (extentOf size count) (now (store .entry)) (length (now (scratch .entry))) (now (batch .entry)) (now (area .entry))) ⌝ }
+    ensures { λ r. ⌜ Replied r (now (store .exit)) (now (area .exit)) (initialiseReply (recordIn (now (recorded .entry))) (now (store .entry)) (now (heap .entry)) (length (now (scratch .entry))) (now (batch .entry)) (now (area .entry))) ⌝ }
 {
     if area.len() != words::AREA {
         return 1;
     }
-    let extent = Extent { size, count };
-    let a = entry::initialise(store, extent, batch, scratch);
+    let stored = recorded::record_in(recorded);
+    let a = entry::initialise(store, stored, batch, scratch, heap);
     words::tell(area, PageId::max(), a)
 }
 
@@ -79,20 +80,14 @@ pub extern "C" fn florinwick_scratch_need(size: u64) -> u64
 
 // Why a fetch is refused, or 0: the page is then the part of the store at id times size.
 #[no_mangle]
-pub extern "C" fn florinwick_fetch(
-    store: &[u8],
-    size: u64,
-    count: u64,
-    id: u64,
-    area: &mut [u8],
-) -> u64
-    ensures { λ r. ⌜ AreaReplied r (now (area .entry)) (now (area .exit)) (fetchWords (fetchAnswer (extentOf size count) (now (store .entry)) (page id))) ⌝ }
+pub extern "C" fn florinwick_fetch(store: &[u8], recorded: &[u8], id: u64, area: &mut [u8]) -> u64
+    ensures { λ r. ⌜ AreaReplied r (now (area .entry)) (now (area .exit)) (fetchWords (fetchAnswer (extentOf (recordIn (now (recorded .entry)))) (now (store .entry)) (page id))) ⌝ }
 {
     if area.len() != words::AREA {
         return 1;
     }
-    let extent = Extent { size, count };
-    match memory_store::fetch_refusal(store, extent, PageId(id)) {
+    let stored = recorded::record_in(recorded);
+    match memory_store::fetch_refusal(store, stored.extent(), PageId(id)) {
         Fetch::Given => words::plain(area, 0),
         Fetch::Refused(refusal) => words::refuse(area, 0, refusal),
     }
@@ -102,18 +97,18 @@ pub extern "C" fn florinwick_fetch(
 #[no_mangle]
 pub extern "C" fn florinwick_check(
     store: &[u8],
-    size: u64,
-    count: u64,
+    heap: &[u8],
+    recorded: &[u8],
     root: u64,
     area: &mut [u8],
 ) -> u64
-    ensures { λ r. ⌜ AreaReplied r (now (area .entry)) (now (area .exit)) (checkWords (page root) (checkTree eavt (extentOf size count) (now (store .entry)) (page root))) ⌝ }
+    ensures { λ r. ⌜ AreaReplied r (now (area .entry)) (now (area .exit)) (checkWords (page root) (checkCall (recordIn (now (recorded .entry))) (now (store .entry)) (now (heap .entry)) (page root))) ⌝ }
 {
     if area.len() != words::AREA {
         return 1;
     }
-    let extent = Extent { size, count };
-    match invariants::check(store, extent, PageId(root)) {
+    let stored = recorded::record_in(recorded);
+    match invariants::check(store, stored, PageId(root), heap) {
         Check::Sound => words::plain(area, 0),
         Check::Unsound(page, fault) => {
             words::put_words(area, UNSOUND, 0, fault.number(), page.0);
@@ -127,19 +122,19 @@ pub extern "C" fn florinwick_check(
 #[no_mangle]
 pub extern "C" fn florinwick_held(
     store: &[u8],
-    size: u64,
-    count: u64,
+    heap: &[u8],
+    recorded: &[u8],
     root: u64,
     batch: &[u8],
     area: &mut [u8],
 ) -> u64
-    ensures { λ r. ⌜ AreaReplied r (now (area .entry)) (now (area .exit)) (heldWords (page root) (heldBytes eavt (extentOf size count) (now (store .entry)) (page root) (now (batch .entry)))) ⌝ }
+    ensures { λ r. ⌜ AreaReplied r (now (area .entry)) (now (area .exit)) (heldWords (page root) (heldCall (recordIn (now (recorded .entry))) (now (store .entry)) (now (heap .entry)) (page root) (now (batch .entry)))) ⌝ }
 {
     if area.len() != words::AREA {
         return 1;
     }
-    let extent = Extent { size, count };
-    match held::held(store, extent, PageId(root), batch) {
+    let stored = recorded::record_in(recorded);
+    match held::held(store, stored, PageId(root), batch, heap) {
         Held::All => words::plain(area, 0),
         Held::Refused(refusal) => words::refuse_named(area, root, refusal),
     }

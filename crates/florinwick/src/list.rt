@@ -1,26 +1,37 @@
 // Listing as a C or C++ program calls it: the cursor stays in 264 bytes of the caller's between the calls.
 use crate::cursor;
+use crate::recorded;
 use crate::words;
 use answer::Refusal;
 use answer::Start;
 use answer::Started;
 use answer::Step;
 use answer::Stepped;
-use store::Extent;
 use store::PageId;
+use store::StoreRecord;
 ghost use mathlib.Core.Path.{_≡_};
 ghost use lib.ListN.{length};
-ghost use Rattle.index.specs.Order.{eavt};
 ghost use Rattle.store.specs.Page.{page};
 ghost use Rattle.answer.specs.Table.{startWords, stepWords};
-ghost use Rattle.florinwick.specs.Words.{WordsIn, extentOf};
+ghost use Rattle.florinwick.specs.Record.{recordIn};
+ghost use Rattle.florinwick.specs.Words.{WordsIn};
 ghost use Rattle.florinwick.specs.Listing.{startBytes, startIn, cursorStarted, stepIn, cursorStepped, datomStepped, Begins, Steps};
 
 // A bound that is not 32 bytes long is none.
-fn start_between(store: &[u8], extent: Extent, root: PageId, lower: &[u8], upper: &[u8]) -> Started
-    ensures { λ r. ⌜ r ≡ startBytes eavt extent (now (store .entry)) root (now (lower .entry)) (now (upper .entry)) ⌝ }
+fn start_between(
+    store: &[u8],
+    stored: StoreRecord,
+    root: PageId,
+    lower: &[u8],
+    upper: &[u8],
+    heap: &[u8],
+) -> Started
+    ensures { λ r. ⌜ r ≡ startBytes stored (now (store .entry)) (now (heap .entry)) root (now (lower .entry)) (now (upper .entry)) ⌝ }
 {
-    if memory_store::is_bad(store, extent) {
+    if heap::is_bad(heap, stored.heap) {
+        return listing::begin::refused(Refusal::BadStore);
+    }
+    if memory_store::is_bad(store, stored.extent()) {
         return listing::begin::refused(Refusal::BadStore);
     }
     if lower.len() != 32 {
@@ -31,7 +42,7 @@ fn start_between(store: &[u8], extent: Extent, root: PageId, lower: &[u8], upper
     }
     let from = datom::datom_at(lower, 0);
     let to = datom::datom_at(upper, 0);
-    listing::begin::start(store, extent, root, from, to)
+    listing::begin::start(store, stored, root, from, to, heap)
 }
 
 // A cursor that has begun goes to its area; a refused start leaves it.
@@ -54,15 +65,15 @@ fn keep_start(cursor: &mut [u8], area: &mut [u8], root: u64, started: Started) -
 #[no_mangle]
 pub extern "C" fn florinwick_list_start(
     store: &[u8],
-    size: u64,
-    count: u64,
+    heap: &[u8],
+    recorded: &[u8],
     root: u64,
     lower: &[u8],
     upper: &[u8],
     cursor: &mut [u8],
     area: &mut [u8],
 ) -> u64
-    ensures { λ r. ⌜ Begins r (now (area .entry)) (now (area .exit)) (now (cursor .entry)) (now (cursor .exit)) (page root) (startIn eavt (extentOf size count) (now (store .entry)) (page root) (now (lower .entry)) (now (upper .entry)) (now (cursor .entry))) ⌝ }
+    ensures { λ r. ⌜ Begins r (now (area .entry)) (now (area .exit)) (now (cursor .entry)) (now (cursor .exit)) (page root) (startIn (recordIn (now (recorded .entry))) (now (store .entry)) (now (heap .entry)) (page root) (now (lower .entry)) (now (upper .entry)) (now (cursor .entry))) ⌝ }
 {
     if area.len() != words::AREA {
         return 1;
@@ -70,8 +81,8 @@ pub extern "C" fn florinwick_list_start(
     if cursor.len() != cursor::BYTES {
         return words::refuse(area, root, Refusal::BadStore);
     }
-    let extent = Extent { size, count };
-    let started = start_between(store, extent, PageId(root), lower, upper);
+    let stored = recorded::record_in(recorded);
+    let started = start_between(store, stored, PageId(root), lower, upper, heap);
     keep_start(cursor, area, root, started)
 }
 
@@ -103,13 +114,13 @@ fn keep_step(cursor: &mut [u8], datom: &mut [u8], area: &mut [u8], stepped: Step
 #[no_mangle]
 pub extern "C" fn florinwick_list_step(
     store: &[u8],
-    size: u64,
-    count: u64,
+    heap: &[u8],
+    recorded: &[u8],
     cursor: &mut [u8],
     datom: &mut [u8],
     area: &mut [u8],
 ) -> u64
-    ensures { λ r. ⌜ Steps r (now (area .entry)) (now (area .exit)) (now (cursor .entry)) (now (cursor .exit)) (now (datom .entry)) (now (datom .exit)) (stepIn eavt (extentOf size count) (now (store .entry)) (now (cursor .entry)) (now (datom .entry))) ⌝ }
+    ensures { λ r. ⌜ Steps r (now (area .entry)) (now (area .exit)) (now (cursor .entry)) (now (cursor .exit)) (now (datom .entry)) (now (datom .exit)) (stepIn (recordIn (now (recorded .entry))) (now (store .entry)) (now (heap .entry)) (now (cursor .entry)) (now (datom .entry))) ⌝ }
 {
     if area.len() != words::AREA {
         return 1;
@@ -120,8 +131,8 @@ pub extern "C" fn florinwick_list_step(
     if datom.len() != words::AREA {
         return words::refuse(area, 0, Refusal::BadStore);
     }
-    let extent = Extent { size, count };
+    let stored = recorded::record_in(recorded);
     let given = cursor::cursor_in(cursor);
-    let stepped = listing::step::step(store, extent, given);
+    let stepped = listing::step::step(store, stored, given, heap);
     keep_step(cursor, datom, area, stepped)
 }

@@ -1,10 +1,11 @@
 // The answer's four words, into the caller's area.
 use answer::Answer;
+use answer::Append;
 use answer::Refusal;
 use store::PageId;
 ghost use mathlib.Core.Path.{_≡_};
 ghost use lib.ListN.{length};
-ghost use Rattle.answer.specs.Table.{answerWords, refusedWords, namedAnswer, namedWords, plain};
+ghost use Rattle.answer.specs.Table.{answerWords, refusedWords, namedAnswer, namedWords, appendWords, plain};
 ghost use Rattle.florinwick.specs.Words.{WordsIn, words};
 
 // How many bytes four words have.
@@ -75,5 +76,19 @@ pub fn tell_named(area: &mut [u8], root: PageId, a: Answer) -> u64
             0
         }
         Answer::Refused(refusal) => refuse_named(area, root.0, refusal),
+    }
+}
+
+// An append's answer: the value that names the constant where a root would stand, and bytes in place of pages.
+pub fn tell_append(area: &mut [u8], a: Append) -> u64
+    requires { ⌜ length (now area) ≡ 32 ⌝ }
+    ensures { λ r. ⌜ (r ≡ appendWords a .number) × WordsIn (appendWords a) (now (area .exit)) ⌝ }
+{
+    match a {
+        Append::Stored { value, bytes } => {
+            put_words(area, 0, value.0, bytes, 0);
+            0
+        }
+        Append::Refused(refusal) => refuse(area, 0, refusal),
     }
 }

@@ -1,4 +1,4 @@
--- What the call may answer: that all is held, or a refusal of number 1 to 5, 7 or 16.
+-- What the call may answer: that all is held, or a refusal of number 1 to 5, 7, 11 or 16.
 use Prim.Native.Nat.{ℕ, suc, _%_, Ordering}
 use mathlib.Core.Bool.{Bool, true, false, _||_, not}
 use mathlib.Core.List.{List, [], _∷_}
@@ -7,23 +7,27 @@ use lib.Dec.{ltb, eqb}
 use lib.ListN.{length}
 use Rattle.store.specs.declared.PageId.{PageId}
 use Rattle.store.specs.declared.Extent.{Extent}
+use Rattle.store.specs.declared.StoreRecord.{StoreRecord}
+use Rattle.store.specs.Record.{extentOf}
 use Rattle.store.specs.Page.{isNone}
 use Rattle.datom.specs.declared.Datom.{Datom}
 use Rattle.index.specs.Order.{DatomOrd, isLess}
 use Rattle.answer.specs.declared.Refusal.{Refusal}
-use Rattle.answer.specs.declared.Refusal.the-variants.{BadStore, TooMany, NoPage}
+use Rattle.answer.specs.declared.Refusal.the-variants.{BadStore, TooMany, BadDatom, BadConstant, NoPage}
 use Rattle.answer.specs.declared.Held.{Held}
 use Rattle.answer.specs.declared.Held.the-variants.{All, Refused}
 use Rattle.answer.specs.Table.{numberOf}
 use Rattle.rules.specs.Tree.{Fetched, faulty, fine, Env}
 use Rattle.rules.specs.Lookup.{Look, met, absent, lost, lookup, Finding, clear, found}
 use Rattle.rules.specs.Store.{refuseIf, orElse, badStore, badRoot, fetchPage, envOf}
-use Rattle.rules.specs.Insert.{countFault, formFault, lowFault, orderFault, rootFault, bytesFault, batchOf}
+use Rattle.rules.specs.Insert.{countFault, formFault, wordFault, lowFault, orderFault, rootFault, bytesFault, batchOf}
+use Rattle.rules.specs.Append.{badHeap}
+use Rattle.rules.specs.Calls.{ordOf, heapFault, heldCall}
 use Rattle.rules.specs.Held.{afterHeld, heldAll, heldAt, heldTree, heldCounted, heldFault, heldBytes}
 
--- all of it, or refused with 1 to 5, 7 or 16
+-- all of it, or refused with 1 to 5, 7, 11 or 16
 abbrev pub isGiven : Refusal → Bool
-isGiven r = ltb (numberOf r) 6 || (eqb (numberOf r) 7 || eqb (numberOf r) 16)
+isGiven r = ltb (numberOf r) 6 || (eqb (numberOf r) 7 || (eqb (numberOf r) 11 || eqb (numberOf r) 16))
 
 unfoldable pub isAnswer : Held → Bool
 isAnswer All = true
@@ -41,14 +45,19 @@ fits-then : {a b : Finding} → Fits a → Fits b → Fits (orElse found a b)
 fits-then nothing k = k
 fits-then (given h) k = given h
 
-fits-form : (ok : Datom → Bool) (i : ℕ) (ds : List Datom) → Fits (formFault ok i ds)
+fits-form :
+    (bad : ℕ → Refusal) → ((i : ℕ) → isGiven (bad i) ≡ true) → (ok : Datom → Bool) (i : ℕ) (ds : List Datom) → Fits (formFault bad ok i ds)
 unfolding formFault
-fits-form ok i [] = nothing
-fits-form ok i (d ∷ ds) = side (ok d) refl (fits-form ok (suc i) ds)
+fits-form bad g ok i [] = nothing
+fits-form bad g ok i (d ∷ ds) = side (ok d) refl (fits-form bad g ok (suc i) ds)
   where
-    side : (b : Bool) → ok d ≡ b → Fits (formFault ok (suc i) ds) → Fits (formFault ok i (d ∷ ds))
+    side : (b : Bool) → ok d ≡ b → Fits (formFault bad ok (suc i) ds) → Fits (formFault bad ok i (d ∷ ds))
     side true e h = rw e h
-    side false e h = rw e (given refl)
+    side false e h = rw e (given (g i))
+
+fits-word : (t : DatomOrd) (ds : List Datom) → Fits (wordFault t ds)
+unfolding wordFault
+fits-word t ds = fits-then (fits-form BadDatom (λ i. refl) (t .formed) 0 ds) (fits-form BadConstant (λ i. refl) (t .stored) 0 ds)
 
 fits-low : (cmp : Datom → Datom → Ordering) (i : ℕ) (p : Datom) (ds : List Datom) → Fits (lowFault cmp i p ds)
 unfolding lowFault
@@ -93,7 +102,7 @@ module _ (t : DatomOrd) (x : Extent) (s : List ℕ) (root : PageId) where
   fits-counted : (ds : List Datom) → Fits (heldCounted t x s root ds)
   unfolding heldCounted rootFault
   fits-counted ds =
-      fits-then (fits-form (t .stored) 0 ds) (fits-then (fits-order (t .cmp) ds) (fits-then (fits-if (badRoot x root) NoPage refl) (fits-tree ds)))
+      fits-then (fits-word t ds) (fits-then (fits-order (t .cmp) ds) (fits-then (fits-if (badRoot x root) NoPage refl) (fits-tree ds)))
 
   fits-fault : (b : List ℕ) → Fits (heldFault t x s root b)
   unfolding heldFault bytesFault countFault
@@ -109,3 +118,12 @@ module _ (t : DatomOrd) (x : Extent) (s : List ℕ) (root : PageId) where
       side : {f : Finding} → Fits f → isAnswer (orElse Refused f All) ≡ true
       side nothing = refl
       side (given h) = h
+
+-- the same of the call, with a heap
+pub call-answers : (r : StoreRecord) (s h : List ℕ) (root : PageId) (b : List ℕ) → isAnswer (heldCall r s h root b) ≡ true
+unfolding heldCall heapFault isAnswer
+call-answers r s h root b = side (badHeap (r .heap) h) refl
+  where
+    side : (v : Bool) → badHeap (r .heap) h ≡ v → isAnswer (heldCall r s h root b) ≡ true
+    side true e = rw e
+    side false e = rw e (held-answers (ordOf r h) (extentOf r) s root b)

@@ -21,7 +21,7 @@ use Rattle.rules.specs.Tree.{faulty, fine}
 use Rattle.rules.specs.Lookup as rules
 use Rattle.rules.specs.Lookup.{clear, found}
 use Rattle.rules.specs.Store.{orElse, badStore, badRoot, fetchPage, envOf}
-use Rattle.rules.specs.Insert.{formFault, rootFault}
+use Rattle.rules.specs.Insert.{wordFault, rootFault}
 use Rattle.rules.specs.Held.{heldAll, heldAt, heldTree, heldCounted, heldFault, heldBytes}
 use Rattle.memory_store.specs.Readable.{nodeAt}
 use Rattle.batch.specs.declared.Finding.{Finding}
@@ -57,11 +57,11 @@ module _ (t : DatomOrd) (x : Extent) (s : List ℕ) (root : PageId) where
       unfolding heldBytes heldFault
       bytes-counted n e = let G = given-count b n e in rw (good, G .bytes, G .count, ← (G .is))
 
-  -- 3, 4 and 5
+  -- 3, 11, 4 and 5
   module _ (ds : List Datom) where
     counted-is : heldCounted t x s root ds ≡ orElse found (insertFault t ds) (orElse found (rootFault x root) (heldTree t x s root ds))
     unfolding heldCounted insertFault
-    counted-is = sym (both found (formFault (t .stored) 0 ds) _ _)
+    counted-is = sym (both found (wordFault t ds) _ _)
 
     pub counted-found : (r : Refusal) → found r ≡ insertFault t ds → found r ≡ heldCounted t x s root ds
     counted-found r h = rw (counted-is, ← h)

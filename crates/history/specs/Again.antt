@@ -1,4 +1,4 @@
--- A batch that is sent again. Rests on Invariant.
+-- A batch that is sent again. Rests on Demand.
 use Prim.Native.Nat.{ℕ, _/_, _%_, _<_, Ordering}
 use native.Mathlib.Omega.{arith}
 use mathlib.Core.Bool.{false}
@@ -18,14 +18,18 @@ use Rattle.answer.specs.declared.Refusal.the-variants.{Repeated}
 use Rattle.answer.specs.declared.Answer.the-variants.{Done}
 use Rattle.rules.specs.Store.{badScratch}
 use Rattle.rules.specs.Insert.{Outcome, refuse, batchOf}
-use Rattle.rules.specs.Lists.{In, in-left, in-right}
-use Rattle.history.specs.Statement.{Known, Call, inserts, givenRoot, givenBatch, outcomeOf, calls, next, gathered, WellFormed, Shared}
-use Rattle.history.specs.More.{FirstShared, GrewFrom, Resending, StaysHeld, AcceptedFormed}
-use Rattle.history.specs.Order.{clash, same-self}
+use Rattle.rules.specs.Calls.{extentOf}
+use Rattle.rules.specs.Lists.{In, in-left, in-right, turned}
+use Rattle.history.specs.Statement.{Known, at, Call, inserts, givenRoot, givenBatch, outcomeOf, calls, next, gathered, WellFormed, Shared}
+use Rattle.history.specs.More.{FirstShared, StaysFormed, GrewFrom, Resending, StaysHeld, AcceptedFormed}
+use Rattle.history.specs.Order.{clash}
 use Rattle.history.specs.After.{store-same}
+use Rattle.history.specs.Sort.{Fresh}
 use Rattle.history.specs.Calls.{Inserted, badly, early, met, stays, done}
+use Rattle.history.specs.Agree.{formed-agrees}
+use Rattle.history.specs.Heap.{at-laws, later-agrees}
 use Rattle.history.specs.Invariant.{inserted-at, inv}
-use Rattle.history.specs.Listing.{later-later}
+use Rattle.history.specs.Listing.{later-history}
 use Rattle.history.specs.Demand.{beyond}
 
 pub gathered-in : (bs : List (List ℕ)) (b : List ℕ) → In b bs → (d : Datom) → In d (batchOf b) → In d (gathered bs)
@@ -50,15 +54,18 @@ module _ (t : DatomOrd) (L : Preorder (t .cmp)) (x : Extent) (s : List ℕ) (scr
   accepted-well-formed (stays y f) e = absurd (apart (cc))
   accepted-well-formed (done w f R) e = w
 
+  not-fresh : Fresh (t .cmp) (batchOf b) u → (d : Datom) → In d (batchOf b) → Shared (t .cmp) u d → ⊥
+  not-fresh f d i (y, j, e) = f d y i j (turned (t .cmp) L e)
+
   shared-refused :
       {o : Outcome} → Inserted t x s scratch u b o → WellFormed t b → badScratch x scratch ≡ false → (d : Datom) → In d (batchOf b) →
-      ((y : Datom) → In y (batchOf b) → In y u) → o ≡ refuse (Repeated 0)
+      ((y : Datom) → In y (batchOf b) → Shared (t .cmp) u y) → o ≡ refuse (Repeated 0)
   shared-refused (badly y) w e d i a = absurd (clash e y)
   shared-refused (early y n) w e d i a = absurd (n w)
   shared-refused (met {i = j} F) w e d i a =
-      ap (λ (z : ℕ). refuse (Repeated z)) (first-zero (t .cmp) u (batchOf b) j (λ y k. (y, a y k, same-self (t .cmp) L y)) F)
-  shared-refused (stays y f) w e d i a = absurd (f d d i (a d i) (same-self (t .cmp) L d))
-  shared-refused (done v f R) w e d i a = absurd (f d d i (a d i) (same-self (t .cmp) L d))
+      ap (λ (z : ℕ). refuse (Repeated z)) (first-zero (t .cmp) u (batchOf b) j a F)
+  shared-refused (stays y f) w e d i a = absurd (not-fresh f d i (a d i))
+  shared-refused (done v f R) w e d i a = absurd (not-fresh f d i (a d i))
 
 -- a batch of some bytes and a multiple of 32 has a first datom
 some-datom : (b : List ℕ) → 0 < length b → length b % 32 ≡ 0 → (d : Datom) × In d (batchOf b)
@@ -68,29 +75,36 @@ some-datom b h e = head (batchOf b) (omega (arith, cells-length datomOf 32 (leng
     head [] k = absurd (omega arith)
     head (d ∷ ds) k = (d, inl refl)
 
-module _ (t : DatomOrd) (L : Preorder (t .cmp)) (size : ℕ) (known : capacity size ≡ 0 → ⊥) where
+-- the heap may have grown in between
+pub stays-formed : StaysFormed
+stays-formed m m₁ l b = formed-agrees (at m) (at m₁) (later-agrees l) b
+
+module _ (size : ℕ) (known : capacity size ≡ 0 → ⊥) where
   -- what a call took in is among the datoms that led to a root that grew from its root
   still-there :
-      (c : Call) (root : PageId) (k₁ : Known) → GrewFrom (record { root = root; batches = givenBatch c ∷ givenRoot c .batches }) k₁ → (y : Datom) →
-      In y (batchOf (givenBatch c)) → In y (gathered (k₁ .batches))
-  still-there c root k₁ g =
-      gathered-in (k₁ .batches) (givenBatch c) (rw (g .1) (in-right (givenBatch c) (g .0) (givenBatch c ∷ givenRoot c .batches) (inl refl)))
+      (cmp : Datom → Datom → Ordering) (c : Call) (root : PageId) (k₁ : Known) →
+      GrewFrom (record { root = root; batches = givenBatch c ∷ givenRoot c .batches }) k₁ → (d : Datom) →
+      Shared cmp (batchOf (givenBatch c)) d → Shared cmp (gathered (k₁ .batches)) d
+  still-there cmp c root k₁ g d (y, i, e) =
+      let j : In (givenBatch c) (k₁ .batches) = rw (g .1) (in-right (givenBatch c) (g .0) (givenBatch c ∷ givenRoot c .batches) (inl refl)) in
+      (y, gathered-in (k₁ .batches) (givenBatch c) j y i, e)
 
-  pub stays-held : StaysHeld t size
+  pub stays-held : StaysHeld size
   stays-held m h c F root n e m₁ l k₁ i₁ g b w part =
-      beyond t L size known m₁ (h .0, later-later (next (h .1) (calls c F)) l) k₁ i₁ .asked b w .exactly .1 λ d j.
-      (d, still-there c root k₁ g d (part d j), same-self (t .cmp) L d)
+      beyond size known m₁ (later-history (h .0, next (h .1) (calls c F)) l) k₁ i₁ .asked b w .exactly .1 λ d j.
+      still-there (at m₁ .cmp) c root k₁ g d (part d j)
 
-  pub resending : Resending t size
+  pub resending : Resending size
   resending m h c F root n e m₁ l k₁ i₁ g b w part lent some scratch ready =
-      let I₁ = inv t L size known (later-later (next (h .1) (calls c F)) l) in
+      let x₁ = extentOf (m₁ .recorded) in
+      let I₁ = inv size known (later-history (h .0, next (h .1) (calls c F)) l) in
       let d = some-datom b some (w .multiple) in
-      let o : outcomeOf t m₁ (inserts k₁ b scratch) ≡ refuse (Repeated 0) =
-      shared-refused t L (m₁ .extent) (m₁ .store) scratch (gathered (k₁ .batches)) b (inserted-at t L size known I₁ k₁ i₁ b scratch lent) w ready
-      (d .0) (d .1) (λ y j. still-there c root k₁ g y (part y j)) in
-      (rw o, rw o (store-same (m₁ .extent) (m₁ .store)))
+      let o : outcomeOf m₁ (inserts k₁ b scratch) ≡ refuse (Repeated 0) =
+      shared-refused (at m₁) (at-laws m₁) x₁ (m₁ .store) scratch (gathered (k₁ .batches)) b (inserted-at size known I₁ k₁ i₁ b scratch lent) w ready
+      (d .0) (d .1) (λ y j. still-there (at m₁ .cmp) c root k₁ g y (part y j)) in
+      (rw o, rw o (store-same x₁ (m₁ .store)))
 
-  pub accepted-formed : AcceptedFormed t size
+  pub accepted-formed : AcceptedFormed size
   accepted-formed m h k b scratch F root n e =
-      accepted-well-formed t L (m .extent) (m .store) scratch (gathered (k .batches)) b
-      (inserted-at t L size known (inv t L size known (h .1)) k (F .known) b scratch (F .lent)) e
+      accepted-well-formed (at m) (at-laws m) (extentOf (m .recorded)) (m .store) scratch (gathered (k .batches)) b
+      (inserted-at size known (inv size known h) k (F .known) b scratch (F .lent)) e

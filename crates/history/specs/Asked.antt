@@ -29,7 +29,7 @@ use Rattle.history.specs.Tree.{Tree, Good, Exactly}
 use Rattle.history.specs.Pages.{page, child, Holds, noPage, aPage}
 use Rattle.history.specs.Look.{Has, Looked, isMet, isAbsent, lookup-ok}
 use Rattle.history.specs.After.{in-order}
-use Rattle.history.specs.Checks.{Finds, isClear, isFound, finds-even, finds-few, finds-form, finds-order}
+use Rattle.history.specs.Checks.{Finds, isClear, isFound, finds-even, finds-few, finds-word, finds-order}
 use Rattle.history.specs.Calls.{RootIs, root-known}
 
 -- a batch whose first datom has index i: all of it is as said, or the first that is not
@@ -146,7 +146,7 @@ module _ (t : DatomOrd) (L : Preorder (t .cmp)) (x : Extent) (s : List ℕ) (u :
         in-order x s known fits,
         found-nothing (finds-even b) (w .multiple),
         found-nothing (finds-few (batchOf b)) (w .few),
-        found-nothing (finds-form (t .stored) 0 (batchOf b)) (w .form),
+        found-nothing (finds-word t (batchOf b)) (w .formed, w .form),
         found-nothing (finds-order (t .cmp) L (batchOf b)) (w .order),
         root-known t x s root (R .holds),
       )

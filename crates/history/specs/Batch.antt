@@ -8,15 +8,15 @@ use borrow.Author.Tests.{eq-eqb}
 use lib.ListN.{length, take, drop, length-drop}
 use lib.Seq.{length-take-le}
 use Rattle.store.specs.declared.PageId.{PageId}
-use Rattle.store.specs.declared.Extent.{Extent}
+use Rattle.store.specs.declared.StoreRecord.{StoreRecord}
 use Rattle.store.specs.Words.{bytesOf, cells, spread}
 use Rattle.store.specs.Bytes.{Bytes, bytes-drop, bytes-take}
 use Rattle.datom.specs.declared.Datom.{Datom}
 use Rattle.datom.specs.Datom.{datomOf, datomBytes, datomsOf, datomsBytes, WordSized}
 use Rattle.datom.specs.Laws.{words-of}
-use Rattle.index.specs.Order.{DatomOrd}
 use Rattle.rules.specs.Lookup.{clear}
 use Rattle.rules.specs.Insert.{bytesFault, batchOf, insert, insertBytes, initialise, initialiseBytes}
+use Rattle.rules.specs.Calls.{insertCall, initialiseCall, insertBytesCall, initialiseBytesCall}
 use Rattle.rules.specs.Lists.{In}
 use Rattle.rules.specs.Round.{datoms-length, datoms-back}
 
@@ -64,11 +64,11 @@ module _ (ds : List Datom) (w : (d : Datom) → In d ds → WordSized d) where
   unfolding bytesFault
   batch-even = rw (eq-eqb (length (datomsBytes ds) % 32) 0 (omega (arith, datoms-length ds)))
 
-  module _ (t : DatomOrd) (x : Extent) (s : List ℕ) (scratch : ℕ) where
-    pub insert-records : (root : PageId) → insertBytes t x s scratch root (datomsBytes ds) ≡ insert t x s scratch root ds
-    unfolding insertBytes insert
+  module _ (r : StoreRecord) (s h : List ℕ) (scratch : ℕ) where
+    pub insert-records : (root : PageId) → insertBytesCall r s h scratch root (datomsBytes ds) ≡ insertCall r s h scratch root ds
+    unfolding insertBytesCall insertCall insertBytes insert
     insert-records root = rw (batch-even, batch-back)
 
-    pub initialise-records : initialiseBytes t x s scratch (datomsBytes ds) ≡ initialise t x s scratch ds
-    unfolding initialiseBytes initialise
+    pub initialise-records : initialiseBytesCall r s h scratch (datomsBytes ds) ≡ initialiseCall r s h scratch ds
+    unfolding initialiseBytesCall initialiseCall initialiseBytes initialise
     initialise-records = rw (batch-even, batch-back)

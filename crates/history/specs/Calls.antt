@@ -34,7 +34,7 @@ use Rattle.history.specs.Held.{held, EnvOk, Storable, none-written, same
 use Rattle.history.specs.Grow.{regrown, Rooted, write-root-ok, insert-tree-ok}
 use Rattle.history.specs.After.{in-order, env-ok}
 use Rattle.history.specs.Sort.{Distinct, Fresh, rising-distinct, sort-in, sort-rising}
-use Rattle.history.specs.Checks.{Early, Finds, isClear, isFound, finds-even, finds-few, finds-form, finds-order, finds-distinct}
+use Rattle.history.specs.Checks.{Early, Finds, isClear, isFound, finds-even, finds-few, finds-word, finds-order, finds-distinct}
 use Rattle.history.specs.Batch.{batch-words}
 
 -- a root as the pages hold it: a good tree of exactly the datoms of u
@@ -201,9 +201,9 @@ module _
                 rw (in-order x s known fits, e, root-known t x s root (R .holds))
                 (check (Inserted t x s scratch u b) _ (finds-even b) (λ r y n. early y λ w. n (w .multiple)) λ even.
                 check (Inserted t x s scratch u b) _ (finds-few (batchOf b)) (λ r y n. early y λ w. n (w .few)) λ few.
-                check (Inserted t x s scratch u b) _ (finds-form (t .stored) 0 (batchOf b)) (λ r y n. early y λ w. n (w .form)) λ form.
+                check (Inserted t x s scratch u b) _ (finds-word t (batchOf b)) (λ r y n. early y λ w. n (w .formed, w .form)) λ form.
                 check (Inserted t x s scratch u b) _ (finds-order (t .cmp) L (batchOf b)) (λ r y n. early y λ w. n (w .order)) λ order.
-                at-root (R .holds) (R .good) (R .exactly) (record { multiple = even; few = few; form = form; order = order }))
+                at-root (R .holds) (R .good) (R .exactly) (record { multiple = even; few = few; formed = form .0; form = form .1; order = order }))
 
     pub initialise-ok : (scratch : ℕ) (b : List ℕ) → Lent s b → Called t x s [] (batchOf b) (initialiseBytes t x s scratch b)
     unfolding initialiseBytes initialiseCounted storeFault writeFresh outcome envOf
@@ -233,5 +233,5 @@ module _
             rw (in-order x s known fits, e)
             (check (Called t x s [] (batchOf b)) _ (finds-even b) (λ r y n. refuses) λ even.
             check (Called t x s [] (batchOf b)) _ (finds-few (batchOf b)) (λ r y n. refuses) λ few.
-            check (Called t x s [] (batchOf b)) _ (finds-form (t .stored) 0 (batchOf b)) (λ r y n. refuses) λ form.
-            check (Called t x s [] (batchOf b)) _ (finds-distinct (t .cmp) L (batchOf b)) (λ r y n. refuses) λ d. written form d)
+            check (Called t x s [] (batchOf b)) _ (finds-word t (batchOf b)) (λ r y n. refuses) λ form.
+            check (Called t x s [] (batchOf b)) _ (finds-distinct (t .cmp) L (batchOf b)) (λ r y n. refuses) λ d. written (form .1) d)

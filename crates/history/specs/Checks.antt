@@ -1,4 +1,4 @@
--- The checks of a batch, 2 to 4 of the table: each finds nothing exactly if what it asks for holds. Rests on the rules alone.
+-- The checks of a batch, 2, 3, 11 and 4 of the table: each finds nothing exactly if what it asks for holds. Rests on the rules alone.
 use Prim.Native.Nat.{ℕ, suc, _%_, _≤_, Ordering, Ordering·lt, Ordering·eq, Ordering·gt}
 use native.Mathlib.Omega.{arith}
 use mathlib.Core.Bool.{Bool, true, false}
@@ -10,20 +10,21 @@ use lib.Dec.{ltb, eqb}
 use lib.ListN.{length}
 use Rattle.store.specs.Laws.{apart}
 use Rattle.datom.specs.declared.Datom.{Datom}
-use Rattle.index.specs.Order.{isSame}
+use Rattle.index.specs.Order.{DatomOrd, isSame}
 use Rattle.index.specs.Laws.{Preorder}
 use Rattle.answer.specs.declared.Refusal.{Refusal}
-use Rattle.answer.specs.declared.Refusal.the-variants.{TooMany, BadDatom, OutOfOrder}
+use Rattle.answer.specs.declared.Refusal.the-variants.{TooMany, BadDatom, BadConstant, OutOfOrder}
 use Rattle.rules.specs.Lookup.{Finding, clear, found}
-use Rattle.rules.specs.Insert.{countFault, formFault, orderFault, anySame, twinFault, bytesFault}
+use Rattle.rules.specs.Store.{orElse}
+use Rattle.rules.specs.Insert.{countFault, formFault, wordFault, orderFault, anySame, twinFault, bytesFault}
 use Rattle.rules.specs.Lists.{In, Rising, rising-of, rising-in}
 use Rattle.rules.specs.Checks.{order-tells}
 use Rattle.history.specs.Order.{clash}
 use Rattle.history.specs.Sort.{Distinct}
 
--- a refusal by 2, 3 or 4
+-- a refusal by 2, by 3 or 11, or by 4
 abbrev pub Early : Refusal → Type 0
-Early r = (r ≡ TooMany) ⊎ (((i : ℕ) × (r ≡ BadDatom i)) ⊎ ((i : ℕ) × (r ≡ OutOfOrder i)))
+Early r = (r ≡ TooMany) ⊎ ((((i : ℕ) × (r ≡ BadDatom i)) ⊎ ((i : ℕ) × (r ≡ BadConstant i))) ⊎ ((i : ℕ) × (r ≡ OutOfOrder i)))
 
 pub data Finds (P : Type 0) : Finding → Type 0 where
   isClear : P → Finds P clear
@@ -45,20 +46,34 @@ finds-few ds = side (ltb 128 (length ds)) refl
     side true e = rw e (isFound (inl refl) (λ h. omega (arith, ltb-true 128 (length ds) e)))
     side false e = rw e (isClear (ltb-false 128 (length ds) e))
 
-pub finds-form : (ok : Datom → Bool) (i : ℕ) (ds : List Datom) → Finds ((d : Datom) → In d ds → ok d ≡ true) (formFault ok i ds)
-unfolding formFault
-finds-form ok i [] = isClear λ d j. absurd j
-finds-form ok i (d ∷ ds) = side (ok d) refl (finds-form ok (suc i) ds)
-  where
-    more : {f : Finding} → ok d ≡ true → Finds ((x : Datom) → In x ds → ok x ≡ true) f → Finds ((x : Datom) → In x (d ∷ ds) → ok x ≡ true) f
-    more e (isClear a) = isClear λ x j. elim j [ inl k ↦ rw k e | inr k ↦ a x k ]
-    more e (isFound r n) = isFound r λ a. n (λ x j. a x (inr j))
+-- every datom passes a test
+abbrev pub Every : (Datom → Bool) → List Datom → Type 0
+Every ok ds = (d : Datom) → In d ds → ok d ≡ true
 
-    side :
-        (b : Bool) → ok d ≡ b → Finds ((x : Datom) → In x ds → ok x ≡ true) (formFault ok (suc i) ds) →
-        Finds ((x : Datom) → In x (d ∷ ds) → ok x ≡ true) (formFault ok i (d ∷ ds))
-    side true e w = rw e (more e w)
-    side false e w = rw e (isFound (inr (inl (i, refl))) λ a. clash e (a d (inl refl)))
+module _ (bad : ℕ → Refusal) (early : (i : ℕ) → Early (bad i)) where
+  finds-form : (ok : Datom → Bool) (i : ℕ) (ds : List Datom) → Finds (Every ok ds) (formFault bad ok i ds)
+  unfolding formFault
+  finds-form ok i [] = isClear λ d j. absurd j
+  finds-form ok i (d ∷ ds) = side (ok d) refl (finds-form ok (suc i) ds)
+    where
+      more : {f : Finding} → ok d ≡ true → Finds (Every ok ds) f → Finds (Every ok (d ∷ ds)) f
+      more e (isClear a) = isClear λ x j. elim j [ inl k ↦ rw k e | inr k ↦ a x k ]
+      more e (isFound r n) = isFound r λ a. n (λ x j. a x (inr j))
+
+      side : (b : Bool) → ok d ≡ b → Finds (Every ok ds) (formFault bad ok (suc i) ds) → Finds (Every ok (d ∷ ds)) (formFault bad ok i (d ∷ ds))
+      side true e w = rw e (more e w)
+      side false e w = rw e (isFound (early i) λ a. clash e (a d (inl refl)))
+
+-- 3 for the whole batch, then 11
+pub finds-word : (t : DatomOrd) (ds : List Datom) → Finds (Every (t .formed) ds × Every (t .stored) ds) (wordFault t ds)
+unfolding wordFault
+finds-word t ds =
+    then (finds-form BadDatom (λ i. inr (inl (inl (i, refl)))) (t .formed) 0 ds) (finds-form BadConstant (λ i. inr (inl (inr (i, refl)))) (t .stored) 0 ds)
+  where
+    then : {f g : Finding} → Finds (Every (t .formed) ds) f → Finds (Every (t .stored) ds) g → Finds (Every (t .formed) ds × Every (t .stored) ds) (orElse found f g)
+    then (isClear a) (isClear b) = isClear (a, b)
+    then (isClear a) (isFound r n) = isFound r λ w. n (w .1)
+    then (isFound r n) g = isFound r λ w. n (w .0)
 
 module _ (cmp : Datom → Datom → Ordering) (L : Preorder cmp) where
   pub finds-order : (ds : List Datom) → Finds (Rising cmp ds) (orderFault cmp ds)

@@ -1,10 +1,10 @@
--- Demand 3, proved: what Statement says of a history holds, for any order that is a preorder and any known page size; and what More
--- says of a root. Rests on Listing, Invariant and Roots.
+-- Demand 3, proved: what Statement says of a history holds, for any known page size; and what More says of a root. Rests on Listing,
+-- Invariant and Roots.
 use Prim.Native.Nat.{ℕ, Ordering}
 use mathlib.Core.Bool.{true, false}
 use mathlib.Core.List.{List, _∷_}
 use mathlib.Core.Logic.{_⊎_, inl, inr, _↔_, Iff·trans, Iff·symm}
-use mathlib.Core.Path.{_≡_, refl}
+use mathlib.Core.Path.{_≡_, refl, _∙_, ap}
 use lib.ListN.{length}
 use Rattle.store.specs.declared.PageId.{PageId}
 use Rattle.store.specs.declared.Extent.{Extent}
@@ -19,9 +19,11 @@ use Rattle.answer.specs.declared.Answer.{Answer}
 use Rattle.answer.specs.declared.Answer.the-variants.{Done, Refused}
 use Rattle.rules.specs.Store.{badScratch}
 use Rattle.rules.specs.Insert.{Outcome, sort, batchOf}
+use Rattle.rules.specs.Calls.{extentOf, startCall}
+use Rattle.rules.specs.Listing.{whole}
 use Rattle.rules.specs.Lists.{In, in-right, Rising, turned}
-use Rattle.history.specs.Statement.{Known, Moment, inserts, givenRoot, givenBatch, Lent, rootsAfter, outcomeOf, Next, calls, others, Later, now, next, History, gathered, Between, HandsOut, WellFormed, Shared, Promise, Demand3}
-use Rattle.history.specs.More.{Answered, CursorsFit, Beyond, Beyond3}
+use Rattle.history.specs.Statement.{Known, Moment, at, inserts, givenRoot, givenBatch, Lent, rootsAfter, outcomeOf, Next, calls, appends, others, Later, now, next, History, gathered, Between, HandsOut, WellFormed, Shared, Demand3}
+use Rattle.history.specs.More.{Answered, CursorsFit, Beyond3}
 use Rattle.history.specs.Order.{clash}
 use Rattle.history.specs.Fit.{read-small}
 use Rattle.history.specs.Held.{Excused}
@@ -29,21 +31,24 @@ use Rattle.history.specs.Sort.{Fresh, within, sort-in, sort-rising, risi
 use Rattle.history.specs.Calls.{RootIs, root-known, Inserted, badly, early, met, stays, done}
 use Rattle.history.specs.Roots.{check-root}
 use Rattle.history.specs.Asked.{asked-ok}
-use Rattle.history.specs.Invariant.{KnownOk, inserted-at, inv}
-use Rattle.history.specs.Listing.{later-later, later-extends, ready, lists}
+use Rattle.history.specs.Agree.{KnownOk, sort-agrees, within-agrees}
+use Rattle.history.specs.Heap.{at-laws, later-agrees, held-call, check-call}
+use Rattle.history.specs.Invariant.{inserted-at, inv}
+use Rattle.history.specs.Listing.{later-history, ready, later-goes, ListsFrom, lists}
 
 -- a root stays known
 one-more : (j k : Known) (b : List ℕ) (a : Answer) (ks : List Known) → In j ks → In j (rootsAfter k b a ks)
 one-more j k b (Done r n) ks i = inr i
 one-more j k b (Refused r) ks i = i
 
-pub later-known : {t : DatomOrd} {m m₁ : Moment} → Later t m m₁ → (j : Known) → In j (m .roots) → In j (m₁ .roots)
+pub later-known : {m m₁ : Moment} → Later m m₁ → (j : Known) → In j (m .roots) → In j (m₁ .roots)
 later-known now j i = i
-later-known {t} (next l n) j i = side n (later-known l j i)
+later-known (next l n) j i = side n (later-known l j i)
   where
-    side : {m m₁ : Moment} → Next t m m₁ → In j (m .roots) → In j (m₁ .roots)
-    side {m} (calls c F) i = one-more j (givenRoot c) (givenBatch c) (outcomeOf t m c .answer) (m .roots) i
-    side (others s e) i = i
+    side : {m m₁ : Moment} → Next m m₁ → In j (m .roots) → In j (m₁ .roots)
+    side {m} (calls c F) i = one-more j (givenRoot c) (givenBatch c) (outcomeOf m c .answer) (m .roots) i
+    side (appends c) i = i
+    side (others s h e f) i = i
 
 -- what Statement says of the list that is handed out settles it
 pub between-once :
@@ -91,29 +96,29 @@ module _ (t : DatomOrd) (L : Preorder (t .cmp)) (x : Extent) (s : List ℕ) (scr
   told (stays {r} y f) w e = fresh-told (Refused r) f (not-repeated r y) (inr (elim y [ inl q ↦ inl (rw q) | inr q ↦ inr (rw q) ]))
   told (done {root} {o} v f R) w e = fresh-told (Done root (length o)) f (λ i q. apart (cc)) (inl (root, length o, refl))
 
-module _ (t : DatomOrd) (L : Preorder (t .cmp)) (size : ℕ) (known : capacity size ≡ 0 → ⊥) where
-  -- what led to a root, in order
-  abbrev pub ordered : Known → List Datom
-  ordered k = sort (t .cmp) (gathered (k .batches))
+-- what led to a root, in the order of a moment
+abbrev pub ordered : Moment → Known → List Datom
+ordered m k = sort (at m .cmp) (gathered (k .batches))
 
-  module _ (m : Moment) (h : History t size m) (k : Known) (i : In k (m .roots)) where
-    K : KnownOk t (m .extent) (m .store) k
-    K = inv t L size known (h .1) .known k i
+module _ (size : ℕ) (known : capacity size ≡ 0 → ⊥) where
+  module _ (m : Moment) (h : History size m) (k : Known) (i : In k (m .roots)) where
+    K : KnownOk (at m) (extentOf (m .recorded)) (m .store) k
+    K = inv size known h .known k i
 
-    rising : Rising (t .cmp) (ordered k)
-    rising = sort-rising (t .cmp) L (gathered (k .batches)) (K .distinct)
+    rising : Rising (at m .cmp) (ordered m k)
+    rising = sort-rising (at m .cmp) (at-laws m) (gathered (k .batches)) (K .distinct)
 
-    between : (lo hi : Datom) → Between (t .cmp) lo hi (gathered (k .batches)) (within (t .cmp) lo hi (ordered k))
+    between : (lo hi : Datom) → Between (at m .cmp) lo hi (gathered (k .batches)) (within (at m .cmp) lo hi (ordered m k))
     between lo hi =
         record {
           exactly = λ x.
-              let w = within-in (t .cmp) lo hi (ordered k) x in
-              let e = sort-in (t .cmp) (gathered (k .batches)) x in
+              let w = within-in (at m .cmp) lo hi (ordered m k) x in
+              let e = sort-in (at m .cmp) (gathered (k .batches)) x in
               (λ j. (e .0 (w .0 j .0), w .0 j .1, w .0 j .2), λ j. w .1 (e .1 (j .0), j .1, j .2));
-          ascending = within-rising (t .cmp) lo hi (ordered k) rising;
+          ascending = within-rising (at m .cmp) lo hi (ordered m k) rising;
         }
 
-    root-ordered : RootIs t (m .extent) (m .store) (k .root) (ordered k)
+    root-ordered : RootIs (at m) (extentOf (m .recorded)) (m .store) (k .root) (ordered m k)
     root-ordered =
         let R = K .root in
         record {
@@ -121,61 +126,85 @@ module _ (t : DatomOrd) (L : Preorder (t .cmp)) (size : ℕ) (known : capacity s
           tree = R .tree;
           holds = R .holds;
           good = R .good;
-          exactly = λ y. Iff·trans (R .exactly y) (Iff·symm (sort-in (t .cmp) (gathered (k .batches)) y));
+          exactly = λ y. Iff·trans (R .exactly y) (Iff·symm (sort-in (at m .cmp) (gathered (k .batches)) y));
         }
 
+    all-stored : (y : Datom) → In y (gathered (k .batches)) → at m .stored y ≡ true
+    all-stored y j = K .stored y j .form
+
+    ordered-stored : (y : Datom) → In y (ordered m k) → at m .stored y ≡ true
+    ordered-stored y j = all-stored y (sort-in (at m .cmp) (gathered (k .batches)) y .0 j)
+
+    -- a listing that is begun at this moment
+    listing :
+        (lo hi : Datom) (a : at m .bound lo ≡ true) (b : at m .bound hi ≡ true) →
+        ListsFrom m (ready size known h) (inv size known h .heap) (k .root) (ordered m k) root-ordered rising ordered-stored lo hi a b
+        (startCall (m .recorded) (m .store) (m .heap) (k .root) lo hi)
+    listing lo hi a b =
+        lists m (ready size known h) (inv size known h .heap) (k .root) (ordered m k) root-ordered rising ordered-stored lo hi a b
+
+    -- what lies between two bounds is the same at every later moment, word for word
+    within-later :
+        (m₁ : Moment) → Later m m₁ → (lo hi : Datom) → at m .bound lo ≡ true → at m .bound hi ≡ true →
+        within (at m₁ .cmp) lo hi (ordered m₁ k) ≡ within (at m .cmp) lo hi (ordered m k)
+    within-later m₁ l lo hi a b =
+        let A = later-agrees l in
+        rw (sort-agrees (at m) (at m₁) A (gathered (k .batches)) all-stored)
+        (within-agrees (at m) (at m₁) A lo hi a b (ordered m k) ordered-stored)
+
     answers :
-        (b : List ℕ) → Lent (m .store) b → WellFormed t b → (scratch : ℕ) → badScratch (m .extent) scratch ≡ false →
-        BatchAnswered t L (m .extent) (m .store) scratch (gathered (k .batches)) b (outcomeOf t m (inserts k b scratch) .answer)
+        (b : List ℕ) → Lent (m .store) b → WellFormed (at m) b → (scratch : ℕ) → badScratch (extentOf (m .recorded)) scratch ≡ false →
+        BatchAnswered (at m) (at-laws m) (extentOf (m .recorded)) (m .store) scratch (gathered (k .batches)) b (outcomeOf m (inserts k b scratch) .answer)
     answers b lent w scratch e =
-        told t L (m .extent) (m .store) scratch (gathered (k .batches)) b (inserted-at t L size known (inv t L size known (h .1)) k i b scratch lent) w e
+        told (at m) (at-laws m) (extentOf (m .recorded)) (m .store) scratch (gathered (k .batches)) b
+        (inserted-at size known (inv size known h) k i b scratch lent) w e
 
   -- the list that is handed out, computed
   pub hands-out :
-      (m : Moment) → History t size m → (k : Known) → In k (m .roots) → (lo hi : Datom) → t .bound lo ≡ true → t .bound hi ≡ true →
-      HandsOut t m k lo hi (within (t .cmp) lo hi (ordered k))
+      (m : Moment) → History size m → (k : Known) → In k (m .roots) → (lo hi : Datom) → at m .bound lo ≡ true → at m .bound hi ≡ true →
+      HandsOut m k lo hi (within (at m .cmp) lo hi (ordered m k))
   hands-out m h k i lo hi a b m₁ l s e =
-      let h₁ = later-later (h .1) l in
-      let i₁ = later-known l k i in
-      let W = lists t L m₁ (ready t L size known h₁) (k .root) (ordered k) (root-ordered m₁ (h .0, h₁) k i₁) (rising m₁ (h .0, h₁) k i₁) lo hi a b in
+      let h₁ : History size m₁ = later-history h l in
+      let A = later-agrees l in
+      let W = listing m₁ h₁ k (later-known l k i) lo hi (A .bound lo a) (A .bound hi b) in
+      let z = within-later m h k i m₁ l lo hi a b in
       rw e (
         W .begun,
-        λ at later n r w f.
-            W .hands at (λ j. ready t L size known (later-later h₁ (later j))) (λ j. later-extends t L size known h₁ (later j)) n r w f,
+        λ when later n r w f. W .hands when (λ j. later-goes size known h₁ (later j)) n r w (rw z f) ∙ ap whole z,
       )
 
   cursors-fit :
-      (m : Moment) → History t size m → (k : Known) → In k (m .roots) → (lo hi : Datom) → t .bound lo ≡ true → t .bound hi ≡ true →
-      CursorsFit t m k lo hi
+      (m : Moment) → History size m → (k : Known) → In k (m .roots) → (lo hi : Datom) → at m .bound lo ≡ true → at m .bound hi ≡ true →
+      CursorsFit m k lo hi
   cursors-fit m h k i lo hi a b short s e =
-      let I = inv t L size known (h .1) in
-      let W = lists t L m (ready t L size known (h .1)) (k .root) (ordered k) (root-ordered m h k i) (rising m h k i) lo hi a b in
-      let F = W .fit (read-small t (m .extent) (m .store) (rw (I .sized) known) (I .fits) short) in
-      rw e (
-        F .0,
-        λ at later n r w.
-            F .1 at (λ j. ready t L size known (later-later (h .1) (later j))) (λ j. later-extends t L size known (h .1) (later j)) n r w,
-      )
+      let I = inv size known h in
+      let F = listing m h k i lo hi a b .fit (read-small (at m) (extentOf (m .recorded)) (m .store) (rw (I .sized) known) (I .fits) short) in
+      rw e (F .0, λ when later n r w. F .1 when (λ j. later-goes size known h (later j)) n r w)
 
-  pub demand : Demand3 t size
+  pub demand : Demand3 size
   demand m h k i =
       record {
-        listed = λ lo hi a b. (within (t .cmp) lo hi (ordered k), between m h k i lo hi, hands-out m h k i lo hi a b);
+        listed = λ lo hi a b. (within (at m .cmp) lo hi (ordered m k), between m h k i lo hi, hands-out m h k i lo hi a b);
         stays = λ m₁ l. later-known l k i;
         answered = λ b lent w scratch e. answers m h k i b lent w scratch e .repeated;
-        stored = λ y j. K m h k i .stored y j .form;
+        stored = all-stored m h k i;
       }
 
-  pub beyond : Beyond3 t size
+  pub beyond : Beyond3 size
   beyond m h k i =
+      let I = inv size known h in
+      let R = K m h k i .root in
       record {
         answered = λ b lent w scratch e. answers m h k i b lent w scratch e .more;
         asked = λ b w.
-            let I = inv t L size known (h .1) in
-            asked-ok t L (m .extent) (m .store) (gathered (k .batches)) (rw (I .sized) known) (I .fits) (k .root) (K m h k i .root) b w;
+            rw (held-call (m .recorded) (m .store) (m .heap) (I .heap) (k .root) b)
+            (asked-ok (at m) (at-laws m) (extentOf (m .recorded)) (m .store) (gathered (k .batches)) (rw (I .sized) known) (I .fits) (k .root) R b w);
         cursors = cursors-fit m h k i;
-        inOrder = ready t L size known (h .1);
-        known = root-known t (m .extent) (m .store) (k .root) (K m h k i .root .holds);
-        sound = check-root t (m .extent) (m .store) (ready t L size known (h .1)) (k .root) (gathered (k .batches)) (K m h k i .root);
-        readable = inv t L size known (h .1) .readable;
+        inOrder = ready size known h;
+        heapInOrder = I .heap;
+        known = root-known (at m) (extentOf (m .recorded)) (m .store) (k .root) (R .holds);
+        sound =
+            rw (check-call (m .recorded) (m .store) (m .heap) (I .heap) (k .root))
+            (check-root (at m) (extentOf (m .recorded)) (m .store) (ready size known h) (k .root) (gathered (k .batches)) R);
+        readable = I .readable;
       }

@@ -1,26 +1,31 @@
 -- A history that is one: examples c, e, f and g of document 01 as calls over bytes, then a batch that finds no room, and a slice that
 -- somebody else makes longer. So the theorem speaks of something. Rests on Base and on the rules, computed.
-use Prim.Native.Nat.{ℕ, _*_, _%_, _≤_}
+use Prim.Native.Nat.{ℕ, _*_, _%_, _≤_, Ordering·eq}
 use native.Mathlib.Omega.{arith}
-use mathlib.Core.Bool.{true}
+use mathlib.Core.Bool.{true, false}
 use mathlib.Core.List.{List, [], _∷_, _++_}
 use mathlib.Core.Logic.{inl, inr}
 use mathlib.Core.Path.{_≡_, refl}
 use lib.ListN.{length, take}
 use lib.Seq.{take-at, length-take-le}
+use Rattle.store.specs.declared.StoreRecord.{StoreRecord}
 use Rattle.store.specs.Words.{zeros}
 use Rattle.store.specs.Size.{sizes}
 use Rattle.store.specs.Page.{page}
 use Rattle.datom.specs.declared.Datom.{Datom}
 use Rattle.datom.specs.Datom.{datomsBytes}
-use Rattle.index.specs.Order.{eavt}
+use Rattle.index.specs.declared.Index.the-variants.{Eavt}
+use Rattle.index.specs.Order.{DatomOrd, orderIn}
 use Rattle.answer.specs.declared.Refusal.the-variants.{Repeated, NoRoom}
 use Rattle.answer.specs.declared.Answer.the-variants.{Refused}
 use Rattle.rules.specs.Insert.{batchOf, sort}
+use Rattle.rules.specs.Store.{badScratch}
+use Rattle.rules.specs.Append.{badHeap}
+use Rattle.rules.specs.Calls.{extentOf}
 use Rattle.rules.specs.Lists.{In}
-use Rattle.rules.specs.Table.{d, run}
+use Rattle.rules.specs.Table.{d, eavt, run}
 use Rattle.rules.specs.Open.{rules}
-use Rattle.history.specs.Statement.{Known, Moment, Call, inserts, initialises, noRoot, beginning, Lent, outcomeOf, after, calls, others, Later, now, next, History, gathered, HandsOut, WellFormed}
+use Rattle.history.specs.Statement.{Known, Moment, at, Call, inserts, initialises, noRoot, Start, beginning, Lent, outcomeOf, after, calls, others, Later, now, next, History, gathered, HandsOut, WellFormed}
 use Rattle.history.specs.Sort.{within}
 use Rattle.history.specs.Batch.{datoms-bytes}
 use Rattle.history.specs.Base.{base, base-hands-out}
@@ -46,134 +51,164 @@ rootE = grown 3 (run 7 5) rootC
 abbrev pub rootF : Known
 rootF = grown 6 (run 12 1) rootE
 
--- "256-byte pages", room for eight of them
+-- "256-byte pages", room for eight of them, and no heap
+pub no-heap : badHeap 0 [] ≡ false
+unfolding badHeap
+no-heap = refl
+
+abbrev pub noHeap : List ℕ → Start
+noHeap s = record { store = s; heap = []; used = 0; inOrder = no-heap }
+
 unfoldable pub start : Moment
-start = beginning 256 (zeros 2048)
+start = beginning 256 (noHeap (zeros 2048))
 
 -- "c d(0)..d(6)", "e After c, insert d7..d11", "f Then d12", "g Then d12 again: Repeated(0)"
 unfoldable pub afterC : Moment
-afterC = after eavt start (initialising (run 0 7))
+afterC = after start (initialising (run 0 7))
 
 unfoldable pub afterE : Moment
-afterE = after eavt afterC (inserting rootC (run 7 5))
+afterE = after afterC (inserting rootC (run 7 5))
 
 unfoldable pub afterF : Moment
-afterF = after eavt afterE (inserting rootE (run 12 1))
+afterF = after afterE (inserting rootE (run 12 1))
 
 unfoldable pub afterG : Moment
-afterG = after eavt afterF (inserting rootF (run 12 1))
+afterG = after afterF (inserting rootF (run 12 1))
 
 -- d13 to d17 split a leaf, and only page 7 is free: NoRoom, with one page written past the count
 unfoldable pub afterH : Moment
-afterH = after eavt afterG (inserting rootF (run 13 5))
+afterH = after afterG (inserting rootF (run 13 5))
 
 -- somebody makes the slice longer, and cares for nothing past the count
 unfoldable pub longer : Moment
-longer = record { extent = afterH .extent; store = take 1792 (afterH .store) ++ zeros 2304; roots = afterH .roots }
+longer = record { recorded = afterH .recorded; store = take 1792 (afterH .store) ++ zeros 2304; heap = afterH .heap; roots = afterH .roots }
 
 -- what is known at a moment, computed
-pub record At (m : Moment) (size n count : ℕ) (ks : List Known) : Type 0 where
-  pub extent : m .extent ≡ record { size = size; count = count }
+pub record At (m : Moment) (r : StoreRecord) (h : List ℕ) (n : ℕ) (ks : List Known) : Type 0 where
+  pub recorded : m .recorded ≡ r
+  pub heap : m .heap ≡ h
   pub roots : m .roots ≡ ks
   pub long : length (m .store) ≡ n
 
-at-start : At start 256 2048 0 (noRoot ∷ [])
+-- its order
+pub order-at : {m : Moment} {r : StoreRecord} {h : List ℕ} {n : ℕ} {ks : List Known} → At m r h n ks → at m ≡ orderIn Eavt (take (r .heap) h)
+order-at a = rw (a .recorded, a .heap)
+
+-- pages of a size, and no heap
+abbrev pub pages : ℕ → ℕ → StoreRecord
+pages size count = record { size = size; count = count; heap = 0 }
+
+at-start : At start (pages 256 0) [] 2048 (noRoot ∷ [])
 unfolding rules start
-at-start = record { extent = refl; roots = refl; long = refl }
+at-start = record { recorded = refl; heap = refl; roots = refl; long = refl }
 
-at-c : At afterC 256 2048 3 (rootC ∷ noRoot ∷ [])
+at-c : At afterC (pages 256 3) [] 2048 (rootC ∷ noRoot ∷ [])
 unfolding rules start afterC
-at-c = record { extent = refl; roots = refl; long = refl }
+at-c = record { recorded = refl; heap = refl; roots = refl; long = refl }
 
-at-e : At afterE 256 2048 4 (rootE ∷ rootC ∷ noRoot ∷ [])
+at-e : At afterE (pages 256 4) [] 2048 (rootE ∷ rootC ∷ noRoot ∷ [])
 unfolding rules start afterC afterE
-at-e = record { extent = refl; roots = refl; long = refl }
+at-e = record { recorded = refl; heap = refl; roots = refl; long = refl }
 
-at-f : At afterF 256 2048 7 (rootF ∷ rootE ∷ rootC ∷ noRoot ∷ [])
+at-f : At afterF (pages 256 7) [] 2048 (rootF ∷ rootE ∷ rootC ∷ noRoot ∷ [])
 unfolding rules start afterC afterE afterF
-at-f = record { extent = refl; roots = refl; long = refl }
+at-f = record { recorded = refl; heap = refl; roots = refl; long = refl }
 
-at-g : At afterG 256 2048 7 (rootF ∷ rootE ∷ rootC ∷ noRoot ∷ [])
+at-g : At afterG (pages 256 7) [] 2048 (rootF ∷ rootE ∷ rootC ∷ noRoot ∷ [])
 unfolding rules start afterC afterE afterF afterG
-at-g = record { extent = refl; roots = refl; long = refl }
+at-g = record { recorded = refl; heap = refl; roots = refl; long = refl }
 
-at-h : At afterH 256 2048 7 (rootF ∷ rootE ∷ rootC ∷ noRoot ∷ [])
+at-h : At afterH (pages 256 7) [] 2048 (rootF ∷ rootE ∷ rootC ∷ noRoot ∷ [])
 unfolding rules start afterC afterE afterF afterG afterH
-at-h = record { extent = refl; roots = refl; long = refl }
+at-h = record { recorded = refl; heap = refl; roots = refl; long = refl }
 
-at-longer : At longer 256 4096 7 (rootF ∷ rootE ∷ rootC ∷ noRoot ∷ [])
+at-longer : At longer (pages 256 7) [] 4096 (rootF ∷ rootE ∷ rootC ∷ noRoot ∷ [])
 unfolding rules start afterC afterE afterF afterG afterH longer
-at-longer = record { extent = refl; roots = refl; long = refl }
+at-longer = record { recorded = refl; heap = refl; roots = refl; long = refl }
 
 -- the batch found no room
-pub no-room : outcomeOf eavt afterG (inserting rootF (run 13 5)) .answer ≡ Refused NoRoom
+pub no-room : outcomeOf afterG (inserting rootF (run 13 5)) .answer ≡ Refused NoRoom
 unfolding rules start afterC afterE afterF afterG
 no-room = refl
 
 pub lent :
-    {m : Moment} {size n count : ℕ} {ks : List Known} → At m size n count ks → n ≤ 65536 → (ds : List Datom) → Lent (m .store) (datomsBytes ds)
+    {m : Moment} {r : StoreRecord} {h : List ℕ} {n : ℕ} {ks : List Known} → At m r h n ks → n ≤ 65536 → (ds : List Datom) →
+    Lent (m .store) (datomsBytes ds)
 lent a f ds = record { short = omega (arith, a .long); bytes = datoms-bytes ds }
 
-then-inserted :
-    {m : Moment} {n count : ℕ} {ks : List Known} (k : Known) (ds : List Datom) → At m 256 n count ks → n ≤ 65536 → In k ks → Later eavt start m →
-    Later eavt start (after eavt m (inserting k ds))
+pub then-inserted :
+    {m₀ m : Moment} {r : StoreRecord} {h : List ℕ} {n : ℕ} {ks : List Known} (k : Known) (ds : List Datom) → At m r h n ks → n ≤ 65536 → In k ks →
+    Later m₀ m → Later m₀ (after m (inserting k ds))
 then-inserted k ds a f i l = next l (calls (inserting k ds) (record { known = rw (a .roots) i; lent = lent a f ds }))
 
-to-f : Later eavt start afterF
+to-f : Later start afterF
 unfolding start afterC afterE afterF
 to-f =
     then-inserted rootE (run 12 1) at-e (omega arith) (inl refl)
     (then-inserted rootC (run 7 5) at-c (omega arith) (inl refl)
     (next now (calls (initialising (run 0 7)) (record { known = tt; lent = lent at-start (omega arith) (run 0 7) }))))
 
-to-h : Later eavt start afterH
+to-h : Later start afterH
 unfolding afterG afterH
 to-h =
     then-inserted rootF (run 13 5) at-g (omega arith) (inl refl)
     (then-inserted rootF (run 12 1) at-f (omega arith) (inl refl) to-f)
 
-to-longer : Later eavt start longer
+to-longer : Later start longer
 unfolding longer
-to-longer = next to-h (others _ same)
+to-longer = next to-h (others _ _ same refl)
   where
     same :
-        take (afterH .extent .count * afterH .extent .size) (take 1792 (afterH .store) ++ zeros 2304)
-        ≡ take (afterH .extent .count * afterH .extent .size) (afterH .store)
-    same = rw (at-h .extent) (take-at (take 1792 (afterH .store)) (zeros 2304) 1792 (length-take-le 1792 (afterH .store) (omega (arith, at-h .long))))
+        take (afterH .recorded .count * afterH .recorded .size) (take 1792 (afterH .store) ++ zeros 2304)
+        ≡ take (afterH .recorded .count * afterH .recorded .size) (afterH .store)
+    same = rw (at-h .recorded) (take-at (take 1792 (afterH .store)) (zeros 2304) 1792 (length-take-le 1792 (afterH .store) (omega (arith, at-h .long))))
 
-pub example : History eavt 256 longer
+pub example : History 256 longer
 unfolding start
-example = (zeros 2048, to-longer)
+example = (noHeap (zeros 2048), to-longer)
 
 -- what the theorem says of listings, once what led to the root is computed
 pub lists :
-    {size : ℕ} (i : In size sizes) {m : Moment} → History eavt size m → (k : Known) → In k (m .roots) → (hi : Datom) (ds : List Datom) →
-    eavt .bound hi ≡ true → within (eavt .cmp) (d 0) hi (sort (eavt .cmp) (gathered (k .batches))) ≡ ds → HandsOut eavt m k (d 0) hi ds
-unfolding rules
-lists i h k j hi ds b e = rw e at (base-hands-out _ i _ h k j (d 0) hi refl b)
+    {size : ℕ} (i : In size sizes) {m : Moment} → History size m → (k : Known) → In k (m .roots) → (t : DatomOrd) → at m ≡ t → (lo hi : Datom)
+    (ds : List Datom) →
+    t .bound lo ≡ true → t .bound hi ≡ true → within (t .cmp) lo hi (sort (t .cmp) (gathered (k .batches))) ≡ ds → HandsOut m k lo hi ds
+lists i {m} h k j t z lo hi ds a b e =
+    let w : within (at m .cmp) lo hi (sort (at m .cmp) (gathered (k .batches))) ≡ ds = rw z e in
+    rw w at (base-hands-out _ i m h k j lo hi (rw z a) (rw z b))
 
 -- every datom once; and at the oldest root what it had
-pub lists-c : HandsOut eavt longer rootC (d 0) (d 13) (run 0 7)
+pub lists-c : HandsOut longer rootC (d 0) (d 13) (run 0 7)
 unfolding rules within
-lists-c = lists (inl refl) example rootC (rw (at-longer .roots) (inr (inr (inl refl)))) (d 13) (run 0 7) refl refl
+lists-c = lists (inl refl) example rootC (rw (at-longer .roots) (inr (inr (inl refl)))) eavt (order-at at-longer) (d 0) (d 13) (run 0 7) refl refl refl
 
-pub lists-f : HandsOut eavt longer rootF (d 0) (d 13) (run 0 13)
+pub lists-f : HandsOut longer rootF (d 0) (d 13) (run 0 13)
 unfolding rules within
-lists-f = lists (inl refl) example rootF (rw (at-longer .roots) (inl refl)) (d 13) (run 0 13) refl refl
+lists-f = lists (inl refl) example rootF (rw (at-longer .roots) (inl refl)) eavt (order-at at-longer) (d 0) (d 13) (run 0 13) refl refl refl
 
 -- a batch of one datom
-pub one-formed : (b : List ℕ) (x : Datom) → length b % 32 ≡ 0 → batchOf b ≡ x ∷ [] → eavt .stored x ≡ true → WellFormed eavt b
-one-formed b x m e t =
+pub one-formed :
+    (t : DatomOrd) (b : List ℕ) (x : Datom) → length b % 32 ≡ 0 → batchOf b ≡ x ∷ [] → t .formed x ≡ true → t .stored x ≡ true → WellFormed t b
+one-formed t b x m e f g =
     record {
       multiple = m;
       few = rw e (omega arith);
-      form = λ y i. elim (rw e at i) [ inl f ↦ rw f t | inr f ↦ absurd f ];
+      formed = λ y i. elim (rw e at i) [ inl z ↦ rw z f | inr z ↦ absurd z ];
+      form = λ y i. elim (rw e at i) [ inl z ↦ rw z g | inr z ↦ absurd z ];
       order = rw e (λ y i. absurd i, tt);
     }
 
--- and of the batch that is sent again: it shares a datom, so it is Repeated
-pub repeated : (i : ℕ) × (outcomeOf eavt afterF (inserting rootF (run 12 1)) .answer ≡ Refused (Repeated i))
+-- and of a batch of one datom: where an equal one led to the root, it is Repeated
+pub shared-again :
+    {size : ℕ} (i : In size sizes) {m : Moment} → History size m → (k : Known) → In k (m .roots) → (t : DatomOrd) → at m ≡ t → (b : List ℕ) (x y : Datom)
+    (scratch : ℕ) →
+    Lent (m .store) b → WellFormed t b → badScratch (extentOf (m .recorded)) scratch ≡ false → In x (batchOf b) → In y (gathered (k .batches)) →
+    t .cmp y x ≡ Ordering·eq → (j : ℕ) × (outcomeOf m (inserts k b scratch) .answer ≡ Refused (Repeated j))
+shared-again {size} i {m} h k j t z b x y scratch lent w s p q e =
+    base size i m h k j .answered b lent (rw z w) scratch s .1 (x, p, (y, q, rw z e))
+
+-- the batch that is sent again shares a datom
+pub repeated : (i : ℕ) × (outcomeOf afterF (inserting rootF (run 12 1)) .answer ≡ Refused (Repeated i))
 unfolding rules start
 repeated =
-    base 256 (inl refl) afterF (zeros 2048, to-f) rootF (rw (at-f .roots) (inl refl)) .answered (datomsBytes (run 12 1)) (lent at-f (omega arith) (run 12 1))
-    (one-formed _ (d 12) refl refl refl) 65536 (rw (at-f .extent)) .1 (d 12, inl refl, (d 12, inl refl, refl))
+    shared-again (inl refl) (noHeap (zeros 2048), to-f) rootF (rw (at-f .roots) (inl refl)) eavt (order-at at-f) (datomsBytes (run 12 1)) (d 12) (d 12) 65536
+    (lent at-f (omega arith) (run 12 1)) (one-formed eavt _ (d 12) refl refl refl refl) (rw (at-f .recorded)) (inl refl) (inl refl) refl

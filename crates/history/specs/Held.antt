@@ -101,12 +101,12 @@ pub record Storable (t : DatomOrd) (d : Datom) : Type 0 where
   pub words : WordSized d
 
 -- the order as a call has it
-abbrev pub ordOf : DatomOrd → Env → DatomOrd
-ordOf t e = record { cmp = e .cmp; stored = t .stored; bound = t .bound }
+abbrev pub asCalled : DatomOrd → Env → DatomOrd
+asCalled t e = record { cmp = e .cmp; formed = t .formed; stored = t .stored; bound = t .bound }
 
 -- every page written will be read as what it was written from
 abbrev pub Written : DatomOrd → Env → List Node → Type 0
-Written t e o = (i : ℕ) (n : Node) → nth o i ≡ fine n → Writable (ordOf t e) (e .cap) (pageId (e .count + i)) n
+Written t e o = (i : ℕ) (n : Node) → nth o i ≡ fine n → Writable (asCalled t e) (e .cap) (pageId (e .count + i)) n
 
 pub none-written : (t : DatomOrd) (e : Env) → Written t e []
 unfolding nth
@@ -205,7 +205,7 @@ module _ (t : DatomOrd) (e : Env) (E : EnvOk e) where
             record { extends = x; written = λ i m z. elim (nth-one o n m i z) [ inl j ↦ ws i m j | inr j ↦ rw (j .0, ← j .1) (one k) ] },
           ))
         where
-          one : e .count + length o < 0xffff_ffff_ffff_ffff → Writable (ordOf t e) (e .cap) (pageId (e .count + length o)) n
+          one : e .count + length o < 0xffff_ffff_ffff_ffff → Writable (asCalled t e) (e .cap) (pageId (e .count + length o)) n
           one k =
               record {
                 low = omega (arith, leb-false 8 (n .level) u);

@@ -1,4 +1,4 @@
--- What a history of calls promises: Statement says it, Demand and Again prove it, Base is its instance, Example and Wide are histories.
+-- What a history of calls promises: Statement says it, Demand and Again prove it, Base is its instance, Example, Wide and Long are histories.
 pub mod Statement
 pub mod Fit
 pub mod More
@@ -31,6 +31,10 @@ pub mod After
 pub mod Calls
 pub mod Roots
 pub mod Asked
+-- what a growing heap leaves as it was
+pub mod Agree
+pub mod Heap
+-- histories
 pub mod Invariant
 pub mod Listing
 pub mod Demand
@@ -38,3 +42,4 @@ pub mod Again
 pub mod Base
 pub mod Example
 pub mod Wide
+pub mod Long

@@ -29,7 +29,7 @@ use Rattle.history.specs.Tree.{Tree, blank, last, item, InTree, own, Goo
 use Rattle.history.specs.Pages.{page, Holds, Stored, holds-own}
 use Rattle.history.specs.Child.{childBy, child-stored, child-leaf, child-good, cover}
 use Rattle.history.specs.Cursor.{frames-back}
-use Rattle.history.specs.Step.{down, opensBy, along, path-agree, LeastOk, isNothing, isLeast, step-ok}
+use Rattle.history.specs.Step.{down, opensBy, along, frames-agree, LeastOk, isNothing, isLeast, step-ok}
 
 -- the child is given by the index
 child-rank : (p q : Datom → Bool) (t : Tree) → rankBy p (own t) ≡ rankBy q (own t) → childBy p t ≡ childBy q t
@@ -146,15 +146,17 @@ module _
     unfolding cursorOf
     short p = le-ltb 8 (length (frames p)) (omega (arith, long p))
 
-    frames-agree :
-        (p e : Datom → Bool) → ((y : Datom) → InTree y tr → p y ≡ e y) → frames p ≡ frames e
-    frames-agree p e a =
-        cc (along (fetchPage t x s) p l q n tr h .way, along (fetchPage t x s) e l q n tr h .way, path-agree (fetchPage t x s) p e l q n tr h a)
-
     pub at-end : (p : Datom → Bool) → Left (t .cmp) tr hi p [] → stepList t x s (cursor p) ≡ staying (cursor p) step.Ended
     unfolding stepList
     at-end p c =
-        rw (inOrder, short p, begins p, ends p, frames-agree p (below (t .cmp) hi) agree, same-self (frames (below (t .cmp) hi)))
+        rw (
+          inOrder,
+          short p,
+          begins p,
+          ends p,
+          frames-agree (fetchPage t x s) p (below (t .cmp) hi) l q n tr h agree,
+          same-self (frames (below (t .cmp) hi)),
+        )
       where
         agree : (y : Datom) → InTree y tr → p y ≡ below (t .cmp) hi y
         agree y i = same-test (p y) (below (t .cmp) hi y) (c .under y i) λ b. is-true (p y) λ a. c .every y i a b

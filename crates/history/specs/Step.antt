@@ -85,6 +85,11 @@ path-agree f p q (suc l) r n t h a =
     path-agree f p q l (down p n) (s .node) (childBy p t) (s .holds) (λ x i. a x (child-in p x t i)) in
     rw (← e, s .read, k)
 
+pub frames-agree :
+    (f : PageId → Fetched) (p q : Datom → Bool) (l : ℕ) (r : PageId) (n : Node) (t : Tree) → Holds f (page l (n .datoms) (n .children)) t →
+    ((x : Datom) → InTree x t → p x ≡ q x) → map frameOf (opensBy f p l r (fine n)) ≡ map frameOf (opensBy f q l r (fine n))
+frames-agree f p q l r n t h a = cc (along f p l r n t h .way, along f q l r n t h .way, path-agree f p q l r n t h a)
+
 module _ (cmp : Datom → Datom → Ordering) (L : Preorder cmp) where
   -- what is in the child is never equal to the first datom of the page that does not pass
   child-apart :

@@ -29,7 +29,7 @@ pub record Ready (x : Extent) (s : List ℕ) (c w : ℕ) : Type 0 where
 
 -- some order, and some list of so many pages, to read off what does not depend on them
 pub anyOrder : DatomOrd
-anyOrder = record { cmp = λ a b. Ordering·eq; stored = λ d. true; bound = λ d. true }
+anyOrder = record { cmp = λ a b. Ordering·eq; formed = λ d. true; stored = λ d. true; bound = λ d. true }
 
 pub blanks : ℕ → List Node
 blanks w = replicate w (record { level = 0; datoms = []; children = [] })

@@ -3,6 +3,7 @@ use crate::place;
 use crate::place::Inserted;
 use answer::Fault;
 use answer::Refusal;
+use index::Index;
 use memory_store::found;
 use memory_store::found::Opened;
 use node::Merged;
@@ -13,7 +14,7 @@ ghost use mathlib.Core.Path.{_≡_};
 ghost use Prim.Native.Nat.{_+_, _*_, _≤_, _<_};
 ghost use lib.ListN.{length};
 ghost use Rattle.store.specs.Size.{capacity};
-ghost use Rattle.index.specs.Order.{eavt};
+ghost use Rattle.index.specs.Order.{orderIn};
 ghost use Rattle.rules.specs.Page.{nodeOf};
 ghost use Rattle.rules.specs.Tree.{fetchAt, flush, flushAll, insertInto};
 ghost use Rattle.rules.specs.Store.{badStore, envOf};
@@ -39,15 +40,17 @@ fn load(
     s: &mut [u8],
     m: usize,
     n: usize,
+    by: Index,
+    heap: &[u8],
 ) -> Loaded
-    requires { ⌜ (badStore extent (now store) ≡ false) × (c ≡ capacity (extent .size)) × (c + n ≤ m) × (40 * m + 8 + 32 * n ≤ length (now s)) × (opened ≡ openedOf (fetchAt (envOf eavt extent (now store)) level page)) ⌝ }
-    ensures { λ r. ⌜ Loads eavt extent (now (store .entry)) level page (now (s .entry)) m n (now (s .exit)) r ⌝ }
+    requires { ⌜ (badStore extent (now store) ≡ false) × (c ≡ capacity (extent .size)) × (c + n ≤ m) × (40 * m + 8 + 32 * n ≤ length (now s)) × (opened ≡ openedOf (fetchAt (envOf (orderIn by (now heap)) extent (now store)) level page)) ⌝ }
+    ensures { λ r. ⌜ Loads (orderIn by (now (heap .entry))) extent (now (store .entry)) level page (now (s .entry)) m n (now (s .exit)) r ⌝ }
 {
     match opened {
         Opened::Faulty(fault) => Loaded::Faulty(fault),
         Opened::Node(k) => {
             let part = memory_store::part_of(store, extent, page);
-            match node::merge(part, c, k, s, m, 40 * m + 8, n) {
+            match node::merge(part, c, k, s, m, 40 * m + 8, n, by, heap) {
                 Merged::Whole => Loaded::Node(k + n),
                 Merged::Met => Loaded::Faulty(Fault::EqualDatoms),
             }
@@ -68,11 +71,13 @@ pub fn insert_into(
     s: &mut [u8],
     m: usize,
     n: usize,
+    by: Index,
+    heap: &[u8],
 ) -> Inserted
-    requires { ⌜ Ready extent (now store) c written × ((level + 1) * c + n ≤ m) × ((level + 1) * (40 * m + 8) + 32 * m ≤ length (now s)) × (opened ≡ openedOf (fetchAt (envOf eavt extent (now store)) level page)) ⌝ }
-    ensures { λ r. ⌜ Tells extent (now (store .entry)) (now (store .exit)) m (now (s .exit)) written r (insertInto (envOf eavt extent (now (store .entry))) level page (batchAt m n (now (s .entry)))) ⌝ }
+    requires { ⌜ Ready extent (now store) c written × ((level + 1) * c + n ≤ m) × ((level + 1) * (40 * m + 8) + 32 * m ≤ length (now s)) × (opened ≡ openedOf (fetchAt (envOf (orderIn by (now heap)) extent (now store)) level page)) ⌝ }
+    ensures { λ r. ⌜ Tells extent (now (store .entry)) (now (store .exit)) m (now (s .exit)) written r (insertInto (envOf (orderIn by (now (heap .entry))) extent (now (store .entry))) level page (batchAt m n (now (s .entry)))) ⌝ }
 {
-    match load(store, extent, c, level, page, opened, s, m, n) {
+    match load(store, extent, c, level, page, opened, s, m, n, by, heap) {
         Loaded::Faulty(fault) => Inserted::Failed {
             refusal: Refusal::Damaged(page, fault),
             written,
@@ -81,7 +86,7 @@ pub fn insert_into(
             if level == 0 {
                 return place::settle(store, extent, c, written, level, s, m, count);
             }
-            match drain(store, extent, c, written, level, s, m, count) {
+            match drain(store, extent, c, written, level, s, m, count, by, heap) {
                 Inserted::Placed {
                     datoms,
                     written: next,
@@ -109,9 +114,11 @@ fn drain(
     s: &mut [u8],
     m: usize,
     n: usize,
+    by: Index,
+    heap: &[u8],
 ) -> Inserted
     requires { ⌜ Ready extent (now store) c written × (0 < level) × (level * c + n ≤ m) × ((level + 1) * (40 * m + 8) + 32 * m ≤ length (now s)) ⌝ }
-    ensures { λ r. ⌜ Tells extent (now (store .entry)) (now (store .exit)) m (now (s .exit)) written r (flushAll (envOf eavt extent (now (store .entry))) (insertLower eavt extent (now (store .entry)) level) n (nodeOf m level n (now (s .entry)))) ⌝ }
+    ensures { λ r. ⌜ Tells extent (now (store .entry)) (now (store .exit)) m (now (s .exit)) written r (flushAll (envOf (orderIn by (now (heap .entry))) extent (now (store .entry))) (insertLower (orderIn by (now (heap .entry))) extent (now (store .entry)) level) n (nodeOf m level n (now (s .entry)))) ⌝ }
 {
     let mut turns = n;
     let mut count = n;
@@ -129,7 +136,7 @@ fn drain(
                 written: next,
             };
         }
-        match flush(store, extent, c, next, level, s, m, count) {
+        match flush(store, extent, c, next, level, s, m, count, by, heap) {
             Inserted::Placed {
                 datoms,
                 written: now,
@@ -165,16 +172,18 @@ fn flush(
     s: &mut [u8],
     m: usize,
     n: usize,
+    by: Index,
+    heap: &[u8],
 ) -> Inserted
     requires { ⌜ Ready extent (now store) c written × (0 < level) × (level * c + n ≤ m) × ((level + 1) * (40 * m + 8) + 32 * m ≤ length (now s)) ⌝ }
-    ensures { λ r. ⌜ Tells extent (now (store .entry)) (now (store .exit)) m (now (s .exit)) written r (flush (insertLower eavt extent (now (store .entry)) level) (nodeOf m level n (now (s .entry)))) ⌝ }
+    ensures { λ r. ⌜ Tells extent (now (store .entry)) (now (store .exit)) m (now (s .exit)) written r (flush (insertLower (orderIn by (now (heap .entry))) extent (now (store .entry)) level) (nodeOf m level n (now (s .entry)))) ⌝ }
 {
     let span = node::longest_pending_span(s, m, n);
     let from = span.from;
     let upto = span.upto;
     let child = store::child_at(s, m, upto);
     let lower = level - 1;
-    let opened = found::open_at(store, extent, c, lower, child);
+    let opened = found::open_at(store, extent, c, lower, child, by, heap);
     let own = 40 * m + 8;
     node::move_span(s, 32 * from, own + own, upto - from);
     match insert_into(
@@ -188,6 +197,8 @@ fn flush(
         &mut s[own..],
         m,
         upto - from,
+        by,
+        heap,
     ) {
         Inserted::Placed {
             datoms,

@@ -1,28 +1,38 @@
--- Which datoms the base's order lets be stored, or be a bound.
-use Prim.Native.Nat.{_^_, _<_}
+-- Which datoms an order lets be given, be stored, or be a bound.
+use Prim.Native.Nat.{ℕ, _^_, _<_}
 use mathlib.Core.Bool.{true}
-use mathlib.Core.Path.{_≡_, refl}
-use borrow.Author.Tests.{lt-ltb}
+use mathlib.Core.List.{List, _++_}
+use mathlib.Core.Path.{_≡_, refl, sym}
 use Rattle.datom.specs.declared.Datom.{Datom}
-use Rattle.datom.specs.Value.{isInt, storedValue, boundValue}
-use Rattle.datom.specs.Datom.{storedDatom, boundDatom}
-use Rattle.index.specs.Order.{eavt}
+use Rattle.datom.specs.Value.{storedValue, boundValue}
+use Rattle.datom.specs.Datom.{formedDatom, storedDatom, boundDatom}
+use Rattle.datom.specs.Stored.{stored-int, stored-formed}
+use Rattle.index.specs.declared.Index.{Index}
+use Rattle.index.specs.Order.{orderIn}
 
-module _ (d : Datom) where
-  pub eavt-stored : eavt .stored d ≡ storedDatom d
-  unfolding eavt
-  eavt-stored = refl
+module _ (i : Index) (h : List ℕ) (d : Datom) where
+  pub order-formed : orderIn i h .formed d ≡ formedDatom d
+  unfolding orderIn
+  order-formed = refl
 
-  pub eavt-bound : eavt .bound d ≡ boundDatom d
-  unfolding eavt
-  eavt-bound = refl
+  pub order-stored : orderIn i h .stored d ≡ storedDatom h d
+  unfolding orderIn
+  order-stored = refl
 
-  -- an inline integer may be stored, whatever the other words are
-  pub eavt-plain : d .value .0 < 2 ^ 62 → eavt .stored d ≡ true
-  unfolding eavt storedDatom storedValue isInt
-  eavt-plain h = rw (lt-ltb _ _ h)
+  pub order-bound : orderIn i h .bound d ≡ boundDatom h d
+  unfolding orderIn
+  order-bound = refl
 
-  -- what may be stored may be a bound
-  pub eavt-may : eavt .stored d ≡ true → eavt .bound d ≡ true
-  unfolding eavt storedDatom boundDatom boundValue
-  eavt-may h = rw h
+  -- an inline integer may be stored, whatever the other words are and the heap holds
+  pub order-plain : d .value .0 < 2 ^ 62 → orderIn i h .stored d ≡ true
+  unfolding orderIn storedDatom
+  order-plain p = sym (stored-int (d .value) h p)
+
+  -- what may be stored may be a bound, and may be given
+  pub order-may : orderIn i h .stored d ≡ true → orderIn i h .bound d ≡ true
+  unfolding orderIn storedDatom boundDatom boundValue
+  order-may p = rw p
+
+  pub stored-is-formed : orderIn i h .stored d ≡ true → orderIn i h .formed d ≡ true
+  unfolding orderIn storedDatom formedDatom
+  stored-is-formed p = stored-formed (d .value) h p

@@ -9,7 +9,8 @@ use lib.Arith.{mod-mul}
 use borrow.Author.Tests.{ltb-true}
 use Rattle.store.specs.Words.{bytesOf}
 use Rattle.datom.specs.declared.Value.{Value}
-use Rattle.datom.specs.Value.{isInt, isStr, strLen, content}
+use Rattle.datom.specs.Value.{isInt, isStr, strLen, isExternal, inlineContent}
+use Rattle.datom.specs.Content.{content-near}
 use Rattle.datom.specs.Laws.{Str, str-form}
 use Rattle.index.specs.Order.{andThen, cmpBytes, cmpContent, cmpValue}
 use Rattle.index.specs.Key.{key, turned}
@@ -127,8 +128,8 @@ strings v w p q =
 
 -- the order of values is the order of their keys
 by-key :
-    (v w : Value) (a b a′ b′ : Bool) → isInt v ≡ a → isStr v ≡ b → isInt w ≡ a′ → isStr w ≡ b′ → cmpValue v w ≡ compare (key v) (key w)
-unfolding cmpValue content cmpContent key
+    (v w : Value) (a b a′ b′ : Bool) → isInt v ≡ a → isStr v ≡ b → isInt w ≡ a′ → isStr w ≡ b′ → cmpContent (inlineContent v) (inlineContent w) ≡ compare (key v) (key w)
+unfolding inlineContent cmpContent key
 by-key v w true b true b′ e f e′ f′ = simp (e, e′)
 by-key v w true b false true e f e′ f′ = simp (e, e′, f′) (sym (cmp-lt _ _ (omega (arith, int-below v e))))
 by-key v w true b false false e f e′ f′ = simp (e, e′, f′) (sym (cmp-lt _ _ (omega (arith, int-below v e))))
@@ -139,8 +140,10 @@ by-key v w false false true b′ e f e′ f′ = simp (e, f, e′) (sym (cmp-gt 
 by-key v w false false false true e f e′ f′ = simp (e, f, e′, f′) (sym (cmp-gt _ _ (omega (arith, str-form w f′ .few, turned-below (w .0)))))
 by-key v w false false false false e f e′ f′ = simp (e, f, e′, f′) (sym (cmp-same (2 ^ 63)))
 
-pub keyed : (v w : Value) → cmpValue v w ≡ compare (key v) (key w)
-keyed v w = by-key v w (isInt v) (isStr v) (isInt w) (isStr w) refl refl refl refl
+-- of values that stand in the word itself, whatever the heap
+pub keyed : (h : List ℕ) (v w : Value) → isExternal v ≡ false → isExternal w ≡ false → cmpValue h v w ≡ compare (key v) (key w)
+unfolding cmpValue
+keyed h v w p q = rw (content-near h v p, content-near h w q) (by-key v w (isInt v) (isStr v) (isInt w) (isStr w) refl refl refl refl)
 
 -- what a byte swap gives fits in a word
 swapped : (a b c d e f g h : ℕ) → a < 256 → b < 256 → c < 256 → d < 256 → e < 256 → f < 256 → g < 256 → h < 256

@@ -1,16 +1,19 @@
--- The order is a total preorder: natural numbers, byte strings, contents; one after another; seen through a function. Only equal
--- well-formed datoms compare equal.
+-- Every order is a total preorder: natural numbers, byte strings, contents; one after another; seen through a function. What compares
+-- equal has equal content.
 use Prim.Native.Nat.{ℕ, zero, suc, compare, Ordering, Ordering·lt, Ordering·eq, Ordering·gt, compare·zero-zero, compare·zero-suc, compare·suc-zero, compare·suc-suc}
 use mathlib.Core.Bool.{true}
 use mathlib.Core.List.{List, [], _∷_}
+use mathlib.Core.Logic.{_⊎_, inl, inr}
 use mathlib.Core.Path.{_≡_, refl, sym, _∙_, ap, ap₂}
 use Rattle.store.specs.Laws.{apart}
 use Rattle.datom.specs.declared.Datom.{Datom}
 use Rattle.datom.specs.declared.Value.{Value}
 use Rattle.datom.specs.Value.{Content, int, str, top, content}
 use Rattle.datom.specs.Datom.{boundDatom}
-use Rattle.datom.specs.Laws.{content-tells}
-use Rattle.index.specs.Order.{andThen, cmpBytes, cmpContent, cmpValue, cmpEavt, eavt}
+use Rattle.datom.specs.Content.{names, content-tells}
+use Rattle.index.specs.declared.Index.{Index}
+use Rattle.index.specs.declared.Index.the-variants.{Eavt}
+use Rattle.index.specs.Order.{andThen, cmpBytes, cmpContent, cmpValue, Part, theEntity, theAttribute, theValue, theLast, cmpPart, cmpParts, partsOf, orderIn}
 
 -- the other way round
 abbrev pub flipped : Ordering → Ordering
@@ -169,30 +172,87 @@ content-trans top (int b) c p q = absurd (apart (cc))
 content-trans top (str b) c p q = absurd (apart (cc))
 content-trans top top c p q = absurd (apart (cc))
 
-values : Preorder cmpValue
-unfolding cmpValue
-values = through content (record { flip = content-flip; trans = content-trans; congr = λ a b c e. rw (content-eq a b e) })
+-- a part is among those of an order
+abbrev pub Among : Part → List Part → Type 0
+Among p [] = ⊥
+Among p (q ∷ qs) = (p ≡ q) ⊎ Among p qs
 
--- the base's order
-pub eavt-preorder : Preorder (eavt .cmp)
-unfolding eavt cmpEavt
-eavt-preorder =
-    after (through (λ (d : Datom). d .entity .0) num)
-    (after (through (λ (d : Datom). d .attribute .0) num)
-    (after (through (λ (d : Datom). d .value) values) (through (λ (d : Datom). d .«transaction_operation» .0) num)))
+-- the parts of a datom
+module _ (h : List ℕ) where
+  values : Preorder (cmpValue h)
+  unfolding cmpValue
+  values = through (content h) (record { flip = content-flip; trans = content-trans; congr = λ a b c e. rw (content-eq a b e) })
 
--- "equal only for equal datoms": of those that may be a bound, so also of those that may be stored
-pub eavt-equal : (a b : Datom) → eavt .bound a ≡ true → eavt .bound b ≡ true → eavt .cmp a b ≡ Ordering·eq → a ≡ b
-unfolding eavt cmpEavt boundDatom cmpValue
-eavt-equal a b p q e =
-    let w₁ = then-eq (compare (a .entity .0) (b .entity .0)) _ e in
-    let w₂ = then-eq (compare (a .attribute .0) (b .attribute .0)) _ (w₁ .1) in
-    let w₃ = then-eq (cmpContent (content (a .value)) (content (b .value))) _ (w₂ .1) in
-    same (num-eq (a .entity .0) (b .entity .0) (w₁ .0)) (num-eq (a .attribute .0) (b .attribute .0) (w₂ .0))
-    (content-tells (a .value) (b .value) p q (content-eq (content (a .value)) (content (b .value)) (w₃ .0)))
-    (num-eq (a .«transaction_operation» .0) (b .«transaction_operation» .0) (w₃ .1))
+  part-preorder : (p : Part) → Preorder (cmpPart h p)
+  unfolding cmpPart
+  part-preorder theEntity = through (λ (d : Datom). d .entity .0) num
+  part-preorder theAttribute = through (λ (d : Datom). d .attribute .0) num
+  part-preorder theValue = through (λ (d : Datom). d .value) values
+  part-preorder theLast = through (λ (d : Datom). d .«transaction_operation» .0) num
+
+  -- one after the other
+  pub parts-preorder : (ps : List Part) → Preorder (cmpParts h ps)
+  unfolding cmpParts
+  parts-preorder [] = record { flip = λ a b. refl; trans = λ a b c p q. p; congr = λ a b c e. refl }
+  parts-preorder (p ∷ ps) = after (part-preorder p) (parts-preorder ps)
+
+  -- what is equal in all is equal in each
+  pub parts-equal : (p : Part) (ps : List Part) (a b : Datom) → Among p ps → cmpParts h ps a b ≡ Ordering·eq → cmpPart h p a b ≡ Ordering·eq
+  unfolding cmpParts
+  parts-equal p [] a b i e = absurd i
+  parts-equal p (q ∷ qs) a b (inl i) e = rw i (then-eq (cmpPart h q a b) (cmpParts h qs a b) e .0)
+  parts-equal p (q ∷ qs) a b (inr i) e = parts-equal p qs a b i (then-eq (cmpPart h q a b) (cmpParts h qs a b) e .1)
+
+-- every order is a total preorder
+pub order-preorder : (i : Index) (h : List ℕ) → Preorder (orderIn i h .cmp)
+unfolding orderIn
+order-preorder i h = parts-preorder h (partsOf i)
+
+-- every order goes by every part
+every-part : (i : Index) (p : Part) → Among p (partsOf i)
+unfolding partsOf
+every-part Eavt theEntity = inl refl
+every-part Eavt theAttribute = inr (inl refl)
+every-part Eavt theValue = inr (inr (inl refl))
+every-part Eavt theLast = inr (inr (inr (inl refl)))
+
+-- "equal only for equal datoms", as document 02 reads equal: the same entity, attribute and last word, and values that stand for the same
+pub record Alike (h : List ℕ) (a b : Datom) : Type 0 where
+  pub entity : a .entity .0 ≡ b .entity .0
+  pub attribute : a .attribute .0 ≡ b .attribute .0
+  pub content : content h (a .value) ≡ content h (b .value)
+  pub last : a .«transaction_operation» .0 ≡ b .«transaction_operation» .0
+
+pub order-same : (i : Index) (h : List ℕ) (a b : Datom) → orderIn i h .cmp a b ≡ Ordering·eq → Alike h a b
+unfolding orderIn cmpPart cmpValue
+order-same i h a b e =
+    record {
+      entity = num-eq (a .entity .0) (b .entity .0) (part theEntity);
+      attribute = num-eq (a .attribute .0) (b .attribute .0) (part theAttribute);
+      content = content-eq (content h (a .value)) (content h (b .value)) (part theValue);
+      last = num-eq (a .«transaction_operation» .0) (b .«transaction_operation» .0) (part theLast);
+    }
   where
+    part : (p : Part) → cmpPart h p a b ≡ Ordering·eq
+    part p = parts-equal h p (partsOf i) a b (every-part i p) e
+
+-- of datoms that may be bounds, so also of those that may be stored: the very same, or both values name a constant
+pub order-very-same :
+    (i : Index) (h : List ℕ) (a b : Datom) → orderIn i h .bound a ≡ true → orderIn i h .bound b ≡ true → orderIn i h .cmp a b ≡ Ordering·eq →
+    (a ≡ b) ⊎ ((names (a .value) ≡ true) × (names (b .value) ≡ true))
+unfolding orderIn boundDatom
+order-very-same i h a b p q e = side (content-tells h (a .value) (b .value) p q (s .content))
+  where
+    s : Alike h a b
+    s = order-same i h a b e
+
     same :
         {e f : ℕ} {v : Value} {w : ℕ} → e ≡ b .entity .0 → f ≡ b .attribute .0 → v ≡ b .value → w ≡ b .«transaction_operation» .0 →
         record { entity = record { 0 = e }; attribute = record { 0 = f }; value = v; «transaction_operation» = record { 0 = w } } ≡ b
     same e₁ e₂ e₃ e₄ = rw (e₁, e₂, e₃, e₄)
+
+    side :
+        ((a .value ≡ b .value) ⊎ ((names (a .value) ≡ true) × (names (b .value) ≡ true))) →
+        (a ≡ b) ⊎ ((names (a .value) ≡ true) × (names (b .value) ≡ true))
+    side (inl v) = inl (same (s .entity) (s .attribute) v (s .last))
+    side (inr w) = inr w

@@ -8,3 +8,6 @@ pub mod Keys
 pub mod Named
 pub mod Ways
 pub mod Form
+pub mod Strings
+pub mod Kinds
+pub mod Agree

@@ -5,7 +5,9 @@ use mathlib.Core.List.{List, [], _∷_}
 use Rattle.datom.specs.declared.Datom.{Datom}
 use Rattle.datom.specs.declared.Value.{Value}
 use Rattle.datom.specs.Value.{Content, int, str, top, content}
-use Rattle.datom.specs.Datom.{storedDatom, boundDatom}
+use Rattle.datom.specs.Datom.{formedDatom, storedDatom, boundDatom}
+use Rattle.index.specs.declared.Index.{Index}
+use Rattle.index.specs.declared.Index.the-variants.{Eavt}
 use Rattle.index.specs.declared.Order.{Order}
 use Rattle.index.specs.declared.Order.the-variants.{Less, Equal, Greater}
 
@@ -34,24 +36,39 @@ cmpContent top (int b) = Ordering·gt
 cmpContent top (str b) = Ordering·gt
 cmpContent top top = Ordering·eq
 
-unfoldable pub cmpValue : Value → Value → Ordering
-cmpValue v w = cmpContent (content v) (content w)
+-- document 02, Two: "Order is by content"
+unfoldable pub cmpValue : List ℕ → Value → Value → Ordering
+cmpValue h v w = cmpContent (content h v) (content h w)
+
+-- the parts of a datom that an order goes by, one after the other
+pub data Part : Type 0 where
+  theEntity theAttribute theValue theLast : Part
+
+unfoldable pub cmpPart : List ℕ → Part → Datom → Datom → Ordering
+cmpPart h theEntity a b = compare (a .entity .0) (b .entity .0)
+cmpPart h theAttribute a b = compare (a .attribute .0) (b .attribute .0)
+cmpPart h theValue a b = cmpValue h (a .value) (b .value)
+cmpPart h theLast a b = compare (a .«transaction_operation» .0) (b .«transaction_operation» .0)
+
+unfoldable pub cmpParts : List ℕ → List Part → Datom → Datom → Ordering
+cmpParts h [] a b = Ordering·eq
+cmpParts h (p ∷ ps) a b = andThen (cmpPart h p a b) (cmpParts h ps a b)
 
 -- "Order: entity, attribute, value, last word."
-unfoldable pub cmpEavt : Datom → Datom → Ordering
-cmpEavt a b =
-    andThen (compare (a .entity .0) (b .entity .0))
-    (andThen (compare (a .attribute .0) (b .attribute .0))
-    (andThen (cmpValue (a .value) (b .value)) (compare (a .«transaction_operation» .0) (b .«transaction_operation» .0))))
+unfoldable pub partsOf : Index → List Part
+partsOf Eavt = theEntity ∷ theAttribute ∷ theValue ∷ theLast ∷ []
 
--- what the rules take as given of datoms, and use only through laws: how two compare, which may be stored, which may be a bound
+-- what the rules take as given of datoms, and use only through laws: how two compare, which words may be given, which datoms may be
+-- stored, which may be a bound
 pub record DatomOrd : Type 0 where
   pub cmp : Datom → Datom → Ordering
+  pub formed : Datom → Bool
   pub stored : Datom → Bool
   pub bound : Datom → Bool
 
-unfoldable pub eavt : DatomOrd
-eavt = record { cmp = cmpEavt; stored = storedDatom; bound = boundDatom }
+-- the order of a tree, by the constants of the heap in use
+unfoldable pub orderIn : Index → List ℕ → DatomOrd
+orderIn i h = record { cmp = cmpParts h (partsOf i); formed = formedDatom; stored = storedDatom h; bound = boundDatom h }
 
 -- the tests "below" and "equal"
 unfoldable pub isLess : Ordering → Bool

@@ -1,11 +1,21 @@
 // The order of datoms, after index.rs of the Rust. Its rule and its laws stand in specs/.
+pub mod content;
+
 use datom::Datom;
 use datom::TidOp;
 use datom::Value;
 ghost use mathlib.Core.Path.{_≡_};
 ghost use Prim.Native.Nat.{_+_, _*_, _/_, compare};
-ghost use Rattle.index.specs.Order.{andThen, cmpValue, eavt, named};
+ghost use mathlib.Core.Bool.{false};
+ghost use Rattle.datom.specs.Value.{isExternal};
+ghost use Rattle.index.specs.declared.Index.the-variants.{Eavt};
+ghost use Rattle.index.specs.Order.{andThen, cmpValue, orderIn, named};
 ghost use Rattle.index.specs.Key.{key, turned};
+
+// Which order a tree is in.
+pub enum Index {
+    Eavt,
+}
 
 // How one datom stands to another.
 pub enum Order {
@@ -52,9 +62,23 @@ fn key_of(v: Value) -> u64
     TOP_KEY
 }
 
-// Value, then last word.
-fn order_of_rest(a: Value, b: Value, s: TidOp, t: TidOp) -> Order
-    ensures { λ r. ⌜ r ≡ named (andThen (cmpValue a b) (compare (s .0) (t .0))) ⌝ }
+// By number.
+fn order_of_numbers(a: u64, b: u64) -> Order
+    ensures { λ r. ⌜ r ≡ named (compare a b) ⌝ }
+{
+    if a < b {
+        return Order::Less;
+    }
+    if b < a {
+        return Order::Greater;
+    }
+    Order::Equal
+}
+
+// Value, then last word, of values that stand in the word itself.
+fn order_of_near(a: Value, b: Value, s: TidOp, t: TidOp, heap: &[u8]) -> Order
+    requires { ⌜ (isExternal a ≡ false) × (isExternal b ≡ false) ⌝ }
+    ensures { λ r. ⌜ r ≡ named (andThen (cmpValue (now (heap .entry)) a b) (compare (s .0) (t .0))) ⌝ }
 {
     let v = key_of(a);
     let w = key_of(b);
@@ -64,18 +88,36 @@ fn order_of_rest(a: Value, b: Value, s: TidOp, t: TidOp) -> Order
     if w < v {
         return Order::Greater;
     }
-    if s.0 < t.0 {
-        return Order::Less;
+    order_of_numbers(s.0, t.0)
+}
+
+// Value, then last word, of which one value at least is a constant or max.
+fn order_of_far(a: Value, b: Value, s: TidOp, t: TidOp, heap: &[u8]) -> Order
+    ensures { λ r. ⌜ r ≡ named (andThen (cmpValue (now (heap .entry)) a b) (compare (s .0) (t .0))) ⌝ }
+{
+    match content::order_of_contents(a, b, heap) {
+        Order::Less => Order::Less,
+        Order::Equal => order_of_numbers(s.0, t.0),
+        Order::Greater => Order::Greater,
     }
-    if t.0 < s.0 {
-        return Order::Greater;
+}
+
+// Value, then last word. No value that stands in the word itself has the bit that marks the others.
+fn order_of_rest(a: Value, b: Value, s: TidOp, t: TidOp, heap: &[u8]) -> Order
+    ensures { λ r. ⌜ r ≡ named (andThen (cmpValue (now (heap .entry)) a b) (compare (s .0) (t .0))) ⌝ }
+{
+    if a.is_external() {
+        return order_of_far(a, b, s, t, heap);
     }
-    Order::Equal
+    if b.is_external() {
+        return order_of_far(a, b, s, t, heap);
+    }
+    order_of_near(a, b, s, t, heap)
 }
 
 // Entity, attribute, value, last word: the first difference decides.
-pub fn order_of(a: Datom, b: Datom) -> Order
-    ensures { λ r. ⌜ r ≡ named (eavt .cmp a b) ⌝ }
+fn order_of_eavt(a: Datom, b: Datom, heap: &[u8]) -> Order
+    ensures { λ r. ⌜ r ≡ named (orderIn Eavt (now (heap .entry)) .cmp a b) ⌝ }
 {
     if a.entity.0 < b.entity.0 {
         return Order::Less;
@@ -94,5 +136,15 @@ pub fn order_of(a: Datom, b: Datom) -> Order
         b.value,
         a.transaction_operation,
         b.transaction_operation,
+        heap,
     )
+}
+
+// How two datoms stand to each other in a tree's order, by the constants of the heap in use.
+pub fn order_of(a: Datom, b: Datom, by: Index, heap: &[u8]) -> Order
+    ensures { λ r. ⌜ r ≡ named (orderIn by (now (heap .entry)) .cmp a b) ⌝ }
+{
+    match by {
+        Index::Eavt => order_of_eavt(a, b, heap),
+    }
 }

@@ -1,11 +1,12 @@
 // Bounds that may be missing.
 use datom::Datom;
+use index::Index;
 use index::Order;
 ghost use mathlib.Core.Path.{_≡_};
 ghost use Prim.Native.Nat.{_*_, _≤_};
 ghost use lib.ListN.{length, drop};
 ghost use Rattle.datom.specs.Datom.{datomsOf};
-ghost use Rattle.index.specs.Order.{eavt};
+ghost use Rattle.index.specs.Order.{orderIn};
 ghost use Rattle.rules.specs.Check.{aboveLower, belowUpper};
 ghost use Rattle.invariants.specs.Bounds.{boundOf, boundAt};
 
@@ -15,12 +16,12 @@ pub enum Bound {
 }
 
 // Whether a datom is above a lower bound.
-fn is_above(lower: Bound, d: Datom) -> bool
-    ensures { λ r. ⌜ r ≡ aboveLower (eavt .cmp) (boundOf lower) d ⌝ }
+fn is_above(lower: Bound, d: Datom, by: Index, heap: &[u8]) -> bool
+    ensures { λ r. ⌜ r ≡ aboveLower (orderIn by (now (heap .entry)) .cmp) (boundOf lower) d ⌝ }
 {
     match lower {
         Bound::Nothing => true,
-        Bound::At(x) => match index::order_of(x, d) {
+        Bound::At(x) => match index::order_of(x, d, by, heap) {
             Order::Less => true,
             Order::Equal => false,
             Order::Greater => false,
@@ -29,12 +30,12 @@ fn is_above(lower: Bound, d: Datom) -> bool
 }
 
 // Whether a lower bound is below an upper one.
-pub fn is_below(lower: Bound, upper: Bound) -> bool
-    ensures { λ r. ⌜ r ≡ belowUpper (eavt .cmp) (boundOf lower) (boundOf upper) ⌝ }
+pub fn is_below(lower: Bound, upper: Bound, by: Index, heap: &[u8]) -> bool
+    ensures { λ r. ⌜ r ≡ belowUpper (orderIn by (now (heap .entry)) .cmp) (boundOf lower) (boundOf upper) ⌝ }
 {
     match upper {
         Bound::Nothing => true,
-        Bound::At(y) => is_above(lower, y),
+        Bound::At(y) => is_above(lower, y, by, heap),
     }
 }
 

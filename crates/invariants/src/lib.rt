@@ -6,18 +6,21 @@ use crate::bound::Bound;
 use answer::Check;
 use answer::Fault;
 use answer::Refusal;
+use index::Index;
 use memory_store::found;
 use memory_store::found::Found;
 use memory_store::found::Opened;
 use store::Extent;
 use store::PageId;
+use store::StoreRecord;
 ghost use mathlib.Core.Bool.{false};
 ghost use mathlib.Core.Path.{_≡_};
 ghost use Rattle.store.specs.Size.{capacity};
-ghost use Rattle.index.specs.Order.{eavt};
+ghost use Rattle.index.specs.Order.{orderIn};
 ghost use Rattle.rules.specs.Tree.{fine, atLevel};
 ghost use Rattle.rules.specs.Store.{badStore, fetchPage};
 ghost use Rattle.rules.specs.Check.{checkAt, checkTree};
+ghost use Rattle.rules.specs.Calls.{checkCall};
 ghost use Rattle.memory_store.specs.Readable.{nodeAt};
 ghost use Rattle.invariants.specs.Bounds.{boundOf};
 
@@ -33,9 +36,11 @@ fn check_at(
     k: usize,
     lower: Bound,
     upper: Bound,
+    by: Index,
+    heap: &[u8],
 ) -> Check
-    requires { ⌜ (badStore extent (now store) ≡ false) × (c ≡ capacity (extent .size)) × (fetchPage eavt extent (now store) page ≡ fine (nodeAt extent (now store) page level k)) ⌝ }
-    ensures { λ r. ⌜ r ≡ checkAt (eavt .cmp) (fetchPage eavt extent (now (store .entry))) level page (boundOf lower) (boundOf upper) (atLevel level (fetchPage eavt extent (now (store .entry)) page)) ⌝ }
+    requires { ⌜ (badStore extent (now store) ≡ false) × (c ≡ capacity (extent .size)) × (fetchPage (orderIn by (now heap)) extent (now store) page ≡ fine (nodeAt extent (now store) page level k)) ⌝ }
+    ensures { λ r. ⌜ r ≡ checkAt (orderIn by (now (heap .entry)) .cmp) (fetchPage (orderIn by (now (heap .entry))) extent (now (store .entry))) level page (boundOf lower) (boundOf upper) (atLevel level (fetchPage (orderIn by (now (heap .entry))) extent (now (store .entry)) page)) ⌝ }
 {
     let part = memory_store::fetch(store, extent, page);
     let mut i = 0;
@@ -43,7 +48,7 @@ fn check_at(
     let mut midpoint = lower;
     while i <= k {
         let next = bound::bound_at(part, k, i, upper);
-        if !bound::is_below(last, next) {
+        if !bound::is_below(last, next, by, heap) {
             return Check::Unsound(page, Fault::OutOfBounds);
         }
         let child = store::child_at(part, c, i);
@@ -51,9 +56,20 @@ fn check_at(
         last = next;
         if !child.is_none() {
             let low = level - 1;
-            match found::open_at(store, extent, c, low, child) {
+            match found::open_at(store, extent, c, low, child, by, heap) {
                 Opened::Faulty(fault) => return Check::Unsound(child, fault),
-                Opened::Node(n) => match check_at(store, extent, c, low, child, n, midpoint, next) {
+                Opened::Node(n) => match check_at(
+                    store,
+                    extent,
+                    c,
+                    low,
+                    child,
+                    n,
+                    midpoint,
+                    next,
+                    by,
+                    heap,
+                ) {
                     Check::Sound => {
                         midpoint = next;
                     }
@@ -68,8 +84,8 @@ fn check_at(
 
 // Whether the tree under a root is sound, or the first fault and its page. Document 01: "the check checks 1, 5", "Root "none" is
 // Sound."
-pub fn check(store: &[u8], extent: Extent, root: PageId) -> Check
-    ensures { λ r. ⌜ r ≡ checkTree eavt extent (now (store .entry)) root ⌝ }
+pub fn check_in(store: &[u8], extent: Extent, root: PageId, by: Index, heap: &[u8]) -> Check
+    ensures { λ r. ⌜ r ≡ checkTree (orderIn by (now (heap .entry))) extent (now (store .entry)) root ⌝ }
 {
     if memory_store::is_bad(store, extent) {
         return Check::Refused(Refusal::BadStore);
@@ -81,7 +97,7 @@ pub fn check(store: &[u8], extent: Extent, root: PageId) -> Check
         return Check::Sound;
     }
     let c = store::capacity_of(extent.size);
-    match found::node_at(store, extent, c, root) {
+    match found::node_at(store, extent, c, root, by, heap) {
         Found::Faulty(fault) => Check::Unsound(root, fault),
         Found::Fine { level, count } => check_at(
             store,
@@ -92,6 +108,19 @@ pub fn check(store: &[u8], extent: Extent, root: PageId) -> Check
             count,
             Bound::Nothing,
             Bound::Nothing,
+            by,
+            heap,
         ),
     }
+}
+
+// Whether the tree under a root is sound, or the first fault and its page.
+pub fn check(store: &[u8], recorded: StoreRecord, root: PageId, heap: &[u8]) -> Check
+    ensures { λ r. ⌜ r ≡ checkCall recorded (now (store .entry)) (now (heap .entry)) root ⌝ }
+{
+    if heap::is_bad(heap, recorded.heap) {
+        return Check::Refused(Refusal::BadStore);
+    }
+    let used = heap::used_of(heap, recorded.heap);
+    check_in(store, recorded.extent(), root, Index::Eavt, used)
 }

@@ -9,20 +9,23 @@ use answer::Refusal;
 use answer::Start;
 use answer::Started;
 use datom::Datom;
+use index::Index;
 use index::Order;
 use memory_store::found;
 use memory_store::found::Found;
 use store::Extent;
 use store::PageId;
+use store::StoreRecord;
 ghost use mathlib.Core.Bool.{false, _&&_, not};
 ghost use mathlib.Core.List.{[]};
 ghost use mathlib.Core.Path.{_≡_};
 ghost use Prim.Native.Nat.{_≤_};
 ghost use Rattle.store.specs.Page.{isNone};
 ghost use Rattle.store.specs.Size.{capacity};
-ghost use Rattle.index.specs.Order.{eavt, isLess};
+ghost use Rattle.index.specs.Order.{orderIn, isLess};
 ghost use Rattle.rules.specs.Store.{badStore};
 ghost use Rattle.rules.specs.Listing.{cursorOf, refuseStart, joinPaths, startUnder, startList};
+ghost use Rattle.rules.specs.Calls.{startCall};
 ghost use Rattle.listing.specs.Way.{framesOf};
 ghost use Rattle.listing.specs.Descent.{testOf, downOf};
 ghost use Rattle.listing.specs.declared.descent.Seek.the-variants.{NotBelow};
@@ -78,9 +81,11 @@ fn start_at(
     level: usize,
     lower: Datom,
     upper: Datom,
+    by: Index,
+    heap: &[u8],
 ) -> Started
     requires { ⌜ (badStore extent (now store) ≡ false) × ((c ≡ capacity (extent .size)) × (level ≤ 7)) ⌝ }
-    ensures { λ r. ⌜ r ≡ joinPaths (downOf eavt extent (now (store .entry)) (testOf eavt (NotBelow lower)) level root) (downOf eavt extent (now (store .entry)) (testOf eavt (NotBelow upper)) level root) ⌝ }
+    ensures { λ r. ⌜ r ≡ joinPaths (downOf (orderIn by (now (heap .entry))) extent (now (store .entry)) (testOf (orderIn by (now (heap .entry))) (NotBelow lower)) level root) (downOf (orderIn by (now (heap .entry))) extent (now (store .entry)) (testOf (orderIn by (now (heap .entry))) (NotBelow upper)) level root) ⌝ }
 {
     let b = descent::descend(
         store,
@@ -90,6 +95,8 @@ fn start_at(
         level,
         root,
         way::empty(),
+        by,
+        heap,
     );
     let begin_end = b.end;
     let begin = b.way;
@@ -104,6 +111,8 @@ fn start_at(
         level,
         root,
         way::empty(),
+        by,
+        heap,
     );
     let end_end = e.end;
     let end = e.way;
@@ -117,10 +126,10 @@ fn start_at(
 }
 
 // Whether there can be something to list: a root, and a lower bound below the upper.
-fn is_any_between(root: PageId, lower: Datom, upper: Datom) -> bool
-    ensures { λ r. ⌜ r ≡ (isLess (eavt .cmp lower upper) && not (isNone root)) ⌝ }
+fn is_any_between(root: PageId, lower: Datom, upper: Datom, by: Index, heap: &[u8]) -> bool
+    ensures { λ r. ⌜ r ≡ (isLess ((orderIn by (now (heap .entry))) .cmp lower upper) && not (isNone root)) ⌝ }
 {
-    match index::order_of(lower, upper) {
+    match index::order_of(lower, upper, by, heap) {
         Order::Less => !root.is_none(),
         Order::Equal => false,
         Order::Greater => false,
@@ -128,39 +137,83 @@ fn is_any_between(root: PageId, lower: Datom, upper: Datom) -> bool
 }
 
 // The root is read, and its level is where both ways begin.
-fn start_under(store: &[u8], extent: Extent, root: PageId, lower: Datom, upper: Datom) -> Started
+fn start_under(
+    store: &[u8],
+    extent: Extent,
+    root: PageId,
+    lower: Datom,
+    upper: Datom,
+    by: Index,
+    heap: &[u8],
+) -> Started
     requires { ⌜ badStore extent (now store) ≡ false ⌝ }
-    ensures { λ r. ⌜ r ≡ startUnder eavt extent (now (store .entry)) root lower upper ⌝ }
+    ensures { λ r. ⌜ r ≡ startUnder (orderIn by (now (heap .entry))) extent (now (store .entry)) root lower upper ⌝ }
 {
-    if !is_any_between(root, lower, upper) {
+    if !is_any_between(root, lower, upper, by, heap) {
         return Started {
             answer: Start::Begun,
             cursor: nothing(),
         };
     }
     let c = store::capacity_of(extent.size);
-    match found::node_at(store, extent, c, root) {
+    match found::node_at(store, extent, c, root, by, heap) {
         Found::Faulty(fault) => refused(Refusal::Damaged(root, fault)),
-        Found::Fine { level, count: _ } => { start_at(store, extent, c, root, level, lower, upper) }
+        Found::Fine { level, count: _ } => {
+            start_at(store, extent, c, root, level, lower, upper, by, heap)
+        }
     }
 }
 
 // A cursor to the datoms from the lower bound on and below the upper. Document 01: "Starting a listing checks 1, 10, 5, then the
 // bounds' order, then pages."
-pub fn start(store: &[u8], extent: Extent, root: PageId, lower: Datom, upper: Datom) -> Started
-    ensures { λ r. ⌜ r ≡ startList eavt extent (now (store .entry)) root lower upper ⌝ }
+pub fn start_in(
+    store: &[u8],
+    extent: Extent,
+    root: PageId,
+    lower: Datom,
+    upper: Datom,
+    by: Index,
+    heap: &[u8],
+) -> Started
+    ensures { λ r. ⌜ r ≡ startList (orderIn by (now (heap .entry))) extent (now (store .entry)) root lower upper ⌝ }
 {
     if memory_store::is_bad(store, extent) {
         return refused(Refusal::BadStore);
     }
-    if !lower.is_bound() {
+    if !lower.is_bound(heap) {
         return refused(Refusal::BadBound);
     }
-    if !upper.is_bound() {
+    if !upper.is_bound(heap) {
         return refused(Refusal::BadBound);
     }
     if memory_store::is_bad_root(extent, root) {
         return refused(Refusal::NoPage);
     }
-    start_under(store, extent, root, lower, upper)
+    start_under(store, extent, root, lower, upper, by, heap)
+}
+
+// A listing from the lower bound up to the upper.
+pub fn start(
+    store: &[u8],
+    recorded: StoreRecord,
+    root: PageId,
+    lower: Datom,
+    upper: Datom,
+    heap: &[u8],
+) -> Started
+    ensures { λ r. ⌜ r ≡ startCall recorded (now (store .entry)) (now (heap .entry)) root lower upper ⌝ }
+{
+    if heap::is_bad(heap, recorded.heap) {
+        return refused(Refusal::BadStore);
+    }
+    let used = heap::used_of(heap, recorded.heap);
+    start_in(
+        store,
+        recorded.extent(),
+        root,
+        lower,
+        upper,
+        Index::Eavt,
+        used,
+    )
 }

@@ -4,6 +4,7 @@ use crate::way::Way;
 use answer::Fault;
 use answer::NextMidpoint;
 use datom::Datom;
+use index::Index;
 use memory_store::access;
 use memory_store::found;
 use memory_store::found::Opened;
@@ -15,7 +16,7 @@ ghost use Prim.Native.Nat.{suc, _+_, _*_, _≤_};
 ghost use lib.ListN.{length};
 ghost use Rattle.store.specs.Size.{capacity};
 ghost use Rattle.datom.specs.Datom.{datomsOf};
-ghost use Rattle.index.specs.Order.{eavt};
+ghost use Rattle.index.specs.Order.{orderIn};
 ghost use Rattle.rules.specs.Page.{childrenOf, rising};
 ghost use Rattle.rules.specs.Node.{rankBy};
 ghost use Rattle.rules.specs.Tree.{atLevel};
@@ -57,13 +58,13 @@ pub fn lost_at(page: PageId, fault: Fault) -> Descent
 }
 
 // The index in a page of k datoms.
-fn index_in(part: &[u8], k: usize, seek: Seek) -> usize
-    requires { ⌜ (32 * k ≤ length (now part)) × (rising (eavt .cmp) (datomsOf k (now part)) ≡ true) ⌝ }
-    ensures { λ r. ⌜ r ≡ rankBy (testOf eavt seek) (datomsOf k (now (part .entry))) ⌝ }
+fn index_in(part: &[u8], k: usize, seek: Seek, by: Index, heap: &[u8]) -> usize
+    requires { ⌜ (32 * k ≤ length (now part)) × (rising (orderIn by (now heap) .cmp) (datomsOf k (now part)) ≡ true) ⌝ }
+    ensures { λ r. ⌜ r ≡ rankBy (testOf (orderIn by (now (heap .entry))) seek) (datomsOf k (now (part .entry))) ⌝ }
 {
     match seek {
         Seek::First => 0,
-        Seek::NotBelow(d) => access::first_not_below(part, k, d),
+        Seek::NotBelow(d) => access::first_not_below(part, k, d, by, heap),
     }
 }
 
@@ -86,15 +87,17 @@ fn place_in(
     seek: Seek,
     level: usize,
     page: PageId,
+    by: Index,
+    heap: &[u8],
 ) -> Placed
     requires { ⌜ (badStore extent (now store) ≡ false) × (c ≡ capacity (extent .size)) ⌝ }
-    ensures { λ r. ⌜ r ≡ placedOf (testOf eavt seek) level (atLevel level (fetchPage eavt extent (now (store .entry)) page)) ⌝ }
+    ensures { λ r. ⌜ r ≡ placedOf (testOf (orderIn by (now (heap .entry))) seek) level (atLevel level (fetchPage (orderIn by (now (heap .entry))) extent (now (store .entry)) page)) ⌝ }
 {
-    match found::open_at(store, extent, c, level, page) {
+    match found::open_at(store, extent, c, level, page, by, heap) {
         Opened::Faulty(fault) => Placed::Lost(fault),
         Opened::Node(k) => {
             let part = memory_store::fetch(store, extent, page);
-            let index = index_in(part, k, seek);
+            let index = index_in(part, k, seek, by, heap);
             let next = next_from(part, level, c, k, index);
             Placed::At { index, next }
         }
@@ -110,15 +113,17 @@ pub fn descend(
     level: usize,
     page: PageId,
     way: Way,
+    by: Index,
+    heap: &[u8],
 ) -> Descent
     requires { ⌜ (badStore extent (now store) ≡ false) × ((c ≡ capacity (extent .size)) × (level ≤ 7)) ⌝ }
-    ensures { λ r. ⌜ r ≡ descentOf level way (downOf eavt extent (now (store .entry)) (testOf eavt seek) level page) ⌝ }
+    ensures { λ r. ⌜ r ≡ descentOf level way (downOf (orderIn by (now (heap .entry))) extent (now (store .entry)) (testOf (orderIn by (now (heap .entry))) seek) level page) ⌝ }
 {
     let mut filled = way;
     let mut l = level;
     let mut p = page;
     loop {
-        match place_in(store, extent, c, seek, l, p) {
+        match place_in(store, extent, c, seek, l, p, by, heap) {
             Placed::Lost(fault) => return lost_at(p, fault),
             Placed::At { index, next } => {
                 filled.indices[l] = index as u64;

@@ -1,6 +1,7 @@
 // The begin pages of a cursor, from the top: whether each can be read at its level and its index is within the page.
 use answer::Cursor;
 use answer::Fault;
+use index::Index;
 use memory_store::found;
 use memory_store::found::Opened;
 use store::Extent;
@@ -9,7 +10,7 @@ ghost use mathlib.Core.Bool.{false};
 ghost use mathlib.Core.Path.{_≡_};
 ghost use Prim.Native.Nat.{_≤_};
 ghost use Rattle.store.specs.Size.{capacity};
-ghost use Rattle.index.specs.Order.{eavt};
+ghost use Rattle.index.specs.Order.{orderIn};
 ghost use Rattle.rules.specs.Tree.{atLevel};
 ghost use Rattle.rules.specs.Store.{badStore, fetchPage};
 ghost use Rattle.rules.specs.Listing.{beginFrames, openFrames};
@@ -35,11 +36,13 @@ fn open_one(
     level: usize,
     index: u64,
     page: PageId,
+    by: Index,
+    heap: &[u8],
 ) -> PageOpening
     requires { ⌜ (badStore extent (now store) ≡ false) × (c ≡ capacity (extent .size)) ⌝ }
-    ensures { λ r. ⌜ r ≡ openOf index (atLevel level (fetchPage eavt extent (now (store .entry)) page)) ⌝ }
+    ensures { λ r. ⌜ r ≡ openOf index (atLevel level (fetchPage (orderIn by (now (heap .entry))) extent (now (store .entry)) page)) ⌝ }
 {
-    match found::open_at(store, extent, c, level, page) {
+    match found::open_at(store, extent, c, level, page, by, heap) {
         Opened::Faulty(fault) => PageOpening::Shut(fault),
         Opened::Node(k) => {
             if index <= k as u64 {
@@ -51,16 +54,23 @@ fn open_one(
 }
 
 // The first page from the top that is not open.
-pub fn open_all(store: &[u8], extent: Extent, c: usize, cursor: Cursor) -> Opening
+pub fn open_all(
+    store: &[u8],
+    extent: Extent,
+    c: usize,
+    cursor: Cursor,
+    by: Index,
+    heap: &[u8],
+) -> Opening
     requires { ⌜ (badStore extent (now store) ≡ false) × ((c ≡ capacity (extent .size)) × (cursor .height ≤ 8)) ⌝ }
-    ensures { λ r. ⌜ r ≡ openingOf (openFrames (fetchPage eavt extent (now (store .entry))) (beginFrames cursor)) ⌝ }
+    ensures { λ r. ⌜ r ≡ openingOf (openFrames (fetchPage (orderIn by (now (heap .entry))) extent (now (store .entry))) (beginFrames cursor)) ⌝ }
 {
     let mut level = cursor.height as usize;
     while 0 < level {
         level -= 1;
         let page = cursor.begin_pages[level];
         let index = cursor.begin_indices[level];
-        if let PageOpening::Shut(fault) = open_one(store, extent, c, level, index, page) {
+        if let PageOpening::Shut(fault) = open_one(store, extent, c, level, index, page, by, heap) {
             return Opening::Damaged(page, fault);
         }
     }

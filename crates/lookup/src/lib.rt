@@ -8,6 +8,7 @@ use answer::NextMidpoint;
 use answer::Refusal;
 use batch::Finding;
 use datom::Datom;
+use index::Index;
 use index::Order;
 use memory_store::access;
 use memory_store::found;
@@ -21,7 +22,7 @@ ghost use lib.ListN.{length, drop};
 ghost use Rattle.store.specs.Page.{isNone};
 ghost use Rattle.store.specs.Size.{capacity};
 ghost use Rattle.datom.specs.Datom.{datomsOf};
-ghost use Rattle.index.specs.Order.{eavt};
+ghost use Rattle.index.specs.Order.{orderIn};
 ghost use Rattle.rules.specs.Page.{rising};
 ghost use Rattle.rules.specs.Node.{headSame};
 ghost use Rattle.rules.specs.Tree.{fine, fetchAt};
@@ -69,14 +70,14 @@ struct Looked {
 }
 
 // Whether there is a datom at index i, of k, and it is equal to d.
-fn is_met(page: &[u8], k: usize, i: usize, d: Datom) -> bool
+fn is_met(page: &[u8], k: usize, i: usize, d: Datom, by: Index, heap: &[u8]) -> bool
     requires { ⌜ 32 * k ≤ length (now page) ⌝ }
-    ensures { λ r. ⌜ r ≡ headSame (eavt .cmp) d (drop i (datomsOf k (now (page .entry)))) ⌝ }
+    ensures { λ r. ⌜ r ≡ headSame (orderIn by (now (heap .entry)) .cmp) d (drop i (datomsOf k (now (page .entry)))) ⌝ }
 {
     if k <= i {
         return false;
     }
-    match index::order_of(datom::datom_at(page, 32 * i), d) {
+    match index::order_of(datom::datom_at(page, 32 * i), d, by, heap) {
         Order::Less => false,
         Order::Equal => true,
         Order::Greater => false,
@@ -85,15 +86,24 @@ fn is_met(page: &[u8], k: usize, i: usize, d: Datom) -> bool
 
 // Page `page`, which is to be of this level. It may have been read on the last path: what it is opened as is then known, since the store
 // is the same.
-fn open_at(store: &[u8], extent: Extent, c: usize, path: Path, level: usize, page: PageId) -> Opened
-    requires { ⌜ (badStore extent (now store) ≡ false) × (c ≡ capacity (extent .size)) × Kept eavt extent (now store) path × (level < 8) × (isNone page ≡ false) ⌝ }
-    ensures { λ r. ⌜ r ≡ openedOf (fetchAt (envOf eavt extent (now (store .entry))) level page) ⌝ }
+fn open_at(
+    store: &[u8],
+    extent: Extent,
+    c: usize,
+    path: Path,
+    level: usize,
+    page: PageId,
+    by: Index,
+    heap: &[u8],
+) -> Opened
+    requires { ⌜ (badStore extent (now store) ≡ false) × (c ≡ capacity (extent .size)) × Kept (orderIn by (now heap)) extent (now store) path × (level < 8) × (isNone page ≡ false) ⌝ }
+    ensures { λ r. ⌜ r ≡ openedOf (fetchAt (envOf (orderIn by (now (heap .entry))) extent (now (store .entry))) level page) ⌝ }
 {
     let last = path.pages[level];
     if last.0 == page.0 {
         return Opened::Node(path.counts[level]);
     }
-    found::open_at(store, extent, c, level, page)
+    found::open_at(store, extent, c, level, page, by, heap)
 }
 
 // The path of d from the root, which is of this level and count.
@@ -106,9 +116,11 @@ fn lookup_one(
     count: usize,
     path: Path,
     d: Datom,
+    by: Index,
+    heap: &[u8],
 ) -> Looked
-    requires { ⌜ (badStore extent (now store) ≡ false) × (c ≡ capacity (extent .size)) × Kept eavt extent (now store) path × (fetchPage eavt extent (now store) root ≡ fine (nodeAt extent (now store) root level count)) ⌝ }
-    ensures { λ r. ⌜ (r .look ≡ lookOf (pathOf eavt extent (now (store .entry)) d level root)) × Kept eavt extent (now (store .entry)) (r .path) × Leaves eavt extent (now (store .entry)) d level root (r .look) (r .gap) ⌝ }
+    requires { ⌜ (badStore extent (now store) ≡ false) × (c ≡ capacity (extent .size)) × Kept (orderIn by (now heap)) extent (now store) path × (fetchPage (orderIn by (now heap)) extent (now store) root ≡ fine (nodeAt extent (now store) root level count)) ⌝ }
+    ensures { λ r. ⌜ (r .look ≡ lookOf (pathOf (orderIn by (now (heap .entry))) extent (now (store .entry)) d level root)) × Kept (orderIn by (now (heap .entry))) extent (now (store .entry)) (r .path) × Leaves (orderIn by (now (heap .entry))) extent (now (store .entry)) d level root (r .look) (r .gap) ⌝ }
 {
     let mut path = path;
     let mut gap = Gap::Open;
@@ -117,15 +129,15 @@ fn lookup_one(
     let mut k = count;
     loop {
         let part = memory_store::part_of(store, extent, page);
-        let i = access::first_not_below(part, k, d);
-        if is_met(part, k, i, d) {
+        let i = access::first_not_below(part, k, d, by, heap);
+        if is_met(part, k, i, d, by, heap) {
             return Looked {
                 look: Look::Met,
                 path,
                 gap,
             };
         }
-        gap = gap::narrow(gap, part, k, i);
+        gap = gap::narrow(gap, part, k, i, by, heap);
         if l == 0 {
             return Looked {
                 look: Look::Absent,
@@ -141,7 +153,7 @@ fn lookup_one(
             };
         };
         l -= 1;
-        match open_at(store, extent, c, path, l, child) {
+        match open_at(store, extent, c, path, l, child, by, heap) {
             Opened::Node(n) => {
                 path.pages[l] = child;
                 path.counts[l] = n;
@@ -170,15 +182,17 @@ pub fn lookup_all(
     count: usize,
     b: &[u8],
     n: usize,
+    by: Index,
+    heap: &[u8],
 ) -> Finding
-    requires { ⌜ (badStore extent (now store) ≡ false) × (c ≡ capacity (extent .size)) × (fetchPage eavt extent (now store) root ≡ fine (nodeAt extent (now store) root level count)) × (32 * n ≤ length (now b)) × (rising (eavt .cmp) (datomsOf n (now b)) ≡ true) ⌝ }
-    ensures { λ r. ⌜ findingOf r ≡ lookupAll (envOf eavt extent (now (store .entry))) level root (fetchPage eavt extent (now (store .entry)) root) 0 (datomsOf n (now (b .entry))) ⌝ }
+    requires { ⌜ (badStore extent (now store) ≡ false) × (c ≡ capacity (extent .size)) × (fetchPage (orderIn by (now heap)) extent (now store) root ≡ fine (nodeAt extent (now store) root level count)) × (32 * n ≤ length (now b)) × (rising (orderIn by (now heap) .cmp) (datomsOf n (now b)) ≡ true) ⌝ }
+    ensures { λ r. ⌜ findingOf r ≡ lookupAll (envOf (orderIn by (now (heap .entry))) extent (now (store .entry))) level root (fetchPage (orderIn by (now (heap .entry))) extent (now (store .entry)) root) 0 (datomsOf n (now (b .entry))) ⌝ }
 {
     let mut path = Path::new();
     let mut i = 0;
     while i < n {
         let d = datom::datom_at(b, 32 * i);
-        let looked = lookup_one(store, extent, c, root, level, count, path, d);
+        let looked = lookup_one(store, extent, c, root, level, count, path, d, by, heap);
         let look = looked.look;
         match look {
             Look::Met => {
@@ -187,7 +201,7 @@ pub fn lookup_all(
             Look::Absent => {
                 let gap = looked.gap;
                 path = looked.path;
-                i = gap::skip(gap, b, n, i + 1);
+                i = gap::skip(gap, b, n, i + 1, by, heap);
             }
             Look::Lost(page, fault) => {
                 return Finding::Found(Refusal::Damaged(page, fault));
@@ -208,15 +222,17 @@ pub fn held_all(
     count: usize,
     b: &[u8],
     n: usize,
+    by: Index,
+    heap: &[u8],
 ) -> Finding
-    requires { ⌜ (badStore extent (now store) ≡ false) × (c ≡ capacity (extent .size)) × (fetchPage eavt extent (now store) root ≡ fine (nodeAt extent (now store) root level count)) × (32 * n ≤ length (now b)) ⌝ }
-    ensures { λ r. ⌜ findingOf r ≡ heldAll (envOf eavt extent (now (store .entry))) level root (fetchPage eavt extent (now (store .entry)) root) 0 (datomsOf n (now (b .entry))) ⌝ }
+    requires { ⌜ (badStore extent (now store) ≡ false) × (c ≡ capacity (extent .size)) × (fetchPage (orderIn by (now heap)) extent (now store) root ≡ fine (nodeAt extent (now store) root level count)) × (32 * n ≤ length (now b)) ⌝ }
+    ensures { λ r. ⌜ findingOf r ≡ heldAll (envOf (orderIn by (now (heap .entry))) extent (now (store .entry))) level root (fetchPage (orderIn by (now (heap .entry))) extent (now (store .entry)) root) 0 (datomsOf n (now (b .entry))) ⌝ }
 {
     let mut path = Path::new();
     let mut i = 0;
     while i < n {
         let d = datom::datom_at(b, 32 * i);
-        let looked = lookup_one(store, extent, c, root, level, count, path, d);
+        let looked = lookup_one(store, extent, c, root, level, count, path, d, by, heap);
         let look = looked.look;
         match look {
             Look::Met => {

@@ -63,9 +63,9 @@ module _ (cmp : Datom → Datom → Ordering) (k i : ℕ) (s : List ℕ) where
   ]
 
 -- what the words of a page say
-pub stored-word : (s : List ℕ) (at : ℕ) (b : Bool) → storedValue (record { 0 = wordAt s (at + 16) }) ≡ b → storedDatom (datomAt s at) ≡ b
+pub stored-word : (h s : List ℕ) (at : ℕ) (b : Bool) → storedValue h (record { 0 = wordAt s (at + 16) }) ≡ b → storedDatom h (datomAt s at) ≡ b
 unfolding storedDatom datomAt
-stored-word s at b e = e
+stored-word h s at b e = e
 
 pub none-word : (w : ℕ) → w ≡ none .0 → isNone (page w) ≡ true
 unfolding isNone

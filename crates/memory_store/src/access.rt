@@ -2,13 +2,14 @@
 // many datoms there is room for. A page also has a header behind the children.
 use answer::NextMidpoint;
 use datom::Datom;
+use index::Index;
 use index::Order;
 ghost use mathlib.Core.Bool.{true};
 ghost use mathlib.Core.Path.{_≡_};
 ghost use Prim.Native.Nat.{suc, _+_, _*_, _≤_};
 ghost use lib.ListN.{length, drop};
 ghost use Rattle.datom.specs.Datom.{datomsOf};
-ghost use Rattle.index.specs.Order.{eavt};
+ghost use Rattle.index.specs.Order.{orderIn};
 ghost use Rattle.rules.specs.Page.{levelOf, countOf, childrenOf, rising};
 ghost use Rattle.rules.specs.Node.{isMidpoint, nextMidpoint, rank};
 
@@ -53,15 +54,15 @@ pub fn next_midpoint(s: &[u8], m: usize, n: usize, from: usize) -> NextMidpoint
 }
 
 // The index of the first of k rising datoms that is not below d, by halving.
-pub fn first_not_below(s: &[u8], k: usize, d: Datom) -> usize
-    requires { ⌜ (32 * k ≤ length (now s)) × (rising (eavt .cmp) (datomsOf k (now s)) ≡ true) ⌝ }
-    ensures { λ r. ⌜ r ≡ rank (eavt .cmp) d (datomsOf k (now (s .entry))) ⌝ }
+pub fn first_not_below(s: &[u8], k: usize, d: Datom, by: Index, heap: &[u8]) -> usize
+    requires { ⌜ (32 * k ≤ length (now s)) × (rising (orderIn by (now heap) .cmp) (datomsOf k (now s)) ≡ true) ⌝ }
+    ensures { λ r. ⌜ r ≡ rank (orderIn by (now (heap .entry)) .cmp) d (datomsOf k (now (s .entry))) ⌝ }
 {
     let mut lo = 0;
     let mut hi = k;
     while lo < hi {
         let mid = lo + (hi - lo) / 2;
-        match index::order_of(datom::datom_at(s, 32 * mid), d) {
+        match index::order_of(datom::datom_at(s, 32 * mid), d, by, heap) {
             Order::Less => {
                 lo = mid + 1;
             }

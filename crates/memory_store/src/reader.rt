@@ -2,16 +2,18 @@
 use crate::access;
 use answer::Rule;
 use datom::Value;
+use index::Index;
 use index::Order;
 use store::PageId;
 ghost use mathlib.Core.Bool.{true};
 ghost use mathlib.Core.Path.{_≡_};
-ghost use Prim.Native.Nat.{_+_, _*_, _≤_};
+ghost use Prim.Native.Nat.{ℕ, _+_, _*_, _≤_};
 ghost use lib.ListN.{length, drop};
 ghost use Rattle.store.specs.Words.{wordAt, cells};
 ghost use Rattle.store.specs.Page.{page, pageOf};
-ghost use Rattle.datom.specs.Datom.{datomsOf};
-ghost use Rattle.index.specs.Order.{eavt};
+ghost use mathlib.Core.List.{List};
+ghost use Rattle.datom.specs.Datom.{datomsOf, storedDatom};
+ghost use Rattle.index.specs.Order.{orderIn};
 ghost use Rattle.rules.specs.Page.{nodeOf, all, rising, older, childRules, readPage};
 ghost use Rattle.memory_store.specs.Reading.{said};
 ghost use Rattle.memory_store.specs.Fours.{Rises, FourRise, FourIntegers, FourOlder, SameFrom};
@@ -22,10 +24,10 @@ pub enum Reading {
     Good { level: usize, count: usize },
 }
 
-// Whether the datom at byte `at` is below the one behind it by entity and attribute alone.
-fn pair_rises(s: &[u8], at: usize) -> bool
+// Whether the datom at byte `at` is below the one behind it by entity and attribute alone, so whatever the heap holds.
+fn pair_rises(s: &[u8], at: usize, by: Index) -> bool
     requires { ⌜ at + 48 ≤ length (now s) ⌝ }
-    ensures { λ r. ⌜ (r ≡ true → Rises eavt (now (s .entry)) at) ⌝ }
+    ensures { λ r. ⌜ (r ≡ true → (h : List ℕ) → Rises (orderIn by h) (now (s .entry)) at) ⌝ }
 {
     let first = store::word(s, at);
     let second = store::word(s, at + 32);
@@ -39,20 +41,20 @@ fn pair_rises(s: &[u8], at: usize) -> bool
 }
 
 // Whether four datoms from byte `at` on and the one behind them do.
-fn four_rise(s: &[u8], at: usize) -> bool
+fn four_rise(s: &[u8], at: usize, by: Index) -> bool
     requires { ⌜ at + 144 ≤ length (now s) ⌝ }
-    ensures { λ r. ⌜ (r ≡ true → FourRise eavt (now (s .entry)) at) ⌝ }
+    ensures { λ r. ⌜ (r ≡ true → (h : List ℕ) → FourRise (orderIn by h) (now (s .entry)) at) ⌝ }
 {
-    if !pair_rises(s, at) {
+    if !pair_rises(s, at, by) {
         return false;
     }
-    if !pair_rises(s, at + 32) {
+    if !pair_rises(s, at + 32, by) {
         return false;
     }
-    if !pair_rises(s, at + 64) {
+    if !pair_rises(s, at + 64, by) {
         return false;
     }
-    pair_rises(s, at + 96)
+    pair_rises(s, at + 96, by)
 }
 
 // Whether the values of four datoms from byte `at` on are integers. The bits of all four are looked at as one number.
@@ -67,13 +69,13 @@ fn four_integers(s: &[u8], at: usize) -> bool
 
 // How many of the k datoms need no further look: four at a time, for as long as they are integers and rise by entity and
 // attribute. Of most pages that leaves four datoms at most.
-fn plain_front(s: &[u8], k: usize) -> usize
+fn plain_front(s: &[u8], k: usize, by: Index) -> usize
     requires { ⌜ 32 * k ≤ length (now s) ⌝ }
-    ensures { λ r. ⌜ (r ≤ k) × SameFrom eavt k (now (s .entry)) 0 r ⌝ }
+    ensures { λ r. ⌜ (r ≤ k) × ((h : List ℕ) → SameFrom (orderIn by h) k (now (s .entry)) 0 r) ⌝ }
 {
     let mut i = 0;
     while i + 4 < k {
-        if !four_rise(s, 32 * i) {
+        if !four_rise(s, 32 * i, by) {
             return i;
         }
         if !four_integers(s, 32 * i) {
@@ -85,14 +87,14 @@ fn plain_front(s: &[u8], k: usize) -> usize
 }
 
 // Every one of the k datoms from index `from` on may be stored: only their values are looked at.
-fn all_stored(s: &[u8], from: usize, k: usize) -> bool
+fn all_stored(s: &[u8], from: usize, k: usize, heap: &[u8]) -> bool
     requires { ⌜ 32 * k ≤ length (now s) ⌝ }
-    ensures { λ r. ⌜ r ≡ all (eavt .stored) (drop from (datomsOf k (now (s .entry)))) ⌝ }
+    ensures { λ r. ⌜ r ≡ all (storedDatom (now (heap .entry))) (drop from (datomsOf k (now (s .entry)))) ⌝ }
 {
     let mut i = from;
     while i < k {
         let value = Value(store::word(s, 32 * i + 16));
-        if !value.is_stored() {
+        if !value.is_stored(heap) {
             return false;
         }
         i += 1;
@@ -101,13 +103,18 @@ fn all_stored(s: &[u8], from: usize, k: usize) -> bool
 }
 
 // The k datoms from index `from` on rise. Each is compared with the next where they lie, so that nothing is carried from turn to turn.
-fn all_rising(s: &[u8], from: usize, k: usize) -> bool
+fn all_rising(s: &[u8], from: usize, k: usize, by: Index, heap: &[u8]) -> bool
     requires { ⌜ (from ≤ k) × (32 * k ≤ length (now s)) ⌝ }
-    ensures { λ r. ⌜ r ≡ rising (eavt .cmp) (drop from (datomsOf k (now (s .entry)))) ⌝ }
+    ensures { λ r. ⌜ r ≡ rising (orderIn by (now (heap .entry)) .cmp) (drop from (datomsOf k (now (s .entry)))) ⌝ }
 {
     let mut i = from;
     while i + 1 < k {
-        match index::order_of(datom::datom_at(s, 32 * i), datom::datom_at(s, 32 * i + 32)) {
+        match index::order_of(
+            datom::datom_at(s, 32 * i),
+            datom::datom_at(s, 32 * i + 32),
+            by,
+            heap,
+        ) {
             Order::Less => {
                 i += 1;
             }
@@ -199,9 +206,9 @@ fn read_children(s: &[u8], c: usize, id: PageId, level: usize, k: usize) -> Read
 }
 
 // The first broken rule of a page that is to be page `id`, or its level and count.
-pub fn read_page(s: &[u8], c: usize, id: PageId) -> Reading
+pub fn read_page(s: &[u8], c: usize, id: PageId, by: Index, heap: &[u8]) -> Reading
     requires { ⌜ 40 * c + 10 ≤ length (now s) ⌝ }
-    ensures { λ r. ⌜ said c (now (s .entry)) r ≡ readPage eavt c id (now (s .entry)) ⌝ }
+    ensures { λ r. ⌜ said c (now (s .entry)) r ≡ readPage (orderIn by (now (heap .entry))) c id (now (s .entry)) ⌝ }
 {
     let level = access::level_of(s, c);
     let k = access::count_of(s, c);
@@ -211,11 +218,11 @@ pub fn read_page(s: &[u8], c: usize, id: PageId) -> Reading
     if c < k {
         return Reading::Broken(Rule::Count);
     }
-    let plain = plain_front(s, k);
-    if !all_stored(s, plain, k) {
+    let plain = plain_front(s, k, by);
+    if !all_stored(s, plain, k, heap) {
         return Reading::Broken(Rule::Form);
     }
-    if !all_rising(s, plain, k) {
+    if !all_rising(s, plain, k, by, heap) {
         return Reading::Broken(Rule::Order);
     }
     read_children(s, c, id, level, k)

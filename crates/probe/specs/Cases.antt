@@ -1,29 +1,31 @@
 -- What the rules answer to the inputs of docs/DIFFERENCES.md, and where document 01 has a sentence that no starred example shows.
-use Prim.Native.Nat.{ℕ}
+use Prim.Native.Nat.{ℕ, _+_}
 use mathlib.Core.Bool.{true, cond}
 use mathlib.Core.List.{List, [], _∷_, _++_, map}
 use mathlib.Core.Path.{_≡_, refl}
 use lib.Dec.{eqb, leb}
 use lib.ListN.{take, set}
 use Rattle.store.specs.declared.PageId.{PageId}
+use Rattle.store.specs.declared.StoreRecord.{StoreRecord}
 use Rattle.store.specs.Words.{zeros}
 use Rattle.store.specs.Size.{sizes, capacity, scratchNeed}
 use Rattle.store.specs.Page.{page, none}
 use Rattle.datom.specs.declared.Datom.{Datom}
 use Rattle.datom.specs.Datom.{datomsBytes}
-use Rattle.index.specs.Order.{eavt}
 use Rattle.answer.specs.declared.Rule.the-variants.{Level, Count, Form, Order, LeafChild, LastChild, ChildId}
 use Rattle.answer.specs.declared.Fault.the-variants.{Breaks, Missing, WrongLevel, EqualDatoms, OutOfBounds, PastCount, TooHigh, NothingLeft}
-use Rattle.answer.specs.declared.Refusal.the-variants.{BadStore, TooMany, BadDatom, OutOfOrder, NoPage, Repeated, Damaged, TooTall, NoRoom, BadBound, NotHeld}
+use Rattle.answer.specs.declared.Refusal.the-variants.{BadStore, TooMany, BadDatom, BadConstant, OutOfOrder, NoPage, Repeated, Damaged, TooTall, NoRoom, BadBound, NotHeld}
 use Rattle.answer.specs.declared.Answer.{Answer}
 use Rattle.answer.specs.declared.Answer.the-variants.{Done, Refused}
 use Rattle.answer.specs.declared.Held.{Held}
 use Rattle.answer.specs.declared.Held.the-variants as held
 use Rattle.answer.specs.declared.Cursor.{Cursor}
+use Rattle.answer.specs.declared.Start.the-variants as start
 use Rattle.answer.specs.declared.Step.the-variants as step
 use Rattle.answer.specs.declared.Stepped.{Stepped}
 use Rattle.answer.specs.declared.Check.{Check}
 use Rattle.answer.specs.declared.Check.the-variants.{Sound, Unsound}
+use Rattle.answer.specs.declared.Check.the-variants as check
 use Rattle.answer.specs.Names.{faultNumber, faults}
 use Rattle.answer.specs.Table.{namedAnswer, stepWords, checkWords}
 use Rattle.rules.specs.Page.{Node}
@@ -33,8 +35,9 @@ use Rattle.rules.specs.Insert.{Outcome, leafOf, insert, initialise, insertBytes
 use Rattle.rules.specs.Listing.{eight, Listed, whole, cut, startList, stepList, listing}
 use Rattle.rules.specs.Check.{checkTree}
 use Rattle.rules.specs.Held.{heldBytes}
+use Rattle.rules.specs.Calls.{extentOf, insertCall, initialiseCall, heldCall, startCall, stepCall, checkCall}
 use Rattle.rules.specs.Entry.{insertReply, insertNamedReply}
-use Rattle.rules.specs.Table.{d, run, scratch, Place, went, calls, small}
+use Rattle.rules.specs.Table.{eavt, d, run, scratch, Place, went, calls, small}
 use Rattle.rules.specs.Open.{rules}
 
 -- a datom with entity and attribute 0
@@ -72,8 +75,8 @@ poked p at b = record { extent = p .extent; store = set (p .store) at b; root = 
 abbrev c : Place
 c = calls (run 0 7) []
 
--- 3: malformed values, and max
-stores-no-external : initialised (valued 0x4000_0000_0000_0000 ∷ []) ≡ Refused (BadDatom 0)
+-- 3: malformed values, and max; since document 02, Two, an external value is formed, and its constant is asked for after that
+stores-no-external : initialised (valued 0x4000_0000_0000_0000 ∷ []) ≡ Refused (BadConstant 0)
 unfolding rules
 stores-no-external = refl
 
@@ -528,13 +531,140 @@ each-told :
 unfolding rules
 each-told = refl
 
+-- a store of 256-byte pages, of a page count and a heap length
+abbrev recorded : ℕ → ℕ → StoreRecord
+recorded n used = record { size = 256; count = n; heap = used }
+
 -- "the replicator's four words stay": 7, the given root, no pages, page 2; and the insert that tells the fault says Level, 1
 words-stay :
-    insertReply eavt (c .extent) (set (c .store) 760 8) scratch (page 2) [] (zeros 32) .area ≡ small 7 ++ (small 2 ++ (small 0 ++ small 2))
+    insertReply (recorded 3 0) (set (c .store) 760 8) [] scratch (page 2) [] (zeros 32) .area ≡ small 7 ++ (small 2 ++ (small 0 ++ small 2))
 unfolding rules
 words-stay = refl
 
 words-named :
-    insertNamedReply eavt (c .extent) (set (c .store) 760 8) scratch (page 2) [] (zeros 32) .area ≡ small 7 ++ (small 2 ++ (small 1 ++ small 2))
+    insertNamedReply (recorded 3 0) (set (c .store) 760 8) [] scratch (page 2) [] (zeros 32) .area ≡ small 7 ++ (small 2 ++ (small 1 ++ small 2))
 unfolding rules
 words-named = refl
+
+-- document 02, Two. A heap of two texts of eight bytes, one content at offsets 0 and 16, and the datoms whose value names an offset
+abbrev text : List ℕ
+text = small 8 ++ (97 ∷ 98 ∷ 99 ∷ 100 ∷ 101 ∷ 102 ∷ 103 ∷ 104 ∷ [])
+
+abbrev heap : List ℕ
+heap = text ++ text
+
+abbrev textAt : ℕ → Datom
+textAt k = valued (0xc000_0000_0000_0000 + k)
+
+abbrev wordAt : ℕ → Datom
+wordAt k = valued (0x4000_0000_0000_0000 + k)
+
+-- an initialise of an empty store by the first bytes of that heap, and calls at the page that it leaves of the first text
+abbrev begun : ℕ → List Datom → Answer
+begun used ds = initialiseCall (recorded 0 used) (zeros 2048) heap scratch ds .answer
+
+abbrev texts : List ℕ
+texts = storeAfter (record { size = 256; count = 0 }) (zeros 2048) (leafOf (textAt 0 ∷ []) ∷ [])
+
+abbrev added : ℕ → List Datom → Answer
+added used ds = insertCall (recorded 1 used) texts heap scratch (page 0) ds .answer
+
+-- the page is the one that an initialise writes
+text-written : initialiseCall (recorded 0 16) (zeros 2048) heap scratch (textAt 0 ∷ []) ≡ record { answer = Done (page 0) 1; pages = leafOf (textAt 0 ∷ []) ∷ [] }
+unfolding rules
+text-written = refl
+
+-- "(.. in a page 7)": where the heap ends before the constant, the page breaks the rule Form
+constant-sound : checkCall (recorded 1 16) texts heap (page 0) ≡ Sound
+unfolding rules
+constant-sound = refl
+
+constant-unsound : checkCall (recorded 1 8) texts heap (page 0) ≡ Unsound (page 0) (Breaks Form)
+unfolding rules
+constant-unsound = refl
+
+constant-damaged : added 8 (d 1 ∷ []) ≡ Refused (Damaged (page 0) (Breaks Form))
+unfolding rules
+constant-damaged = refl
+
+-- "11 BadConstant(i), after 3": 3 is asked of the whole batch first. At offset 8 there is no length of a text, and no integer of 2^62 or
+-- more; an offset that is no multiple of 8 is a temporary
+form-before-constant : begun 32 (textAt 8 ∷ valued 0xffff_ffff_ffff_ffff ∷ []) ≡ Refused (BadDatom 1)
+unfolding rules
+form-before-constant = refl
+
+constant-refused : begun 32 (textAt 0 ∷ textAt 8 ∷ []) ≡ Refused (BadConstant 1)
+unfolding rules
+constant-refused = refl
+
+constant-temporary : begun 32 (textAt 4 ∷ []) ≡ Refused (BadConstant 0)
+unfolding rules
+constant-temporary = refl
+
+constant-inline : begun 32 (textAt 0 ∷ wordAt 0 ∷ []) ≡ Refused (BadConstant 1)
+unfolding rules
+constant-inline = refl
+
+constant-past : begun 16 (textAt 0 ∷ textAt 16 ∷ []) ≡ Refused (BadConstant 1)
+unfolding rules
+constant-past = refl
+
+-- 11 before 4
+constant-before-order : added 32 (d 1 ∷ d 0 ∷ textAt 8 ∷ []) ≡ Refused (BadConstant 2)
+unfolding rules
+constant-before-order = refl
+
+-- "(in a bound it is 10 ..)"
+constant-bound : startCall (recorded 1 32) texts heap (page 0) (textAt 8) (d 9) .answer ≡ start.Refused BadBound
+unfolding rules
+constant-bound = refl
+
+constant-upper : startCall (recorded 1 16) texts heap (page 0) (textAt 0) (textAt 16) .answer ≡ start.Refused BadBound
+unfolding rules
+constant-upper = refl
+
+-- "1 also when the heap length passes its slice or is no multiple of 8": before 2, and by every call
+heap-odd : begun 12 (run 0 129) ≡ Refused BadStore
+unfolding rules
+heap-odd = refl
+
+heap-passes : begun 40 [] ≡ Refused BadStore
+unfolding rules
+heap-passes = refl
+
+heap-odd-insert : added 12 [] ≡ Refused BadStore
+unfolding rules
+heap-odd-insert = refl
+
+heap-odd-start : startCall (recorded 1 12) texts heap (page 0) (d 0) (d 9) .answer ≡ start.Refused BadStore
+unfolding rules
+heap-odd-start = refl
+
+heap-odd-step : stepCall (recorded 1 12) texts heap (cursor 0 (indices 4 4 4) (pages 9 9 9)) .answer ≡ step.Refused BadStore
+unfolding rules
+heap-odd-step = refl
+
+heap-odd-held : heldCall (recorded 1 12) texts heap (page 0) [] ≡ held.Refused BadStore
+unfolding rules
+heap-odd-held = refl
+
+heap-odd-check : checkCall (recorded 1 12) texts heap (page 0) ≡ check.Refused BadStore
+unfolding rules
+heap-odd-check = refl
+
+-- "two offsets with equal content are equal datoms; from here demands 2 and 3, Repeated and OutOfOrder read "equal" that way"
+same-repeated : added 32 (textAt 16 ∷ []) ≡ Refused (Repeated 0)
+unfolding rules
+same-repeated = refl
+
+same-stays : added 32 (textAt 0 ∷ textAt 16 ∷ []) ≡ Refused (OutOfOrder 1)
+unfolding rules
+same-stays = refl
+
+same-initialised : begun 32 (textAt 16 ∷ textAt 0 ∷ []) ≡ Refused (OutOfOrder 1)
+unfolding rules
+same-initialised = refl
+
+same-held : heldCall (recorded 1 32) texts heap (page 0) (datomsBytes (textAt 16 ∷ [])) ≡ held.All
+unfolding rules
+same-held = refl

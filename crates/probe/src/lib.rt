@@ -1,13 +1,15 @@
 // Entries for tests: what the page reader and the access functions say of any bytes, asked from C or Rust. Each takes every input;
-// where there is nothing to say the answer is 2^64-1.
+// where there is nothing to say the answer is 2^64-1. The heap is the part of it that is in use.
 use answer::Fetch;
 use answer::NextMidpoint;
+use index::Index;
 use index::Order;
 use memory_store::reader::Reading;
 use store::Extent;
 use store::PageId;
 ghost use mathlib.Core.Path.{_≡_};
-ghost use Rattle.index.specs.Order.{eavt};
+ghost use Rattle.index.specs.declared.Index.the-variants.{Eavt};
+ghost use Rattle.index.specs.Order.{orderIn};
 ghost use Rattle.answer.specs.Table.{fetchWords};
 ghost use Rattle.rules.specs.Store.{fetchAnswer};
 ghost use Rattle.probe.specs.Seen.{seen, shown, ruleOf, levelOf, countOf, wordOf, childOf, nextOf, firstOf, orderOf, wroteOf, rewritten};
@@ -20,14 +22,14 @@ enum Look {
     Good(usize, usize),
 }
 
-fn look_at(bytes: &[u8], id: u64) -> Look
-    ensures { λ r. ⌜ shown (now (bytes .entry)) r ≡ seen eavt (now (bytes .entry)) id ⌝ }
+fn look_at(bytes: &[u8], id: u64, heap: &[u8]) -> Look
+    ensures { λ r. ⌜ shown (now (bytes .entry)) r ≡ seen (orderIn Eavt (now (heap .entry))) (now (bytes .entry)) id ⌝ }
 {
     let c = store::capacity_of(bytes.len() as u64);
     if c == 0 {
         return Look::Unread(NOTHING);
     }
-    match memory_store::reader::read_page(bytes, c, PageId(id)) {
+    match memory_store::reader::read_page(bytes, c, PageId(id), Index::Eavt, heap) {
         Reading::Broken(rule) => Look::Unread(rule.number()),
         Reading::Good { level, count } => Look::Good(level, count),
     }
@@ -36,10 +38,10 @@ fn look_at(bytes: &[u8], id: u64) -> Look
 // The first rule of document 01's "Readable" that the bytes break as page `id`, 1 to 7; 0 for a readable page; 2^64-1 where no page
 // has that many bytes.
 #[no_mangle]
-pub extern "C" fn probe_rule(bytes: &[u8], id: u64) -> u64
-    ensures { λ r. ⌜ r ≡ ruleOf (seen eavt (now (bytes .entry)) id) ⌝ }
+pub extern "C" fn probe_rule(bytes: &[u8], id: u64, heap: &[u8]) -> u64
+    ensures { λ r. ⌜ r ≡ ruleOf (seen (orderIn Eavt (now (heap .entry))) (now (bytes .entry)) id) ⌝ }
 {
-    match look_at(bytes, id) {
+    match look_at(bytes, id, heap) {
         Look::Unread(rule) => rule,
         Look::Good(_, _) => 0,
     }
@@ -47,10 +49,10 @@ pub extern "C" fn probe_rule(bytes: &[u8], id: u64) -> u64
 
 // The level of a readable page.
 #[no_mangle]
-pub extern "C" fn probe_level(bytes: &[u8], id: u64) -> u64
-    ensures { λ r. ⌜ r ≡ levelOf (seen eavt (now (bytes .entry)) id) ⌝ }
+pub extern "C" fn probe_level(bytes: &[u8], id: u64, heap: &[u8]) -> u64
+    ensures { λ r. ⌜ r ≡ levelOf (seen (orderIn Eavt (now (heap .entry))) (now (bytes .entry)) id) ⌝ }
 {
-    let Look::Good(level, _) = look_at(bytes, id) else {
+    let Look::Good(level, _) = look_at(bytes, id, heap) else {
         return NOTHING;
     };
     level as u64
@@ -58,10 +60,10 @@ pub extern "C" fn probe_level(bytes: &[u8], id: u64) -> u64
 
 // The number of its datoms.
 #[no_mangle]
-pub extern "C" fn probe_count(bytes: &[u8], id: u64) -> u64
-    ensures { λ r. ⌜ r ≡ countOf (seen eavt (now (bytes .entry)) id) ⌝ }
+pub extern "C" fn probe_count(bytes: &[u8], id: u64, heap: &[u8]) -> u64
+    ensures { λ r. ⌜ r ≡ countOf (seen (orderIn Eavt (now (heap .entry))) (now (bytes .entry)) id) ⌝ }
 {
-    let Look::Good(_, count) = look_at(bytes, id) else {
+    let Look::Good(_, count) = look_at(bytes, id, heap) else {
         return NOTHING;
     };
     count as u64
@@ -69,10 +71,10 @@ pub extern "C" fn probe_count(bytes: &[u8], id: u64) -> u64
 
 // Word j of the datom at index i: 0 entity, 1 attribute, 2 value, 3 last word.
 #[no_mangle]
-pub extern "C" fn probe_word(bytes: &[u8], id: u64, i: usize, j: usize) -> u64
-    ensures { λ r. ⌜ r ≡ wordOf i j (seen eavt (now (bytes .entry)) id) ⌝ }
+pub extern "C" fn probe_word(bytes: &[u8], id: u64, i: usize, j: usize, heap: &[u8]) -> u64
+    ensures { λ r. ⌜ r ≡ wordOf i j (seen (orderIn Eavt (now (heap .entry))) (now (bytes .entry)) id) ⌝ }
 {
-    let Look::Good(_, count) = look_at(bytes, id) else {
+    let Look::Good(_, count) = look_at(bytes, id, heap) else {
         return NOTHING;
     };
     if count <= i {
@@ -86,10 +88,10 @@ pub extern "C" fn probe_word(bytes: &[u8], id: u64, i: usize, j: usize) -> u64
 
 // The child at index i.
 #[no_mangle]
-pub extern "C" fn probe_child(bytes: &[u8], id: u64, i: usize) -> u64
-    ensures { λ r. ⌜ r ≡ childOf i (seen eavt (now (bytes .entry)) id) ⌝ }
+pub extern "C" fn probe_child(bytes: &[u8], id: u64, i: usize, heap: &[u8]) -> u64
+    ensures { λ r. ⌜ r ≡ childOf i (seen (orderIn Eavt (now (heap .entry))) (now (bytes .entry)) id) ⌝ }
 {
-    let Look::Good(_, count) = look_at(bytes, id) else {
+    let Look::Good(_, count) = look_at(bytes, id, heap) else {
         return NOTHING;
     };
     if count < i {
@@ -102,10 +104,10 @@ pub extern "C" fn probe_child(bytes: &[u8], id: u64, i: usize) -> u64
 
 // The first real child at or after an index.
 #[no_mangle]
-pub extern "C" fn probe_next(bytes: &[u8], id: u64, from: usize) -> u64
-    ensures { λ r. ⌜ r ≡ nextOf from (seen eavt (now (bytes .entry)) id) ⌝ }
+pub extern "C" fn probe_next(bytes: &[u8], id: u64, from: usize, heap: &[u8]) -> u64
+    ensures { λ r. ⌜ r ≡ nextOf from (seen (orderIn Eavt (now (heap .entry))) (now (bytes .entry)) id) ⌝ }
 {
-    let Look::Good(_, count) = look_at(bytes, id) else {
+    let Look::Good(_, count) = look_at(bytes, id, heap) else {
         return NOTHING;
     };
     let c = store::capacity_of(bytes.len() as u64);
@@ -117,22 +119,28 @@ pub extern "C" fn probe_next(bytes: &[u8], id: u64, from: usize) -> u64
 
 // The index of the first datom that is not below the one whose 32 bytes are given.
 #[no_mangle]
-pub extern "C" fn probe_first(bytes: &[u8], id: u64, sought: &[u8]) -> u64
-    ensures { λ r. ⌜ r ≡ firstOf eavt (now (sought .entry)) (seen eavt (now (bytes .entry)) id) ⌝ }
+pub extern "C" fn probe_first(bytes: &[u8], id: u64, sought: &[u8], heap: &[u8]) -> u64
+    ensures { λ r. ⌜ r ≡ firstOf (orderIn Eavt (now (heap .entry))) (now (sought .entry)) (seen (orderIn Eavt (now (heap .entry))) (now (bytes .entry)) id) ⌝ }
 {
-    let Look::Good(_, count) = look_at(bytes, id) else {
+    let Look::Good(_, count) = look_at(bytes, id, heap) else {
         return NOTHING;
     };
     if sought.len() != 32 {
         return NOTHING;
     }
-    memory_store::access::first_not_below(bytes, count, datom::datom_at(sought, 0)) as u64
+    memory_store::access::first_not_below(
+        bytes,
+        count,
+        datom::datom_at(sought, 0),
+        Index::Eavt,
+        heap,
+    ) as u64
 }
 
 // How two datoms compare, each given by its 32 bytes: 0 below, 1 equal, 2 above.
 #[no_mangle]
-pub extern "C" fn probe_order(a: &[u8], b: &[u8]) -> u64
-    ensures { λ r. ⌜ r ≡ orderOf eavt (now (a .entry)) (now (b .entry)) ⌝ }
+pub extern "C" fn probe_order(a: &[u8], b: &[u8], heap: &[u8]) -> u64
+    ensures { λ r. ⌜ r ≡ orderOf (orderIn Eavt (now (heap .entry))) (now (a .entry)) (now (b .entry)) ⌝ }
 {
     if a.len() != 32 {
         return NOTHING;
@@ -140,7 +148,12 @@ pub extern "C" fn probe_order(a: &[u8], b: &[u8]) -> u64
     if b.len() != 32 {
         return NOTHING;
     }
-    match index::order_of(datom::datom_at(a, 0), datom::datom_at(b, 0)) {
+    match index::order_of(
+        datom::datom_at(a, 0),
+        datom::datom_at(b, 0),
+        Index::Eavt,
+        heap,
+    ) {
         Order::Less => 0,
         Order::Equal => 1,
         Order::Greater => 2,
@@ -160,10 +173,10 @@ pub extern "C" fn probe_fetch(store: &[u8], size: u64, count: u64, page: u64) ->
 
 // A readable page is written anew into a free one of the same length: 1 if so, and 0 with nothing changed if not.
 #[no_mangle]
-pub extern "C" fn probe_write(bytes: &[u8], id: u64, free: &mut [u8]) -> u64
-    ensures { λ r. ⌜ (r ≡ wroteOf (now (bytes .entry)) (now (free .entry)) (seen eavt (now (bytes .entry)) id)) × (now (free .exit) ≡ rewritten (now (bytes .entry)) (now (free .entry)) (seen eavt (now (bytes .entry)) id)) ⌝ }
+pub extern "C" fn probe_write(bytes: &[u8], id: u64, free: &mut [u8], heap: &[u8]) -> u64
+    ensures { λ r. ⌜ (r ≡ wroteOf (now (bytes .entry)) (now (free .entry)) (seen (orderIn Eavt (now (heap .entry))) (now (bytes .entry)) id)) × (now (free .exit) ≡ rewritten (now (bytes .entry)) (now (free .entry)) (seen (orderIn Eavt (now (heap .entry))) (now (bytes .entry)) id)) ⌝ }
 {
-    let Look::Good(level, count) = look_at(bytes, id) else {
+    let Look::Good(level, count) = look_at(bytes, id, heap) else {
         return 0;
     };
     let size = bytes.len();

@@ -10,6 +10,7 @@ use lib.ListN.{length, take, length-replicate}
 use lib.Seq.{length-take-le, take-length, take-at}
 use Rattle.store.specs.declared.PageId.{PageId}
 use Rattle.store.specs.declared.Extent.{Extent}
+use Rattle.store.specs.declared.StoreRecord.{StoreRecord}
 use Rattle.store.specs.Words.{zeros, patch}
 use Rattle.store.specs.Size.{capacity, roomFor, scratchNeed}
 use Rattle.store.specs.Cells.{patch-length, cells-front}
@@ -21,6 +22,7 @@ use Rattle.answer.specs.declared.Refusal.the-variants.{BadStore, TooMany}
 use Rattle.rules.specs.Lookup.{Finding, clear, found}
 use Rattle.rules.specs.Store.{orElse, badStore, badScratch}
 use Rattle.rules.specs.Insert.{Outcome, refuse, storeFault, countFault, insertCounted, initialiseCounted, bytesFault, batchOf, insert, insertBytes, initialise, initialiseBytes}
+use Rattle.rules.specs.Calls.{extentOf, ordOf, heapFault, insertCall, initialiseCall, insertBytesCall, initialiseBytesCall}
 use Rattle.records.specs.Laid.{laidCount, Laid, laid-all, laid-fits, firstOf, first-length}
 
 -- the bytes of n records, or of 129 for any number of them over 128
@@ -158,3 +160,19 @@ pub insert-first :
     insertBytes t x st (length s) root (handedBytes n s) ≡ insert t x st (length s) root (firstOf n ds)
 insert-first x st n ds s L t root =
     ap (λ (k : ℕ). insertBytes t x st (length s) root (handedBytes k s)) (sym (first-length n ds)) ∙ insert-handed x st (firstOf n ds) s L t root
+
+-- the calls: a bad heap is refused of the bytes and of the records alike
+module _ (r : StoreRecord) (st h : List ℕ) (ds : List Datom) (s : List ℕ) (L : Laid ds s) where
+  pub insert-call-handed : (root : PageId) → insertBytesCall r st h (length s) root (handedBytes (length ds) s) ≡ insertCall r st h (length s) root ds
+  unfolding insertBytesCall insertCall
+  insert-call-handed root = ap (orElse refuse (heapFault r h)) (insert-handed (extentOf r) st ds s L (ordOf r h) root)
+
+  pub initialise-call-handed : initialiseBytesCall r st h (length s) (handedBytes (length ds) s) ≡ initialiseCall r st h (length s) ds
+  unfolding initialiseBytesCall initialiseCall
+  initialise-call-handed = ap (orElse refuse (heapFault r h)) (initialise-handed (extentOf r) st ds s L (ordOf r h))
+
+pub insert-call-first :
+    (r : StoreRecord) (st h : List ℕ) (n : ℕ) (ds : List Datom) (s : List ℕ) → Laid (firstOf n ds) s → (root : PageId) →
+    insertBytesCall r st h (length s) root (handedBytes n s) ≡ insertCall r st h (length s) root (firstOf n ds)
+unfolding insertBytesCall insertCall
+insert-call-first r st h n ds s L root = ap (orElse refuse (heapFault r h)) (insert-first (extentOf r) st n ds s L (ordOf r h) root)

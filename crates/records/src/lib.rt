@@ -2,15 +2,14 @@
 // is proved by a walk of its code, by hand: it only passes the slice on, or reads one record and gives it on by value.
 use answer::Answer;
 use datom::Datom;
-use store::Extent;
 use store::PageId;
+use store::StoreRecord;
 ghost use mathlib.Core.Path.{_≡_};
 ghost use Prim.Native.Nat.{_+_, _*_, _≤_};
 ghost use lib.ListN.{length};
 ghost use Rattle.store.specs.Words.{patch};
 ghost use Rattle.datom.specs.Datom.{datomBytes};
-ghost use Rattle.index.specs.Order.{eavt};
-ghost use Rattle.rules.specs.Insert.{insertBytes, initialiseBytes, insert as rulesInsert, initialise as rulesInitialise};
+ghost use Rattle.rules.specs.Calls.{extentOf, insertCall, initialiseCall, insertBytesCall, initialiseBytesCall};
 ghost use Rattle.entry.specs.Reply.{Replies};
 ghost use Rattle.records.specs.Laid.{laidCount, Laid, firstOf};
 ghost use Rattle.records.specs.Handed.{handedLength, handedIn, handedBytes};
@@ -75,45 +74,65 @@ fn hand(b: &mut [u8], n: usize, s: &[u8])
 }
 
 // Inserts the n records that `lay` has seen at the front of the scratch.
-pub fn insert_laid(store: &mut [u8], extent: Extent, root: PageId, n: usize, s: &mut [u8]) -> Answer
-    ensures { λ r. ⌜ Replies extent (now (store .entry)) (now (store .exit)) r (insertBytes eavt extent (now (store .entry)) (length (now (s .entry))) root (handedBytes n (now (s .entry)))) ⌝ }
+pub fn insert_laid(
+    store: &mut [u8],
+    recorded: StoreRecord,
+    root: PageId,
+    n: usize,
+    s: &mut [u8],
+    heap: &[u8],
+) -> Answer
+    ensures { λ r. ⌜ Replies (extentOf recorded) (now (store .entry)) (now (store .exit)) r (insertBytesCall recorded (now (store .entry)) (now (heap .entry)) (length (now (s .entry))) root (handedBytes n (now (s .entry)))) ⌝ }
 {
     let mut b = [0u8; HANDED];
     hand(&mut b, n, s);
     let m = handed_length(n);
-    entry::insert(store, extent, root, &b[..m], s)
+    entry::insert(store, recorded, root, &b[..m], s, heap)
 }
 
 // Inserts a batch of records at a root.
 pub fn insert(
     store: &mut [u8],
-    extent: Extent,
+    recorded: StoreRecord,
     root: PageId,
     batch: &[Datom],
     s: &mut [u8],
+    heap: &[u8],
 ) -> Answer
-    ensures { λ r. ⌜ Replies extent (now (store .entry)) (now (store .exit)) r (rulesInsert eavt extent (now (store .entry)) (length (now (s .entry))) root (now (batch .entry))) ⌝ }
+    ensures { λ r. ⌜ Replies (extentOf recorded) (now (store .entry)) (now (store .exit)) r (insertCall recorded (now (store .entry)) (now (heap .entry)) (length (now (s .entry))) root (now (batch .entry))) ⌝ }
 {
     lay(batch, s);
-    insert_laid(store, extent, root, batch.len(), s)
+    insert_laid(store, recorded, root, batch.len(), s, heap)
 }
 
 // Makes a new tree of the n records that `lay` has seen at the front of the scratch.
-fn initialise_laid(store: &mut [u8], extent: Extent, n: usize, s: &mut [u8]) -> Answer
-    ensures { λ r. ⌜ Replies extent (now (store .entry)) (now (store .exit)) r (initialiseBytes eavt extent (now (store .entry)) (length (now (s .entry))) (handedBytes n (now (s .entry)))) ⌝ }
+fn initialise_laid(
+    store: &mut [u8],
+    recorded: StoreRecord,
+    n: usize,
+    s: &mut [u8],
+    heap: &[u8],
+) -> Answer
+    ensures { λ r. ⌜ Replies (extentOf recorded) (now (store .entry)) (now (store .exit)) r (initialiseBytesCall recorded (now (store .entry)) (now (heap .entry)) (length (now (s .entry))) (handedBytes n (now (s .entry)))) ⌝ }
 {
     let mut b = [0u8; HANDED];
     hand(&mut b, n, s);
     let m = handed_length(n);
-    entry::initialise(store, extent, &b[..m], s)
+    entry::initialise(store, recorded, &b[..m], s, heap)
 }
 
 // Makes a new tree of a batch of records in any order.
-pub fn initialise(store: &mut [u8], extent: Extent, batch: &[Datom], s: &mut [u8]) -> Answer
-    ensures { λ r. ⌜ Replies extent (now (store .entry)) (now (store .exit)) r (rulesInitialise eavt extent (now (store .entry)) (length (now (s .entry))) (now (batch .entry))) ⌝ }
+pub fn initialise(
+    store: &mut [u8],
+    recorded: StoreRecord,
+    batch: &[Datom],
+    s: &mut [u8],
+    heap: &[u8],
+) -> Answer
+    ensures { λ r. ⌜ Replies (extentOf recorded) (now (store .entry)) (now (store .exit)) r (initialiseCall recorded (now (store .entry)) (now (heap .entry)) (length (now (s .entry))) (now (batch .entry))) ⌝ }
 {
     lay(batch, s);
-    initialise_laid(store, extent, batch.len(), s)
+    initialise_laid(store, recorded, batch.len(), s, heap)
 }
 
 // The first n records of an array, as `lay` lays those of a slice.
@@ -131,14 +150,15 @@ fn lay_array(batch: [Datom; batch::MOST], n: usize, area: &mut [u8])
 // Inserts the first n records of an array at a root. Its signature has no reference to a record: a function that calls it is covered.
 pub fn insert_array(
     store: &mut [u8],
-    extent: Extent,
+    recorded: StoreRecord,
     root: PageId,
     batch: [Datom; batch::MOST],
     n: usize,
     s: &mut [u8],
+    heap: &[u8],
 ) -> Answer
-    ensures { λ r. ⌜ Replies extent (now (store .entry)) (now (store .exit)) r (rulesInsert eavt extent (now (store .entry)) (length (now (s .entry))) root (firstOf n batch)) ⌝ }
+    ensures { λ r. ⌜ Replies (extentOf recorded) (now (store .entry)) (now (store .exit)) r (insertCall recorded (now (store .entry)) (now (heap .entry)) (length (now (s .entry))) root (firstOf n batch)) ⌝ }
 {
     lay_array(batch, n, s);
-    insert_laid(store, extent, root, n, s)
+    insert_laid(store, recorded, root, n, s, heap)
 }

@@ -3,7 +3,6 @@ use crate::calls;
 use crate::lent;
 use crate::record;
 use crate::tally;
-use store::Extent;
 ghost use Prim.Native.Nat.{_≤_};
 
 // The n datoms from d(from) on: entity k, attribute 1, value k, last word 3.
@@ -47,12 +46,7 @@ fn byte(page: &[u8], at: usize) -> u64 {
 }
 
 pub fn page(store: &[u8], size: u64, id: u64) -> &[u8] {
-    let extent = Extent { size, count: 0 };
-    record::part(
-        store,
-        calls::bytes_of(extent, id),
-        calls::bytes_of(extent, 1),
-    )
+    record::part(store, calls::bytes_of(size, id), calls::bytes_of(size, 1))
 }
 
 // Where a page has its level, and behind it its count.
@@ -87,7 +81,8 @@ pub fn initialise(
     let mut batch = [0u8; 4128];
     put_datoms(&mut batch, 0, n);
     let datoms = first(&batch, n);
-    florinwick::florinwick_initialise(store, size, 0, datoms, scratch, area);
+    let block = lent::block_of(size, 0);
+    florinwick::florinwick_initialise(store, b"", &block, datoms, scratch, area);
 }
 
 pub fn say(size: u64, n: u64) {

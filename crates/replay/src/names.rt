@@ -1,7 +1,8 @@
 // Calls that may name a fault, made again: their four words against the recorded ones. The Rust names no faults; these answers are of the
 // model that is written to the documents (docs/ORACLE.md).
+use crate::lent;
 use crate::record;
-use store::Extent;
+use store::StoreRecord;
 
 // The calls.
 const CHECK: u64 = 1;
@@ -18,30 +19,29 @@ const INSERT_NAMED: u64 = 5;
 const GIVEN: usize = 56;
 
 fn given(recorded: &[u8]) -> &[u8] {
-    if recorded.len() < GIVEN {
-        return &recorded[..0];
-    }
-    &recorded[GIVEN..]
+    record::behind(recorded, GIVEN)
 }
 
 fn is_told(area: &[u8; 32], recorded: &[u8]) -> bool {
     check::same(area, record::part(recorded, 24, 32))
 }
 
-fn check(store: &[u8], extent: Extent, recorded: &[u8]) -> bool {
+fn check(store: &[u8], heap: &[u8], stored: StoreRecord, recorded: &[u8]) -> bool {
     let mut area = [0u8; 32];
+    let block = lent::block(stored);
     let root = record::word(recorded, 2);
-    florinwick::florinwick_check(store, extent.size, extent.count, root, &mut area);
+    florinwick::florinwick_check(store, heap, &block, root, &mut area);
     is_told(&area, recorded)
 }
 
-fn start(store: &[u8], extent: Extent, recorded: &[u8]) -> bool {
+fn start(store: &[u8], heap: &[u8], stored: StoreRecord, recorded: &[u8]) -> bool {
     let mut area = [0u8; 32];
+    let block = lent::block(stored);
     let mut cursor = [0u8; 264];
     florinwick::list::florinwick_list_start(
         store,
-        extent.size,
-        extent.count,
+        heap,
+        &block,
         record::word(recorded, 2),
         record::part(recorded, 56, 32),
         record::part(recorded, 88, 32),
@@ -51,8 +51,9 @@ fn start(store: &[u8], extent: Extent, recorded: &[u8]) -> bool {
     is_told(&area, recorded)
 }
 
-fn step(store: &[u8], extent: Extent, recorded: &[u8]) -> bool {
+fn step(store: &[u8], heap: &[u8], stored: StoreRecord, recorded: &[u8]) -> bool {
     let mut area = [0u8; 32];
+    let block = lent::block(stored);
     let mut cursor = [0u8; 264];
     let mut datom = [0u8; 32];
     let from = given(recorded);
@@ -60,31 +61,32 @@ fn step(store: &[u8], extent: Extent, recorded: &[u8]) -> bool {
         return false;
     }
     store::put(&mut cursor, 0, from);
-    florinwick::list::florinwick_list_step(
-        store,
-        extent.size,
-        extent.count,
-        &mut cursor,
-        &mut datom,
-        &mut area,
-    );
+    florinwick::list::florinwick_list_step(store, heap, &block, &mut cursor, &mut datom, &mut area);
     is_told(&area, recorded)
 }
 
-fn held(store: &[u8], extent: Extent, recorded: &[u8]) -> bool {
+fn held(store: &[u8], heap: &[u8], stored: StoreRecord, recorded: &[u8]) -> bool {
     let mut area = [0u8; 32];
+    let block = lent::block(stored);
     let root = record::word(recorded, 2);
     let batch = given(recorded);
-    florinwick::florinwick_held(store, extent.size, extent.count, root, batch, &mut area);
+    florinwick::florinwick_held(store, heap, &block, root, batch, &mut area);
     is_told(&area, recorded)
 }
 
-fn insert(store: &mut [u8], scratch: &mut [u8], extent: Extent, recorded: &[u8]) -> bool {
+fn insert(
+    store: &mut [u8],
+    heap: &[u8],
+    scratch: &mut [u8],
+    stored: StoreRecord,
+    recorded: &[u8],
+) -> bool {
     let mut area = [0u8; 32];
+    let block = lent::block(stored);
     florinwick::named::florinwick_insert_named(
         store,
-        extent.size,
-        extent.count,
+        heap,
+        &block,
         record::word(recorded, 2),
         given(recorded),
         scratch,
@@ -94,27 +96,33 @@ fn insert(store: &mut [u8], scratch: &mut [u8], extent: Extent, recorded: &[u8])
 }
 
 // A call that reads only. One that is not known differs.
-fn read(store: &[u8], extent: Extent, recorded: &[u8]) -> bool {
+fn read(store: &[u8], heap: &[u8], stored: StoreRecord, recorded: &[u8]) -> bool {
     let call = record::word(recorded, 1);
     if call == CHECK {
-        return check(store, extent, recorded);
+        return check(store, heap, stored, recorded);
     }
     if call == LIST_START {
-        return start(store, extent, recorded);
+        return start(store, heap, stored, recorded);
     }
     if call == LIST_STEP {
-        return step(store, extent, recorded);
+        return step(store, heap, stored, recorded);
     }
     if call == HELD {
-        return held(store, extent, recorded);
+        return held(store, heap, stored, recorded);
     }
     false
 }
 
 // Whether a call answers with the recorded words.
-pub fn is_answered(store: &mut [u8], scratch: &mut [u8], extent: Extent, recorded: &[u8]) -> bool {
+pub fn is_answered(
+    store: &mut [u8],
+    heap: &[u8],
+    scratch: &mut [u8],
+    stored: StoreRecord,
+    recorded: &[u8],
+) -> bool {
     if record::word(recorded, 1) == INSERT_NAMED {
-        return insert(store, scratch, extent, recorded);
+        return insert(store, heap, scratch, stored, recorded);
     }
-    read(store, extent, recorded)
+    read(store, heap, stored, recorded)
 }

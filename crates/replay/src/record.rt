@@ -28,6 +28,14 @@ pub fn part(bytes: &[u8], from: u64, n: u64) -> &[u8] {
     &bytes[start..end]
 }
 
+// What stands behind the first n bytes.
+pub fn behind(bytes: &[u8], n: usize) -> &[u8] {
+    if bytes.len() < n {
+        return &bytes[..0];
+    }
+    &bytes[n..]
+}
+
 pub fn wide(byte: u8) -> u64
     ensures { λ r. ⌜ r ≤ 255 ⌝ }
 {

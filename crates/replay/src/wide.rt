@@ -4,7 +4,7 @@ use crate::examples;
 use crate::lent;
 use crate::record;
 use crate::tally;
-use store::Extent;
+use store::StoreRecord;
 ghost use Prim.Native.Nat.{_≤_};
 
 const SIZE: u64 = 8192;
@@ -16,10 +16,11 @@ struct Tree {
     is_whole: bool,
 }
 
-fn extent(tree: Tree) -> Extent {
-    Extent {
+fn stored(tree: Tree) -> StoreRecord {
+    StoreRecord {
         size: SIZE,
         count: tree.pages,
+        heap: 0,
     }
 }
 
@@ -47,10 +48,11 @@ fn with_batch(
     let mut batch = [0u8; 4128];
     let mut area = [0u8; 32];
     examples::put_datoms(&mut batch, from, n);
+    let block = lent::block_of(SIZE, tree.pages);
     let number = florinwick::florinwick_insert(
         store,
-        SIZE,
-        tree.pages,
+        b"",
+        &block,
         tree.root,
         examples::first(&batch, n),
         scratch,
@@ -90,12 +92,17 @@ fn is_datom(datom: &[u8; 32], k: u64) -> bool {
         && store::word(datom, 24) == 3
 }
 
+// The next datom of a listing: 0, or 32 at its end.
+fn next_of(store: &[u8], tree: Tree, cursor: &mut [u8; 264], datom: &mut [u8; 32]) -> u64 {
+    calls::next_datom(store, b"", stored(tree), cursor, datom)
+}
+
 // Whether the next n datoms of a listing are d(0), d(1), .., and the end is behind them.
 fn is_counted(store: &[u8], tree: Tree, cursor: &mut [u8; 264], n: u64) -> bool {
     let mut datom = [0u8; 32];
     let mut i = 0;
     while i < n {
-        if calls::next_datom(store, extent(tree), cursor, &mut datom) != 0 {
+        if next_of(store, tree, cursor, &mut datom) != 0 {
             return false;
         }
         if !is_datom(&datom, i) {
@@ -103,17 +110,18 @@ fn is_counted(store: &[u8], tree: Tree, cursor: &mut [u8; 264], n: u64) -> bool 
         }
         i += 1;
     }
-    calls::next_datom(store, extent(tree), cursor, &mut datom) == 32
+    next_of(store, tree, cursor, &mut datom) == 32
 }
 
 // Whether the tree lists its n datoms from d(0) on, up to a bound above them all.
 fn is_listed(store: &[u8], tree: Tree, n: u64) -> bool {
     let mut area = [0u8; 32];
     let mut cursor = [0u8; 264];
+    let block = lent::block_of(SIZE, tree.pages);
     let number = florinwick::list::florinwick_list_start(
         store,
-        SIZE,
-        tree.pages,
+        b"",
+        &block,
         tree.root,
         &[0u8; 32],
         &[255u8; 32],
@@ -125,12 +133,13 @@ fn is_listed(store: &[u8], tree: Tree, n: u64) -> bool {
 
 fn is_sound(store: &[u8], tree: Tree) -> bool {
     let mut area = [0u8; 32];
-    florinwick::florinwick_check(store, SIZE, tree.pages, tree.root, &mut area) == 0
+    let block = lent::block_of(SIZE, tree.pages);
+    florinwick::florinwick_check(store, b"", &block, tree.root, &mut area) == 0
 }
 
 // The tree in one line, its pages by the digest of the recorded answers.
 fn say(store: &[u8], tree: Tree, n: u64) {
-    let all = record::part(store, 0, calls::bytes_of(extent(tree), tree.pages));
+    let all = record::part(store, 0, calls::bytes_of(SIZE, tree.pages));
     examples::say(SIZE, n);
     tally::line(tree.pages, b" pages, root ");
     tally::line(tree.root, b" at level ");

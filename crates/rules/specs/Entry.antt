@@ -6,13 +6,14 @@ use lib.Dec.{eqb}
 use lib.ListN.{length}
 use Rattle.store.specs.declared.PageId.{PageId}
 use Rattle.store.specs.declared.Extent.{Extent}
+use Rattle.store.specs.declared.StoreRecord.{StoreRecord}
 use Rattle.store.specs.Words.{bytesOf, spread}
 use Rattle.store.specs.Page.{none}
-use Rattle.index.specs.Order.{DatomOrd}
 use Rattle.answer.specs.declared.Answer.{Answer}
 use Rattle.answer.specs.Table.{Words, answerWords, namedAnswer}
 use Rattle.rules.specs.Store.{storeAfter}
-use Rattle.rules.specs.Insert.{Outcome, insertBytes, initialiseBytes}
+use Rattle.rules.specs.Insert.{Outcome}
+use Rattle.rules.specs.Calls.{extentOf, insertBytesCall, initialiseBytesCall}
 
 -- "It writes four 8-byte little-endian words to a lent answer area and returns the first"
 unfoldable pub wordBytes : Words → List ℕ
@@ -34,13 +35,14 @@ replyIn words x s area o =
 abbrev pub reply : Extent → List ℕ → List ℕ → PageId → Outcome → Reply
 reply x s area root o = replyIn (answerWords root) x s area o
 
-unfoldable pub insertReply : DatomOrd → Extent → List ℕ → ℕ → PageId → List ℕ → List ℕ → Reply
-insertReply t x s scratch root batch area = reply x s area root (insertBytes t x s scratch root batch)
+-- of a record, a store and a heap
+unfoldable pub insertReply : StoreRecord → List ℕ → List ℕ → ℕ → PageId → List ℕ → List ℕ → Reply
+insertReply r s h scratch root batch area = reply (extentOf r) s area root (insertBytesCall r s h scratch root batch)
 
 -- document 02, One: the same insert, which tells the fault too
-unfoldable pub insertNamedReply : DatomOrd → Extent → List ℕ → ℕ → PageId → List ℕ → List ℕ → Reply
-insertNamedReply t x s scratch root batch area = replyIn (namedAnswer root) x s area (insertBytes t x s scratch root batch)
+unfoldable pub insertNamedReply : StoreRecord → List ℕ → List ℕ → ℕ → PageId → List ℕ → List ℕ → Reply
+insertNamedReply r s h scratch root batch area = replyIn (namedAnswer root) (extentOf r) s area (insertBytesCall r s h scratch root batch)
 
 -- an initialise is given no root: none
-unfoldable pub initialiseReply : DatomOrd → Extent → List ℕ → ℕ → List ℕ → List ℕ → Reply
-initialiseReply t x s scratch batch area = reply x s area none (initialiseBytes t x s scratch batch)
+unfoldable pub initialiseReply : StoreRecord → List ℕ → List ℕ → ℕ → List ℕ → List ℕ → Reply
+initialiseReply r s h scratch batch area = reply (extentOf r) s area none (initialiseBytesCall r s h scratch batch)

@@ -5,10 +5,11 @@ use mathlib.Core.List.{List, [], _∷_, _++_}
 use mathlib.Core.Path.{_≡_, refl}
 use lib.ListN.{replicate, set}
 use Rattle.store.specs.declared.PageId.{PageId}
+use Rattle.store.specs.declared.Extent.{Extent}
+use Rattle.store.specs.declared.StoreRecord.{StoreRecord}
 use Rattle.store.specs.Words.{zeros}
 use Rattle.store.specs.Page.{page, none}
 use Rattle.datom.specs.declared.Datom.{Datom}
-use Rattle.index.specs.Order.{eavt}
 use Rattle.answer.specs.declared.Fault.the-variants.{Missing, Breaks, OutOfBounds}
 use Rattle.answer.specs.declared.Rule.the-variants.{Level, Count, Form, Order, LeafChild, LastChild, ChildId}
 use Rattle.answer.specs.declared.Refusal.the-variants.{BadStore, NoPage, Damaged, TooTall, NoRoom}
@@ -20,7 +21,7 @@ use Rattle.rules.specs.Insert.{insert, insertBytes}
 use Rattle.rules.specs.Entry.{insertReply}
 use Rattle.rules.specs.Listing.{Listed, whole, cut, startList, listing}
 use Rattle.rules.specs.Check.{checkTree}
-use Rattle.rules.specs.Table.{d, run, scratch, Place, calls, small}
+use Rattle.rules.specs.Table.{d, eavt, run, scratch, Place, calls, small}
 use Rattle.rules.specs.Open.{rules}
 
 -- example e: page 3 has d3 and the pending d7 to d11 above d4 to d6
@@ -150,17 +151,21 @@ store-first : insertBytes eavt (record { size = 257; count = 0 }) [] scratch (pa
 unfolding rules
 store-first = refl
 
+-- a record with an empty heap
+abbrev recordOf : Extent → StoreRecord
+recordOf x = record { size = x .size; count = x .count; heap = 0 }
+
 -- four words: 6, the given root, 0 pages, index 0, of d7 sent again after example e
 words-repeated :
-    insertReply eavt (e .extent) (e .store) scratch (page 3) (small 7 ++ (small 1 ++ (small 7 ++ small 3))) (zeros 32) .area ≡ small 6 ++ (small 3 ++ zeros 16)
+    insertReply (recordOf (e .extent)) (e .store) [] scratch (page 3) (small 7 ++ (small 1 ++ (small 7 ++ small 3))) (zeros 32) .area ≡ small 6 ++ (small 3 ++ zeros 16)
 unfolding rules
 words-repeated = refl
 
 -- "An area not 32 bytes long is 1 before all else and stays unchanged.": the batch of one byte would be 2, and the store stays
-area-first : insertReply eavt (e .extent) (e .store) scratch (page 3) (0 ∷ []) (zeros 31) .returns ≡ 1
+area-first : insertReply (recordOf (e .extent)) (e .store) [] scratch (page 3) (0 ∷ []) (zeros 31) .returns ≡ 1
 unfolding rules
 area-first = refl
 
-area-stays : insertReply eavt (e .extent) (e .store) scratch (page 3) [] (zeros 33) .area ≡ zeros 33
+area-stays : insertReply (recordOf (e .extent)) (e .store) [] scratch (page 3) [] (zeros 33) .area ≡ zeros 33
 unfolding rules
 area-stays = refl

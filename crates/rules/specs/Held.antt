@@ -14,7 +14,7 @@ use Rattle.answer.specs.declared.Held.the-variants.{All, Refused}
 use Rattle.rules.specs.Tree.{Fetched, faulty, fine, Env}
 use Rattle.rules.specs.Lookup.{Look, met, absent, lost, lookup, Finding, clear, found}
 use Rattle.rules.specs.Store.{refuseIf, orElse, badStore, fetchPage, envOf}
-use Rattle.rules.specs.Insert.{countFault, formFault, orderFault, rootFault, bytesFault, batchOf}
+use Rattle.rules.specs.Insert.{countFault, wordFault, orderFault, rootFault, bytesFault, batchOf}
 
 -- what a datom's path tells of datom i: "16 NotHeld(i) .. with datom i missing, the first such"; "16 stands where 6 would", so 7 as met
 unfoldable pub afterHeld : ℕ → Look → Finding → Finding
@@ -36,10 +36,10 @@ unfoldable pub heldTree : DatomOrd → Extent → List ℕ → PageId → List D
 heldTree t x s root [] = clear
 heldTree t x s root (d ∷ ds) = cond (isNone root) (found (NotHeld 0)) (heldAt (envOf t x s) root (d ∷ ds) (fetchPage t x s root))
 
--- 3, 4 and 5 as an insert has them, and what comes after them
+-- 3, 11, 4 and 5 as an insert has them, and what comes after them
 unfoldable pub heldCounted : DatomOrd → Extent → List ℕ → PageId → List Datom → Finding
 heldCounted t x s root ds =
-    orElse found (formFault (t .stored) 0 ds)
+    orElse found (wordFault t ds)
     (orElse found (orderFault (t .cmp) ds)
     (orElse found (rootFault x root)
     (heldTree t x s root ds)))

@@ -11,7 +11,7 @@ use Rattle.datom.specs.declared.Datom.{Datom}
 use Rattle.datom.specs.Datom.{datomsOf}
 use Rattle.index.specs.Order.{DatomOrd, isLess, isSame}
 use Rattle.answer.specs.declared.Refusal.{Refusal}
-use Rattle.answer.specs.declared.Refusal.the-variants.{BadStore, TooMany, BadDatom, OutOfOrder, NoPage, Damaged}
+use Rattle.answer.specs.declared.Refusal.the-variants.{BadStore, TooMany, BadDatom, BadConstant, OutOfOrder, NoPage, Damaged}
 use Rattle.answer.specs.declared.Answer.{Answer}
 use Rattle.answer.specs.declared.Answer.the-variants.{Done, Refused}
 use Rattle.rules.specs.Page.{Node}
@@ -41,10 +41,14 @@ storeFault x s scratch = refuseIf (badStore x s || badScratch x scratch) BadStor
 unfoldable pub countFault : List Datom → Finding
 countFault ds = refuseIf (ltb 128 (length ds)) TooMany
 
--- 3: "first malformed datom, or one with value max"
-unfoldable pub formFault : (Datom → Bool) → ℕ → List Datom → Finding
-formFault ok i [] = clear
-formFault ok i (d ∷ ds) = let rest = formFault ok (suc i) ds in cond (ok d) rest (found (BadDatom i))
+-- the first datom that fails a test, refused with its index
+unfoldable pub formFault : (ℕ → Refusal) → (Datom → Bool) → ℕ → List Datom → Finding
+formFault bad ok i [] = clear
+formFault bad ok i (d ∷ ds) = let rest = formFault bad ok (suc i) ds in cond (ok d) rest (found (bad i))
+
+-- 3: "first malformed datom, or one with value max"; document 02, Two: "11 BadConstant(i), after 3"
+unfoldable pub wordFault : DatomOrd → List Datom → Finding
+wordFault t ds = orElse found (formFault BadDatom (t .formed) 0 ds) (formFault BadConstant (t .stored) 0 ds)
 
 -- 4: "first datom not above its predecessor"
 unfoldable pub lowFault : (Datom → Datom → Ordering) → ℕ → Datom → List Datom → Finding
@@ -100,18 +104,18 @@ unfoldable pub insertUnder : DatomOrd → Extent → List ℕ → PageId → Lis
 insertUnder t x s root ds =
     cond (isNone root) (writeFresh (envOf t x s) ds) (insertAt (envOf t x s) root ds (fetchPage t x s root))
 
--- 3, 4 and 5 of an insert, and what comes after them
+-- 3, 11, 4 and 5 of an insert, and what comes after them
 unfoldable pub insertCounted : DatomOrd → Extent → List ℕ → PageId → List Datom → Outcome
 insertCounted t x s root ds =
-    orElse refuse (formFault (t .stored) 0 ds)
+    orElse refuse (wordFault t ds)
     (orElse refuse (orderFault (t .cmp) ds)
     (orElse refuse (rootFault x root)
     (insertUnder t x s root ds)))
 
--- 3 and 4 of an initialise: "Initialise sorts its batch first and reads no page."
+-- 3, 11 and 4 of an initialise: "Initialise sorts its batch first and reads no page."
 unfoldable pub initialiseCounted : DatomOrd → Extent → List ℕ → List Datom → Outcome
 initialiseCounted t x s ds =
-    orElse refuse (formFault (t .stored) 0 ds)
+    orElse refuse (wordFault t ds)
     (orElse refuse (twinFault (t .cmp) 0 [] ds)
     (writeFresh (envOf t x s) (sort (t .cmp) ds)))
 

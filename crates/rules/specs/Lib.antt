@@ -9,6 +9,8 @@ pub mod Entry
 pub mod Listing
 pub mod Check
 pub mod Held
+pub mod Append
+pub mod Calls
 pub mod Table
 pub mod Open
 pub mod Starred
@@ -25,3 +27,5 @@ pub mod Spans
 pub mod Turns
 pub mod Reads
 pub mod Within
+pub mod Appended
+pub mod AppendCases

@@ -6,11 +6,12 @@ use mathlib.Core.Path.{_≡_}
 use lib.ListN.{replicate}
 use Rattle.store.specs.declared.PageId.{PageId}
 use Rattle.store.specs.declared.Extent.{Extent}
-use Rattle.store.specs.Words.{zeros}
+use Rattle.store.specs.Words.{bytesOf, zeros}
 use Rattle.store.specs.Page.{page, none}
 use Rattle.datom.specs.declared.Datom.{Datom}
 use Rattle.datom.specs.Value.{boundValue, Content, int, str, content}
-use Rattle.index.specs.Order.{cmpValue, eavt}
+use Rattle.index.specs.declared.Index.the-variants.{Eavt}
+use Rattle.index.specs.Order.{cmpValue, DatomOrd, orderIn}
 use Rattle.answer.specs.declared.Refusal.the-variants.{Repeated}
 use Rattle.answer.specs.declared.Answer.{Answer}
 use Rattle.answer.specs.declared.Answer.the-variants.{Done, Refused}
@@ -27,6 +28,10 @@ d k = record { entity = record { 0 = k }; attribute = record { 0 = 1 }; value = 
 unfoldable pub run : ℕ → ℕ → List Datom
 run k zero = []
 run k (suc n) = d k ∷ run (suc k) n
+
+-- the order over an empty heap
+abbrev pub eavt : DatomOrd
+eavt = orderIn Eavt []
 
 -- where a run of calls has come to
 pub record Place : Type 0 where
@@ -65,8 +70,8 @@ pub data Case : Type 0 where
   tree : List Datom → List (List Datom) → Case
   bytesOfPage : ℕ → List Datom → List (List Datom) → Case
   spanOf : List PageId → Case
-  wellFormed : ℕ → Case
-  meaning : ℕ → Case
+  wellFormed : List ℕ → ℕ → Case
+  meaning : List ℕ → ℕ → Case
   order : ℕ → ℕ → Case
 
 pub data Seen : Type 0 where
@@ -84,9 +89,9 @@ unfoldable pub see : Case → Seen
 see (tree b bs) = seeTree (calls b bs)
 see (bytesOfPage p b bs) = let w = calls b bs in bytes (pageAt (w .extent) (w .store) (page p))
 see (spanOf cs) = span (longestSpan cs)
-see (wellFormed v) = test (boundValue (record { 0 = v }))
-see (meaning v) = means (content (record { 0 = v }))
-see (order v w) = goes (cmpValue (record { 0 = v }) (record { 0 = w }))
+see (wellFormed h v) = test (boundValue h (record { 0 = v }))
+see (meaning h v) = means (content h (record { 0 = v }))
+see (order v w) = goes (cmpValue [] (record { 0 = v }) (record { 0 = w }))
 
 pub record Row : Type 0 where
   pub given : Case
@@ -154,9 +159,12 @@ starred =
     ∷ row (spanOf (none ∷ page 4 ∷ none ∷ page 9 ∷ [])) (span (record { from = 0; upto = 1 }))
     ∷ row (spanOf (page 4 ∷ none ∷ none ∷ [])) (span (record { from = 0; upto = 0 }))
     -- j
-    ∷ row (wellFormed (2 ^ 62 - 1)) (test true)
-    ∷ row (meaning (2 ^ 62 - 1)) (means (int (2 ^ 62 - 1)))
-    ∷ row (wellFormed (2 ^ 62)) (test false)
-    ∷ row (meaning 0x8100_0000_0000_0061) (means (str (97 ∷ [])))
+    ∷ row (wellFormed [] (2 ^ 62 - 1)) (test true)
+    ∷ row (meaning [] (2 ^ 62 - 1)) (means (int (2 ^ 62 - 1)))
+    ∷ row (wellFormed [] (2 ^ 62)) (test false)
+    -- document 02, Two: "In example j, 2^62 then names offset 0": here that integer itself
+    ∷ row (wellFormed (bytesOf 8 (2 ^ 62)) (2 ^ 62)) (test true)
+    ∷ row (meaning (bytesOf 8 (2 ^ 62)) (2 ^ 62)) (means (int (2 ^ 62)))
+    ∷ row (meaning [] 0x8100_0000_0000_0061) (means (str (97 ∷ [])))
     ∷ row (order 0x8200_0000_0000_6261 0x8100_0000_0000_0062) (goes Ordering·lt)
     ∷ []

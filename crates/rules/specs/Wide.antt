@@ -7,13 +7,12 @@ use Rattle.store.specs.declared.Extent.{Extent}
 use Rattle.store.specs.Words.{wordAt, zeros}
 use Rattle.store.specs.Page.{page}
 use Rattle.store.specs.Size.{capacity}
-use Rattle.index.specs.Order.{eavt}
 use Rattle.answer.specs.declared.Refusal.the-variants.{BadStore}
 use Rattle.answer.specs.declared.Answer.the-variants.{Done, Refused}
 use Rattle.rules.specs.Page.{childAt, levelOf, countOf}
 use Rattle.rules.specs.Store.{storeAfter}
 use Rattle.rules.specs.Insert.{Outcome, leafOf, initialise, insert}
-use Rattle.rules.specs.Table.{d, run}
+use Rattle.rules.specs.Table.{d, eavt, run}
 use Rattle.rules.specs.Open.{rules}
 
 -- "children start at 6528"

@@ -28,7 +28,7 @@ use Rattle.rules.specs.Node.{meets, anyPending, splitParts}
 use Rattle.rules.specs.Tree.{Fetched, faulty, fine, fetchAt, Env, Stage, stop, go, then, isTall, put, putAll, split, isOver, settle, Below, flush, flushAll, insertMerged, insertInto, rootOf, writeRoot, insertTree}
 use Rattle.rules.specs.Lookup.{Finding, clear, found, lookupAll}
 use Rattle.rules.specs.Store.{orElse, fetchPage, envOf, storeAfter}
-use Rattle.rules.specs.Insert.{Outcome, refuse, outcome, storeFault, countFault, formFault, orderFault, twinFault, rootFault, bytesFault, sort, leafOf, writeFresh, insertAt, insertUnder, insertCounted, initialiseCounted, insert, initialise, batchOf, insertBytes, initialiseBytes}
+use Rattle.rules.specs.Insert.{Outcome, refuse, outcome, storeFault, countFault, wordFault, orderFault, twinFault, rootFault, bytesFault, sort, leafOf, writeFresh, insertAt, insertUnder, insertCounted, initialiseCounted, insert, initialise, batchOf, insertBytes, initialiseBytes}
 
 -- "7, 8 and 9": the refusals that may come once writing has begun
 abbrev pub Late : Refusal → Type 0
@@ -183,13 +183,13 @@ module _ (t : DatomOrd) (x : Extent) (s : List ℕ) where
   insert-counted-writes : (root : PageId) (ds : List Datom) → Writes allowed (insertCounted t x s root ds)
   unfolding insertCounted
   insert-counted-writes root ds =
-      check-writes allowed (formFault (t .stored) 0 ds) _
+      check-writes allowed (wordFault t ds) _
       (check-writes allowed (orderFault (t .cmp) ds) _ (check-writes allowed (rootFault x root) _ (under-writes root ds)))
 
   initialise-counted-writes : (ds : List Datom) → Writes allowed (initialiseCounted t x s ds)
   unfolding initialiseCounted
   initialise-counted-writes ds =
-      check-writes allowed (formFault (t .stored) 0 ds) _ (check-writes allowed (twinFault (t .cmp) 0 [] ds) _ (fresh-writes (sort (t .cmp) ds)))
+      check-writes allowed (wordFault t ds) _ (check-writes allowed (twinFault (t .cmp) 0 [] ds) _ (fresh-writes (sort (t .cmp) ds)))
 
   module _ (scratch : ℕ) where
     -- past 1 and one check more

@@ -91,6 +91,16 @@ patch-patch s at p q h =
     ∙ drop-drop (length q) (at + length p) s ∙ ap (λ (k : ℕ). drop k s) e in
     rw (t, d, append-assoc (take at s) p q)
 
+-- blocks behind one another, until they fill an area
+pub next-block :
+    (a p q : List ℕ) (n : ℕ) → length p ≡ n → n + length q ≤ length a → patch (patch a 0 p) n q ≡ patch a 0 (p ++ q)
+next-block a p q n e h =
+    ap (λ (k : ℕ). patch (patch a 0 p) k q) (let z : n ≡ 0 + length p = omega arith in z) ∙ patch-patch a 0 p q (omega arith)
+
+pub filled : (a p : List ℕ) → length a ≡ length p → patch a 0 p ≡ p
+unfolding patch
+filled a p e = ap (λ (l : List ℕ). p ++ l) (drop-of-length-le a {i = 0 + length p} (omega arith)) ∙ append-nil p
+
 -- what lies before a store is as it was
 pub patch-before :
     (s : List ℕ) (at : ℕ) (p : List ℕ) (b n : ℕ) → b + n ≤ at → at ≤ length s → take n (drop b (patch s at p)) ≡ take n (drop b s)

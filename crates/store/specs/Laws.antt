@@ -55,7 +55,7 @@ little-small (b ∷ s) h =
 
 -- the word at an offset, and its bytes
 module _ (s : List ℕ) (bytes : (i : ℕ) → getD s i 0 < 256) (at : ℕ) (fits : at + 8 ≤ length s) where
-  part-bytes : (i : ℕ) → getD (take 8 (drop at s)) i 0 < 256
+  pub part-bytes : (i : ℕ) → getD (take 8 (drop at s)) i 0 < 256
   part-bytes i = elim (decLe 8 i) [
     | yes a ↦ rw (List·getD-eq-default (take 8 (drop at s)) 0 {n = i} (omega (arith, a, length-take 8 (drop at s)))) (suc-le-suc zero-le)
     | no a ↦ rw (getD-take 8 (drop at s) i 0 (omega (arith, a)), getD-drop at s i 0) (bytes (at + i))

@@ -4,4 +4,6 @@ pub mod Page
 pub mod Size
 pub mod Laws
 pub mod Cells
+pub mod Padding
 pub mod Bytes
+pub mod Record

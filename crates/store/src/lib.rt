@@ -1,10 +1,11 @@
 // Page ids, page sizes and the store's record, after store.rs of the Rust.
 ghost use mathlib.Core.Path.{_≡_};
-ghost use Prim.Native.Nat.{_+_, _*_, _≤_};
+ghost use Prim.Native.Nat.{_+_, _-_, _*_, _≤_};
 ghost use lib.ListN.{length};
-ghost use Rattle.store.specs.Words.{bytesOf, wordAt, wordOf, patch};
+ghost use Rattle.store.specs.Words.{bytesOf, wordAt, wordOf, zeros, pad, patch};
 ghost use Rattle.store.specs.Size.{capacity};
 ghost use Rattle.store.specs.Page.{page, none, isNone};
+ghost use Rattle.store.specs.Record.{extentOf};
 
 // The number of a page, counted from the front of the store.
 pub struct PageId(pub u64);
@@ -28,12 +29,31 @@ impl PageId {
     }
 }
 
-// The store's record: what a caller hands over beside the lent slice.
-pub struct Extent {
+// The store's record: what a caller hands over beside the lent store and heap.
+pub struct StoreRecord {
     // The bytes of a page.
     pub size: u64,
     // The pages in use; those past them are free.
     pub count: u64,
+    // The bytes of the heap in use; those past them are free.
+    pub heap: u64,
+}
+
+// What of the record is about pages.
+pub struct Extent {
+    pub size: u64,
+    pub count: u64,
+}
+
+impl StoreRecord {
+    pub fn extent(self) -> Extent
+        ensures { λ r. ⌜ r ≡ extentOf self ⌝ }
+    {
+        Extent {
+            size: self.size,
+            count: self.count,
+        }
+    }
 }
 
 // How many datoms a page of this size holds; 0 for a size that is not known.
@@ -114,4 +134,25 @@ pub fn put_word(s: &mut [u8], at: usize, w: u64)
         (w7 % 256) as u8,
     ];
     put(s, at, &word);
+}
+
+// Zeros go into `s` from byte `at` up to byte `end`: one clearing of memory to the compiler.
+fn clear(s: &mut [u8], at: usize, end: usize)
+    requires { ⌜ (at ≤ end) × (end ≤ length (now s)) ⌝ }
+    ensures { λ _. ⌜ now (s .exit) ≡ patch (now (s .entry)) at (zeros (end - at)) ⌝ }
+{
+    let mut i = at;
+    while i < end {
+        s[i] = 0;
+        i += 1;
+    }
+}
+
+// All of `p` goes into `s` from byte `at` on, with zeros behind it, `room` bytes in all.
+pub fn put_padded(s: &mut [u8], at: usize, room: usize, p: &[u8])
+    requires { ⌜ (length (now p) ≤ room) × (at + room ≤ length (now s)) ⌝ }
+    ensures { λ _. ⌜ now (s .exit) ≡ patch (now (s .entry)) at (pad room (now (p .entry))) ⌝ }
+{
+    put(s, at, p);
+    clear(s, at + p.len(), at + room);
 }

@@ -1,14 +1,15 @@
 //! Damaged stores: a page that is not as it was written, for the checks, listings and inserts that meet it.
 
 use std::collections::BTreeSet;
+use std::rc::Rc;
 
-use harness::{capacity, compare, readable_damage, Answer, Datom, Node, Oracle, Plan, Verdict, Which, NONE};
+use harness::{capacity, readable_damage, spoiled, Answer, Datom, Heap, Node, Oracle, Plan, Verdict, Which, NONE};
 
 use super::breaking::{misplaced, Broken};
 use super::reading::Reading;
 use super::{ask, node, path, History, MOST};
 use crate::library::{bytes_of, Entry};
-use crate::model::Model;
+use crate::model::{batch_fault, Model};
 use crate::names::{Damaged, Fault};
 use crate::reader::Difference;
 
@@ -78,7 +79,9 @@ impl History<'_> {
             return Err(format!("the check finds {:?}, and the Rust {:?}", found, by_rust));
         }
         self.tally.damaged_readable += 1;
-        self.read_damaged(at)
+        self.read_damaged(at)?;
+        self.repair();
+        Ok(())
     }
 
     /// A page below the root whose first or last datom is equal to its bound, with a child below it that is outside its own bounds.
@@ -102,7 +105,7 @@ impl History<'_> {
         }
         let mut new = self.patched.page(page)?.to_vec();
         node.encode_over(&mut new);
-        if node.is_readable(page) { Some((page, new)) } else { None }
+        if node.is_readable(page, self.patched.heap()) { Some((page, new)) } else { None }
     }
 
     /// A page that breaks one of the rules of a readable one.
@@ -117,11 +120,61 @@ impl History<'_> {
         if self.reader().check(root)?.is_none() {
             return Err(format!("page {} cannot be read, and the tree is called sound", page));
         }
-        self.read_damaged(at)
+        self.read_damaged(at)?;
+        self.repair();
+        Ok(())
     }
 
-    /// Listings, made-up cursors, batches that are asked for and lookups of inserts over the damaged page, by the rules; then it is
-    /// repaired.
+    /// A constant that a tree holds is not as it was laid: a page that names it cannot be read, or is out of order, or nothing is amiss;
+    /// bounds and batches with it may be refused. All by the rules.
+    pub(super) fn spoiled_constant(&mut self) -> Result<(), Difference> {
+        let at = self.some_tree();
+        let held: Vec<usize> = (0..self.trees[at].held.len()).filter(|&i| self.trees[at].held[i] && self.supply.is_long(i)).collect();
+        if held.is_empty() {
+            return Ok(());
+        }
+        let word = self.supply.datoms(&[self.random.pick(&held)])[0][2];
+        let sound = Rc::clone(self.patched.heap());
+        let heap = spoiled(&sound, word, &mut self.random);
+        self.tally.spoiled += 1;
+        self.set_heap(heap, Some(&sound));
+        self.read_spoiled(at)?;
+        self.set_heap(Heap::clone(&sound), None);
+        Ok(())
+    }
+
+    /// The heap is said to be shorter than it is, so that what lies behind is none of it; or longer, by noise.
+    pub(super) fn other_heap_length(&mut self) -> Result<(), Difference> {
+        let at = self.some_tree();
+        let sound = Rc::clone(self.patched.heap());
+        let length = self.heap.count as usize;
+        self.heap.make_room(64, &mut self.random);
+        let other = self.random.pick(&[length.saturating_sub(8), length.saturating_sub(16), length / 16 * 8, 0, length + 8, length + 32]);
+        let heap = Heap::of_bytes(&self.heap.shown(64)[..other]);
+        self.tally.other_lengths += 1;
+        self.set_heap(heap, None);
+        self.read_spoiled(at)?;
+        self.set_heap(Heap::clone(&sound), None);
+        Ok(())
+    }
+
+    /// The heap of the rules and of the library is this one. Where it is one that was changed, which one that is: for the report.
+    fn set_heap(&mut self, heap: Heap, sound: Option<&Heap>) {
+        self.heap.count = heap.bytes().len() as u64;
+        self.heap.poke(0, heap.bytes());
+        self.spoiled = sound.map(|sound| commands_to_spoil(sound, &heap));
+        self.patched.set_heap(&Rc::new(heap));
+    }
+
+    fn read_spoiled(&mut self, at: usize) -> Result<(), Difference> {
+        let root = self.trees[at].root;
+        self.reading = Some(Reading::Check(root));
+        self.reader().check(root)?;
+        self.read_damaged(at)?;
+        self.compare_whole()
+    }
+
+    /// Listings, made-up cursors, batches that are asked for and lookups of inserts over what is damaged, by the rules.
     fn read_damaged(&mut self, at: usize) -> Result<(), Difference> {
         let root = self.trees[at].root;
         for _ in 0..3 {
@@ -135,9 +188,7 @@ impl History<'_> {
             // Any answer of the rules will do.
             let _ = self.ask_for(root, &batch)?;
         }
-        self.look_up_damaged(at)?;
-        self.repair();
-        Ok(())
+        self.look_up_damaged(at)
     }
 
     /// A batch whose lookups do not come to their end: 6 and 7 in whichever order they are met.
@@ -146,6 +197,9 @@ impl History<'_> {
         let Some(datoms) = self.some_batch(at) else {
             return Ok(());
         };
+        if let Some((number, index)) = batch_fault(self.patched.heap(), &datoms) {
+            return self.refuse(entry, &datoms, number, index);
+        }
         match (Model { pages: &self.patched }).first_met(self.trees[at].root, &datoms) {
             Err(damaged) => self.refuse_damaged(entry, &datoms, damaged),
             Ok(Some(index)) => self.refuse(entry, &datoms, 6, index),
@@ -162,7 +216,7 @@ impl History<'_> {
         };
         let path = path(&self.patched, root, &datoms[0]);
         let page = self.random.pick(&path);
-        let damaged = self.close_page(page, page != root);
+        let damaged = self.close_page(page, page != root)?;
         self.refuse_damaged(Entry::Insert(root), &datoms, damaged)?;
         self.compare_whole()?;
         self.repair();
@@ -178,7 +232,7 @@ impl History<'_> {
     /// Damages a page so that it cannot be read.
     fn break_page(&mut self, page: u64) {
         let old = self.patched.page(page).expect("a page in use").to_vec();
-        let broken = Broken::of(&old, page, &mut self.random);
+        let broken = Broken::of(&old, page, self.patched.heap(), &mut self.random);
         self.tally.damaged_unreadable += 1;
         self.tally.broken_twice += (broken.rules > 1) as u64;
         self.tally.broken_elsewhere += broken.is_elsewhere as u64;
@@ -186,15 +240,16 @@ impl History<'_> {
     }
 
     /// Damages a page so that it cannot be read, or has another level where one is asked for; and what that is called.
-    fn close_page(&mut self, page: u64, is_level_asked: bool) -> Damaged {
+    fn close_page(&mut self, page: u64, is_level_asked: bool) -> Result<Damaged, Difference> {
         let old = self.patched.page(page).expect("a page in use").to_vec();
         let level = node(&self.patched, page).level as usize;
         let is_misplaced = is_level_asked && self.random.one_in(5);
-        match misplaced(&old, page, &mut self.random).filter(|_| is_misplaced) {
+        match misplaced(&old, page, self.patched.heap(), &mut self.random).filter(|_| is_misplaced) {
             Some(new) => self.damage(page, new),
             None => self.break_page(page),
         }
-        Model { pages: &self.patched }.node_of_level(page, level).expect_err("a page that is damaged")
+        let opened = Model { pages: &self.patched }.node_of_level(page, level);
+        opened.err().ok_or_else(|| format!("page {} is damaged, and can be opened by the rules", page))
     }
 
     /// A page that cannot be read or has a wrong level, beside the paths of a batch: the insert is refused when it comes there, and has written what the
@@ -214,7 +269,7 @@ impl History<'_> {
             let written = self.patched.bytes_from(before).to_vec();
             self.patched.truncate(before);
             if outcome.is_err() {
-                let damaged = self.close_page(page, true);
+                let damaged = self.close_page(page, true)?;
                 self.tally.lost_while_writing += 1;
                 return self.refuse_after(Entry::Insert(root), &datoms, damaged, &written);
             }
@@ -284,8 +339,9 @@ impl History<'_> {
         if child.datoms.len() == capacity {
             return None;
         }
-        let at = child.datoms.iter().take_while(|held| compare(held, &datom).is_lt()).count();
-        child.datoms.insert(at, datom);
+        let at = child.datoms.iter().take_while(|held| self.patched.heap().compare(held, &datom).is_lt()).count();
+        // The same datom, by another word where there is one.
+        child.datoms.insert(at, self.supply.twin(&datom).unwrap_or(datom));
         child.children.insert(at, NONE);
         let mut new = self.patched.page(page).expect("a page in use").to_vec();
         child.encode_over(&mut new);
@@ -311,4 +367,10 @@ impl History<'_> {
         let batch = self.supply.batch(&self.trees[at].held, plan, size, &mut self.random);
         if batch.is_empty() { None } else { Some(self.supply.datoms(&batch)) }
     }
+}
+
+/// As commands of the oracle's driver.
+fn commands_to_spoil(sound: &Heap, heap: &Heap) -> String {
+    let changed = sound.bytes().iter().zip(heap.bytes()).enumerate().filter(|(_, (old, new))| old != new);
+    changed.map(|(at, (_, new))| format!("spoil {} {}\n", at, new)).collect()
 }

@@ -1,6 +1,6 @@
 //! Listings and checks at the roots of a history, and steps from made-up cursors.
 
-use harness::{compare, Datom, Held, Oracle, Plan, Random, Verdict, Which, MAX_VALUE, NONE};
+use harness::{Datom, Held, Oracle, Plan, Random, Verdict, Which, MAX_VALUE, NONE};
 
 use super::{History, MOST};
 use crate::library::Lent;
@@ -42,24 +42,27 @@ impl History<'_> {
         if self.trees.is_empty() {
             return Ok(());
         }
-        match self.random.below(16) {
+        match self.random.below(19) {
             0 | 1 => self.list_between(),
             2 => self.check_some(),
             11 | 12 => self.ask_some(),
             3 => self.fetch_some(),
             4 => self.made_up_cursors(),
-            5 => self.wrong_readings(),
+            5 | 15 => self.wrong_readings(),
             6 | 7 => self.readable_damage(),
             8 | 13 => self.unreadable_damage(),
             9 | 14 => self.lost_while_writing(),
             10 => self.equal_while_writing(),
+            16 | 17 => self.spoiled_constant(),
+            18 => self.other_heap_length(),
             _ => Ok(()),
         }
     }
 
     pub(super) fn reader(&mut self) -> Reader<'_> {
-        let rest = self.random.below(32);
-        Reader { store: self.store.shown(rest), pages: &self.patched, random: &mut self.random, tally: self.tally }
+        let (rest, behind) = (self.random.below(32), self.random.below(32));
+        let (store, heap) = (self.store.shown(rest), self.heap.shown(behind));
+        Reader { store, heap, pages: &self.patched, random: &mut self.random, tally: self.tally }
     }
 
     /// The datoms between two bounds at a newer or older root: what the steps hand out, what the Rust lists and what was put in.
@@ -72,7 +75,7 @@ impl History<'_> {
         }
         self.reading = Some(Reading::List(root, lower, upper));
         let put_in = self.supply.listing(&self.trees[at].held, &lower, &upper);
-        if compare(&lower, &upper).is_le() {
+        if self.patched.heap().compare(&lower, &upper).is_le() {
             self.list_by_rust(root, &lower, &upper, &put_in)?;
         }
         let listed = self.reader().list(root, &lower, &upper, usize::MAX)?;
@@ -112,7 +115,7 @@ impl History<'_> {
             window[place] = true;
         }
         let (one, other) = (self.supply.bound(&window, &mut self.random), self.supply.bound(&window, &mut self.random));
-        if compare(&one, &other).is_gt() && !self.random.one_in(8) { (other, one) } else { (one, other) }
+        if self.patched.heap().compare(&one, &other).is_gt() && !self.random.one_in(8) { (other, one) } else { (one, other) }
     }
 
     /// A tree that these calls built is sound, by the Rust too.
@@ -142,14 +145,15 @@ impl History<'_> {
         };
         let put_in = Ok(batch.iter().position(|&i| !held[i]).map(|first| first as u64));
         let told = self.ask_for(root, &batch)?;
-        if told != put_in {
+        if told != Some(put_in) {
             return Err(format!("a batch that is asked for is answered {:?}, and by what was put in it is {:?}", told, put_in));
         }
         Ok(())
     }
 
-    pub(super) fn ask_for(&mut self, root: u64, batch: &[usize]) -> Result<Looked, Difference> {
-        let datoms = self.supply.datoms(batch);
+    /// Some of the datoms by words of equal content.
+    pub(super) fn ask_for(&mut self, root: u64, batch: &[usize]) -> Result<Option<Looked>, Difference> {
+        let datoms = self.by_other_words(batch);
         self.reading = Some(Reading::Held(root, datoms.clone()));
         self.reader().held(root, &datoms)
     }
@@ -296,7 +300,8 @@ impl History<'_> {
             let above = datoms(cursor.begin.pages[upper]);
             for lower in 0..upper {
                 let below = datoms(cursor.begin.pages[lower]);
-                let shared = above.iter().enumerate().find_map(|(i, datom)| Some((i, below.iter().position(|held| held == datom)?)));
+                let is_equal = |held: &Datom, datom: &Datom| self.patched.heap().compare(held, datom).is_eq();
+                let shared = above.iter().enumerate().find_map(|(i, datom)| Some((i, below.iter().position(|held| is_equal(held, datom))?)));
                 if let Some((i, j)) = shared {
                     cursor.begin.indices[upper] = i as u64;
                     cursor.begin.indices[lower] = j as u64;

@@ -1,11 +1,11 @@
 //! Calls that read with wrong sizes, counts, areas, bounds, batches and roots, several at a time: the first number in document 01's order.
 
-use harness::{capacity, compare, is_bound, is_storable, Answer, Random, MAX_VALUE, NONE};
+use harness::{bad_constant, capacity, Answer, Heap, Random, MALFORMED, MAX_VALUE, NONE};
 
 use super::reading::Reading;
 use super::{History, MOST};
-use crate::library::{bytes_of, datoms_of, Asked, Lent};
-use crate::model::{Cursor, CURSOR_BYTES};
+use crate::library::{bytes_of, datoms_of, Asked, Beside, Lent, RECORD_BYTES};
+use crate::model::{batch_fault, Cursor, CURSOR_BYTES};
 use crate::reader::{same, Difference};
 
 /// What the calls are given. Each number is 0 where a call has nothing to refuse here.
@@ -19,14 +19,28 @@ struct Wrong<'a> {
 }
 
 impl Wrong<'_> {
-    /// "page size unknown, count times size exceeds the slice"; an answer area that is not 32 bytes long "is 1 before all else".
+    /// "page size unknown, count times size exceeds the slice"; an answer area that is not 32 bytes long "is 1 before all else", and so is
+    /// a record of another length. This is all that a fetch looks at.
+    fn is_bad_extent(&self) -> bool {
+        let Beside { page_size, page_count, record, .. } = self.asked.beside;
+        let is_too_long = page_count as u128 * page_size as u128 > self.asked.store.len() as u128;
+        capacity(page_size as usize).is_none() || is_too_long || self.asked.area != 32 || record != RECORD_BYTES
+    }
+
+    /// "1 also when the heap length passes its slice or is no multiple of 8."
     fn is_bad_store(&self) -> bool {
-        let (count, size) = (self.asked.page_count as u128, self.asked.page_size as u128);
-        capacity(self.asked.page_size as usize).is_none() || count * size > self.asked.store.len() as u128 || self.asked.area != 32
+        let Beside { heap, heap_length, .. } = self.asked.beside;
+        self.is_bad_extent() || heap_length > heap.len() as u64 || heap_length % 8 != 0
+    }
+
+    /// What the bounds and the batch name constants of.
+    fn heap(&self) -> Heap {
+        let Beside { heap, heap_length, .. } = self.asked.beside;
+        Heap::of_bytes(&heap[..heap.len().min(heap_length as usize)])
     }
 
     fn is_bad_root(&self) -> bool {
-        self.root != NONE && self.root >= self.asked.page_count
+        self.root != NONE && self.root >= self.asked.beside.page_count
     }
 
     fn number_of_check(&self) -> u64 {
@@ -34,11 +48,12 @@ impl Wrong<'_> {
     }
 
     fn number_of_fetch(&self) -> u64 {
-        if self.is_bad_store() { 1 } else if self.root >= self.asked.page_count { 5 } else { 0 }
+        if self.is_bad_extent() { 1 } else if self.root >= self.asked.beside.page_count { 5 } else { 0 }
     }
 
     fn number_of_start(&self) -> u64 {
-        let is_bad = |bound: &Vec<u8>| bound.len() != 32 || !datoms_of(bound).iter().all(is_bound);
+        let heap = self.heap();
+        let is_bad = |bound: &Vec<u8>| bound.len() != 32 || !datoms_of(bound).iter().all(|bound| heap.is_bound(bound));
         if self.is_bad_store() || self.cursor.len() != CURSOR_BYTES {
             1
         } else if self.bounds.iter().any(is_bad) {
@@ -48,19 +63,15 @@ impl Wrong<'_> {
         }
     }
 
-    /// "after 1, 2, 3, 4 and 5", with the index of 3 and 4.
+    /// "after 1, 2, 3, 4 and 5", with 11 behind 3, and with the index of 3, 11 and 4.
     fn number_of_held(&self) -> (u64, u64) {
         let datoms = datoms_of(&self.batch);
-        let malformed = datoms.iter().position(|datom| !is_storable(datom));
-        let unordered = datoms.windows(2).position(|pair| compare(&pair[0], &pair[1]).is_ge());
         if self.is_bad_store() {
             (1, 0)
         } else if self.batch.len() % 32 != 0 || datoms.len() > MOST {
             (2, 0)
-        } else if let Some(i) = malformed {
-            (3, i as u64)
-        } else if let Some(i) = unordered {
-            (4, i as u64 + 1)
+        } else if let Some(refused) = batch_fault(&self.heap(), &datoms) {
+            refused
         } else {
             (self.number_of_check(), 0)
         }
@@ -76,21 +87,15 @@ impl Wrong<'_> {
         Answer { root, ..Answer::told(number, 0) }
     }
 
-    /// Makes the calls that are to be refused, and says how many there were.
+    /// Makes the calls that are to be refused, and those that leave no area behind in any case; and says which numbers there were.
     fn compare(&self, random: &mut Random) -> Result<[u64; 5], Difference> {
         let (held, index) = self.number_of_held();
         let numbers = [self.number_of_check(), self.number_of_fetch(), self.number_of_start(), self.number_of_step(), held];
         let [check, fetch, start, step, _] = numbers;
-        if held != 0 {
-            let refused = Answer { detail: index, ..self.refused(held, self.root) };
-            same("the answer to a batch that is asked for", &self.asked.held(self.root, &self.batch, random)?, &refused)?;
-        }
-        if check != 0 {
-            same("the check's answer", &self.asked.check(self.root, random)?, &self.refused(check, self.root))?;
-        }
-        if fetch != 0 {
-            same("the fetch's answer", &self.asked.fetch(self.root, random)?, &self.refused(fetch, 0))?;
-        }
+        let refused = Answer { detail: index, ..self.refused(held, self.root) };
+        refused_or_not("the answer to a batch that is asked for", &self.asked.held(self.root, &self.batch, random)?, &refused)?;
+        refused_or_not("the check's answer", &self.asked.check(self.root, random)?, &self.refused(check, self.root))?;
+        refused_or_not("the fetch's answer", &self.asked.fetch(self.root, random)?, &self.refused(fetch, 0))?;
         let mut cursor = Lent::new(&self.cursor, random);
         if start != 0 {
             let answer = self.asked.list_start(self.root, &self.bounds[0], &self.bounds[1], &mut cursor, random)?;
@@ -107,6 +112,15 @@ impl Wrong<'_> {
     }
 }
 
+/// The answer is this refusal; where that has the number 0 it is any but one of those that are told before a page is read.
+fn refused_or_not(name: &str, answer: &Answer, refused: &Answer) -> Result<(), Difference> {
+    match refused.number {
+        0 if [1, 2, 3, 4, 5, 11].contains(&answer.number) => Err(format!("{} is {:?}, and must be no refusal", name, answer)),
+        0 => Ok(()),
+        _ => same(name, answer, refused),
+    }
+}
+
 impl History<'_> {
     pub(super) fn wrong_readings(&mut self) -> Result<(), Difference> {
         let at = self.some_tree();
@@ -115,37 +129,43 @@ impl History<'_> {
         let batch = bytes_of(&self.supply.datoms(&batch));
         let (root, count, size) = (self.trees[at].root, self.patched.count(), self.shape.page_size as u64);
         let random = &mut self.random;
-        let store = self.store.shown(random.below(32));
+        let (store, heap) = (self.store.shown(random.below(32)), self.heap.shown(random.below(32)));
+        let (heap_length, constants) = (self.heap.count, self.patched.heap());
+        let beside = Beside { heap, page_size: size, page_count: count, heap_length, record: RECORD_BYTES };
         let mut wrong = Wrong {
-            asked: Asked { store, page_size: size, page_count: count, area: 32 },
+            asked: Asked { store, beside, area: 32 },
             root,
             bounds: [bytes_of(&[lower]), bytes_of(&[upper])],
             batch,
             cursor: Cursor { height: random.word(), ..Cursor::default() }.bytes(),
             datom: 32,
         };
-        for _ in 0..1 + random.below(3) {
+        for _ in 0..1 + random.below(5) {
             let side = random.below(2);
-            match random.below(10) {
-                0 => wrong.asked.page_size = random.pick(&[0, 1, size - 1, size + 1, 512, 1 << 32, u64::MAX]),
-                1 => wrong.asked.page_count = random.pick(&[store.len() as u64 / size + 1, 1 << 56, 1 << 63, u64::MAX]),
+            match random.below(12) {
+                0 => wrong.asked.beside.page_size = random.pick(&[0, 1, size - 1, size + 1, 512, 1 << 32, u64::MAX]),
+                1 => wrong.asked.beside.page_count = random.pick(&[store.len() as u64 / size + 1, 1 << 56, 1 << 63, u64::MAX]),
                 2 => wrong.asked.area = random.pick(&[0, 1, 31, 33, 40]),
                 3 => wrong.cursor.resize(random.pick(&[0, 1, 8, 263, 265, 272]), 7),
                 4 => wrong.datom = random.pick(&[0, 1, 31, 33, 64]),
                 5 => wrong.bounds[side].resize(random.pick(&[0, 1, 31, 33, 64]), 7),
                 6 => {
-                    let malformed = [1 << 62, 3 << 62, 0x8100_0000_0000_6161, 0x8800_0000_0000_0000, MAX_VALUE - 1];
-                    wrong.bounds[side] = bytes_of(&[[lower[0], lower[1], random.pick(&malformed), lower[3]]]);
+                    let value = if random.one_in(2) { bad_constant(constants, random) } else { random.pick(&MALFORMED) };
+                    wrong.bounds[side] = bytes_of(&[[lower[0], lower[1], value, lower[3]]]);
                 }
-                7 => spoil(&mut wrong.batch, random),
+                7 => spoil(&mut wrong.batch, constants, random),
                 8 => wrong.batch.resize(random.pick(&[1, 31, 33, 32 * MOST + 32, 32 * MOST + 1]), 7),
+                9 => wrong.asked.beside.heap_length = some_heap_length(heap_length, heap.len() as u64, random),
+                10 => wrong.asked.beside.record = random.pick(&[0, 8, 16, 23, 25, 32]),
                 _ => wrong.root = random.pick(&[count, count + 1, NONE - 1]),
             }
         }
+        let Beside { page_size, page_count, heap_length, record, .. } = wrong.asked.beside;
         self.reading = Some(Reading::Other(format!(
-            "check, fetch, start, step and held with page size {}, count {}, root {}, bounds {:?}, batch {:?}, areas of {}, {} and {} bytes",
-            wrong.asked.page_size, wrong.asked.page_count, wrong.root, wrong.bounds, wrong.batch, wrong.cursor.len(), wrong.datom,
-            wrong.asked.area,
+            "check, fetch, start, step and held with page size {}, count {}, heap length {} of {}, root {}, bounds {:?}, batch {:?}, \
+             areas of {}, {} and {} bytes and a record of {}",
+            page_size, page_count, heap_length, heap.len(), wrong.root, wrong.bounds, wrong.batch, wrong.cursor.len(), wrong.datom,
+            wrong.asked.area, record,
         )));
         for number in wrong.compare(random)? {
             self.tally.answers[number as usize] += (number != 0) as u64;
@@ -154,17 +174,29 @@ impl History<'_> {
     }
 }
 
-/// A datom of the batch gets a malformed value, or one is equal to an earlier one.
-fn spoil(batch: &mut [u8], random: &mut Random) {
+/// A heap length that is no multiple of 8, passes the slice, or leaves constants out.
+pub fn some_heap_length(length: u64, slice: u64, random: &mut Random) -> u64 {
+    let past = slice.next_multiple_of(8);
+    random.pick(&[
+        length + 1, length + 4, length.wrapping_sub(1), past + 8, past + 1, 1 << 62, 1 << 63, u64::MAX, u64::MAX - 7,
+        length.saturating_sub(8), length.saturating_sub(16), 0,
+    ])
+}
+
+/// A datom of the batch gets a malformed value or a constant that is not valid, or one is equal to an earlier one.
+fn spoil(batch: &mut [u8], heap: &Heap, random: &mut Random) {
     let count = batch.len() / 32;
     if count < 2 {
         return;
     }
     let later = 1 + random.below(count - 1);
-    if random.one_in(2) {
-        batch[32 * later + 16..32 * later + 24].copy_from_slice(&MAX_VALUE.to_le_bytes());
-    } else {
-        let earlier = 32 * random.below(later);
-        batch.copy_within(earlier..earlier + 32, 32 * later);
+    let mut put = |value: u64| batch[32 * later + 16..32 * later + 24].copy_from_slice(&value.to_le_bytes());
+    match random.below(3) {
+        0 => put(MAX_VALUE),
+        1 => put(bad_constant(heap, random)),
+        _ => {
+            let earlier = 32 * random.below(later);
+            batch.copy_within(earlier..earlier + 32, 32 * later);
+        }
     }
 }

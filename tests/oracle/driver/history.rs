@@ -1,13 +1,16 @@
 //! One history being recorded: a store, the trees in it, and what both oracles answer.
 
+use std::rc::Rc;
+
 use harness::{
-    compare, readable_damage, Datom, Held, Kind, Oracle, Order, Pages, Panic, Plan, Random, Supply, Verdict, Which, NONE,
+    readable_damage, Datom, Held, Kind, Oracle, Order, Pages, Panic, Plan, Random, Supply, Verdict, Which, NONE,
 };
 
-use crate::recording::{datom_bytes, digest, Carried, Record, Who, Written, LONGEST_RECORD};
+use crate::recording::{datom_bytes, digest, heap_records, Carried, Record, Who, Written, LONGEST_RECORD};
 
 /// A reader may keep a history's store in memory.
 const LARGEST_STORE: usize = 1 << 20;
+pub const LARGEST_HEAP: usize = 1 << 15;
 
 /// Longer listings are recorded by their digest.
 const LISTED_RAW: usize = 40;
@@ -17,6 +20,9 @@ const BESIDE_PAGES: usize = 8192;
 
 /// Among how many batches one is sought on which both oracles agree.
 const CANDIDATES: usize = 60;
+
+/// One in so many constants of a batch is laid anew before it, so that the heap grows with the trees.
+const LAID_ANEW: usize = 4;
 
 const PATCHED: Oracle = Oracle { which: Which::Patched, order: Order::Eavt };
 const PLAIN: Oracle = Oracle { which: Which::Plain, order: Order::Eavt };
@@ -58,6 +64,8 @@ struct History {
     patched: Pages,
     /// The plain oracle's store, as long as it has the same pages.
     plain: Option<Pages>,
+    /// How many constants of the supply are on the heap.
+    laid: usize,
     trees: Vec<Tree>,
     is_damaged: bool,
     records: Vec<Record>,
@@ -72,10 +80,12 @@ pub fn record_history(number: u64, seed: u64, shape: Shape) -> Vec<Record> {
         random,
         patched: Pages::new(shape.page_size),
         plain: Some(Pages::new(shape.page_size)),
+        laid: 0,
         trees: Vec::new(),
         is_damaged: false,
         records: Vec::new(),
     };
+    history.lay();
     history.initialise(shape.first);
     history.look();
     for _ in 0..shape.inserts {
@@ -93,6 +103,31 @@ pub fn record_history(number: u64, seed: u64, shape: Shape) -> Vec<Record> {
 }
 
 impl History {
+    /// The heap of both stores is that of the supply from here on. The Rust's own must come to the same bytes by the same words.
+    fn lay(&mut self) {
+        let (old, new) = (Rc::clone(self.patched.heap()), Rc::clone(self.supply.heap()));
+        let constants = &self.supply.constants()[self.laid..];
+        for oracle in [PLAIN, PATCHED] {
+            let appended = oracle.append(&old, constants).expect("the Rust takes any constant");
+            assert!(appended.is_in(&new, constants), "the Rust lays and names constants alike");
+        }
+        self.laid += constants.len();
+        self.records.extend(heap_records(old.bytes(), new.bytes()));
+        self.patched.set_heap(&new);
+        self.plain.iter_mut().for_each(|plain| plain.set_heap(&new));
+    }
+
+    /// Some constants of a batch go to the end of the heap before it, if no tree holds their datoms.
+    fn lay_anew(&mut self, batch: &[usize]) {
+        for &i in batch {
+            let is_free = self.supply.is_long(i) && self.trees.iter().all(|tree| !tree.held[i]);
+            if is_free && self.random.one_in(LAID_ANEW) {
+                self.supply.lay_anew(i);
+            }
+        }
+        self.lay();
+    }
+
     /// Starts a tree, in a store that may hold others already.
     fn initialise(&mut self, size: usize) {
         let mut held = self.supply.nothing_held();
@@ -116,6 +151,9 @@ impl History {
         (0..candidates).any(|_| {
             let size = self.random.pick(self.shape.sizes);
             let batch = self.supply.batch(&self.trees[at].held, self.shape.plan, size, &mut self.random);
+            if !self.shape.agreeing {
+                self.lay_anew(&batch);
+            }
             self.insert(at, &batch)
         })
     }
@@ -179,7 +217,7 @@ impl History {
         let tree = &self.trees[at];
         let one = self.supply.bound(&tree.held, &mut self.random);
         let other = self.supply.bound(&tree.held, &mut self.random);
-        let (lower, upper) = if compare(&one, &other).is_le() { (one, other) } else { (other, one) };
+        let (lower, upper) = if self.supply.heap().compare(&one, &other).is_le() { (one, other) } else { (other, one) };
         let listed = listing(PATCHED, &self.patched, tree.root, &lower, &upper);
         assert_eq!(listed, self.supply.listing(&tree.held, &lower, &upper), "a tree lists what was put in");
         if let Some(plain) = &self.plain {
@@ -234,7 +272,9 @@ impl History {
 
     fn finish(self, number: u64) -> Vec<Record> {
         let (page_size, room) = (self.shape.page_size as u64, self.patched.count());
-        let mut records = vec![Record::Begin { page_size, room, history: number }];
+        let heap_room = self.patched.heap().bytes().len();
+        assert!(heap_room <= LARGEST_HEAP, "a heap of {} bytes is too long", heap_room);
+        let mut records = vec![Record::Begin { page_size, room, history: number, heap_room: heap_room as u64 }];
         records.extend(self.records);
         records.push(Record::End { count: room, digest: digest(self.patched.bytes()) });
         records

@@ -2,7 +2,7 @@
 
 use harness::{Answer, Datom, Node, Oracle, Order, Pages, Verdict, Which, NONE};
 
-use crate::model::{Cursor, Looked, Model, Step, CURSOR_BYTES};
+use crate::model::{batch_fault, Cursor, Looked, Model, Step, CURSOR_BYTES};
 use crate::names::{Damaged, Fault, Naming};
 use crate::recording::Question;
 
@@ -13,6 +13,7 @@ const PATCHED: Oracle = Oracle { which: Which::Patched, order: Order::Rule };
 
 const REPEATED: u64 = 6;
 const DAMAGED: u64 = 7;
+const BAD_BOUND: u64 = 10;
 const NOT_HELD: u64 = 16;
 const ENDED: u64 = 32;
 const UNSOUND: u64 = 33;
@@ -48,6 +49,9 @@ impl Question {
 /// The judge's answer; an error for what it has no answer to, as for an insert that would be Done.
 pub fn judge(pages: &Pages, root: u64, question: &Question) -> Result<Judged, String> {
     let model = Model { pages };
+    if let Some(judged) = given_wrong(pages, root, question) {
+        return Ok(judged);
+    }
     match question {
         Question::Check => check(pages, root),
         Question::Start { lower, upper } => Ok(match model.start(root, lower, upper) {
@@ -68,6 +72,19 @@ pub fn judge(pages: &Pages, root: u64, question: &Question) -> Result<Judged, St
             Some(judged) => Ok(judged),
             None => equal_met(pages, root, batch),
         },
+    }
+}
+
+/// What is wrong with bounds or batch by themselves, constants of a heap that is not as it was.
+fn given_wrong(pages: &Pages, root: u64, question: &Question) -> Option<Judged> {
+    match question {
+        Question::Start { lower, upper } if ![lower, upper].into_iter().all(|bound| pages.heap().is_bound(bound)) => {
+            Some(Judged::quiet(BAD_BOUND, root, 0))
+        }
+        Question::Held { batch } | Question::InsertNamed { batch } => {
+            batch_fault(pages.heap(), batch).map(|(number, index)| Judged::quiet(number, root, index))
+        }
+        Question::Check | Question::Start { .. } | Question::Step { .. } => None,
     }
 }
 
@@ -113,5 +130,5 @@ fn check(pages: &Pages, root: u64) -> Result<Judged, String> {
 }
 
 pub fn is_readable(pages: &Pages, page: u64) -> bool {
-    pages.page(page).is_some_and(|bytes| Node::read(bytes, page).is_ok())
+    pages.page(page).is_some_and(|bytes| Node::read(bytes, page, pages.heap()).is_ok())
 }

@@ -1,13 +1,15 @@
 //! Histories that show the names of faults: a small tree that the patched oracle builds, its pages damaged one at a time, and what the
 //! calls that name a fault then answer, by the judge.
 
-use harness::{compare, Datom, Held, Kind, Node, Oracle, Order, Pages, Plan, Random, Rule, Supply, Which, MAX_VALUE, NONE};
+use std::rc::Rc;
+
+use harness::{bad_constant, spoiled, Datom, Heap, Held, Kind, Node, Oracle, Order, Pages, Plan, Random, Rule, Supply, Which, Word, MAX_VALUE, NONE};
 
 use crate::harm::{doubled, out_of_bounds, read, real_children, Harm, Harmed, PAIRS};
 use crate::judge::judge;
 use crate::model::{Cursor, Model, Step};
 use crate::names::{Fault, Names};
-use crate::recording::{digest, Carried, Question, Record, Who, Written};
+use crate::recording::{digest, heap_records, Carried, Question, Record, Who, Written};
 
 const PATCHED: Oracle = Oracle { which: Which::Patched, order: Order::Eavt };
 
@@ -19,6 +21,12 @@ const BESIDE_EVERY: usize = 4;
 
 /// How often damage is sought that a step meets as an equal datom.
 const DOUBLINGS: usize = 20;
+
+/// How many bounds have a constant that is not valid.
+const BAD_BOUNDS: usize = 24;
+
+/// How many constants are spoiled.
+const SPOILED: usize = 12;
 
 const LOWEST: Datom = [0; 4];
 const HIGHEST: Datom = [u64::MAX, u64::MAX, MAX_VALUE, u64::MAX];
@@ -54,8 +62,14 @@ pub fn record_names(number: u64, seed: u64, planted: Planted, names: &mut Names)
     scene.ask_all(1);
     scene.ask_at_none();
     scene.ask_made_up();
+    if planted.kind.is_long() {
+        scene.ask_constants();
+    }
     for (page, bytes) in scene.harms(planted.height) {
         scene.harmed(page, bytes);
+    }
+    if planted.kind.is_long() {
+        scene.spoil();
     }
     scene.finish(number)
 }
@@ -85,7 +99,16 @@ pub fn record_merge(number: u64, names: &mut Names) -> Vec<Record> {
 impl<'a> Scene<'a> {
     fn new(page_size: usize, supply: Supply, random: Random, names: &'a mut Names) -> Scene<'a> {
         let (pages, held) = (Pages::new(page_size), supply.nothing_held());
-        Scene { random, supply, pages, root: NONE, held, cursors: Vec::new(), records: Vec::new(), names }
+        let heap = Rc::clone(supply.heap());
+        let mut scene = Scene { random, supply, pages, root: NONE, held, cursors: Vec::new(), records: Vec::new(), names };
+        scene.set_heap(&heap);
+        scene
+    }
+
+    /// The heap is this one from here on, which is as long or longer.
+    fn set_heap(&mut self, heap: &Rc<Heap>) {
+        self.records.extend(heap_records(self.pages.heap().bytes(), heap.bytes()));
+        self.pages.set_heap(heap);
     }
 
     fn plant(&mut self, planted: Planted) {
@@ -186,6 +209,20 @@ impl<'a> Scene<'a> {
         self.poke(page, old);
     }
 
+    /// The calls while a constant that the tree holds is not as it was laid, one after the other.
+    fn spoil(&mut self) {
+        let sound = Rc::clone(self.pages.heap());
+        let held: Vec<usize> = (0..self.held.len()).filter(|&i| self.held[i]).collect();
+        let words: Vec<u64> = self.supply.datoms(&held).iter().map(|datom| datom[2]).filter(|&word| Word::of(word).is_long()).collect();
+        for _ in 0..SPOILED {
+            let word = self.random.pick(&words);
+            let heap = Rc::new(spoiled(&sound, word, &mut self.random));
+            self.set_heap(&heap);
+            self.ask_all(BESIDE_EVERY);
+            self.set_heap(&sound);
+        }
+    }
+
     /// The page's bytes before.
     fn poke(&mut self, page: u64, bytes: Vec<u8>) -> Vec<u8> {
         let old = self.pages.page(page).expect("a page in use").to_vec();
@@ -220,7 +257,7 @@ impl<'a> Scene<'a> {
         (0..CANDIDATES).map(|_| {
             let one = self.supply.bound(&self.held, &mut self.random);
             let other = self.supply.bound(&self.held, &mut self.random);
-            let (lower, upper) = if compare(&one, &other).is_le() { (one, other) } else { (other, one) };
+            let (lower, upper) = if self.pages.heap().compare(&one, &other).is_le() { (one, other) } else { (other, one) };
             (self.root, Question::Start { lower, upper })
         }).collect()
     }
@@ -260,6 +297,29 @@ impl<'a> Scene<'a> {
         let (lower, upper) = (LOWEST, HIGHEST);
         for question in [Question::Check, Question::Start { lower, upper }, Question::Held { batch }] {
             self.ask(NONE, question).expect("an answer at root none");
+        }
+    }
+
+    /// Bounds and batches with a constant that is not valid, and with one that the tree holds at another offset.
+    fn ask_constants(&mut self) {
+        let places: Vec<usize> = (0..self.held.len()).filter(|&i| self.held[i]).collect();
+        let twins = self.supply.datoms(&places).into_iter().find_map(|datom| Some((datom, self.supply.twin(&datom)?)));
+        let (datom, twin) = twins.expect("a constant at two offsets");
+        let with = |value: u64| [datom[0], datom[1], value, datom[3]];
+        let (bad, malformed) = (with(bad_constant(self.pages.heap(), &mut self.random)), with(MAX_VALUE));
+        for (lower, upper) in [(LOWEST, twin), (datom, twin), (twin, HIGHEST)] {
+            self.ask(self.root, Question::Start { lower, upper }).expect("an answer to any bounds");
+        }
+        for _ in 0..BAD_BOUNDS {
+            let bad = with(bad_constant(self.pages.heap(), &mut self.random));
+            let (lower, upper) = if self.random.one_in(2) { (bad, HIGHEST) } else { (LOWEST, bad) };
+            self.ask(self.root, Question::Start { lower, upper }).expect("an answer to any bounds");
+        }
+        let batches =
+            [vec![bad], vec![bad, malformed], vec![datom, bad, twin, bad], vec![datom, twin], vec![twin, datom], vec![twin]];
+        for batch in batches {
+            self.ask(self.root, Question::Held { batch: batch.clone() }).expect("an answer to any batch");
+            self.ask(self.root, Question::InsertNamed { batch }).expect("an insert that is refused");
         }
     }
 
@@ -322,8 +382,9 @@ impl<'a> Scene<'a> {
 
     fn finish(self, number: u64) -> Vec<Record> {
         let (page_size, room) = (self.pages.page_size() as u64, self.pages.count());
+        let heap_room = self.pages.heap().bytes().len() as u64;
         let end = Record::End { count: room, digest: digest(self.pages.bytes()) };
-        [Record::Begin { page_size, room, history: number }].into_iter().chain(self.records).chain([end]).collect()
+        [Record::Begin { page_size, room, history: number, heap_room }].into_iter().chain(self.records).chain([end]).collect()
     }
 }
 

@@ -12,6 +12,7 @@ use crate::recording::Record;
 const SEED: u64 = 20_190_607;
 
 const KINDS: [Kind; 5] = [Kind::Counted, Kind::Integers, Kind::Strings, Kind::LastWords, Kind::Mixed];
+const LONG_KINDS: [Kind; 3] = [Kind::LongStrings, Kind::LongIntegers, Kind::LongMixed];
 const PLANS: [Plan; 4] = [Plan::Ascending, Plan::Descending, Plan::Scattered, Plan::Clustered];
 
 /// Sizes of batches around one, two and three pages' worth, and the largest.
@@ -25,7 +26,7 @@ const GROWN_8192: [(usize, usize, &[usize]); 8] =
     [(128, 1, &[75]), (128, 1, &[76]), (128, 1, &[77]), (128, 1, &[78]), (128, 1, &[79]), (128, 4, &[70]), (127, 3, &[94]), (128, 3, &[94])];
 
 /// What came later stands behind what was there, so that the bytes of before stay: first the oracles' answers, then names of faults, then
-/// both for pages of 8192 bytes.
+/// both for pages of 8192 bytes, then both with long values, on a heap.
 pub fn record(file: &str) -> Result<(), String> {
     let mut recording = Recording::default();
     recording.add_histories(shapes());
@@ -35,11 +36,17 @@ pub fn record(file: &str) -> Result<(), String> {
     let before_wide = recording.bytes.len();
     recording.add_histories(wide());
     recording.add_names(planted_wide());
+    let before_long = recording.bytes.len();
+    recording.add_histories(long());
+    recording.add_names(planted_long());
     let bytes = recording.finish()?;
     fs::write(file, &bytes).map_err(|error| format!("{}: {}", file, error))?;
-    let (named, wide) = (before_wide - by_oracles, bytes.len() - before_wide);
+    let (named, wide, long) = (before_wide - by_oracles, before_long - before_wide, bytes.len() - before_long);
     println!("{} bytes recorded with seed {} in {}", bytes.len(), SEED, file);
-    println!("{} by the oracles, then {} with names of faults, then {} of pages of 8192 bytes", by_oracles, named, wide);
+    println!(
+        "{} by the oracles, then {} with names of faults, then {} of pages of 8192 bytes, then {} with long values",
+        by_oracles, named, wide, long,
+    );
     Ok(())
 }
 
@@ -103,6 +110,17 @@ fn planted() -> Vec<Planted> {
 /// The same in pages of 8192 bytes.
 fn planted_wide() -> Vec<Planted> {
     vec![Planted { page_size: 8192, kind: Kind::Mixed, batches: &[128, 100, 3], height: 2 }]
+}
+
+/// Trees with constants of a heap, at all sizes.
+fn planted_long() -> Vec<Planted> {
+    let plant = |page_size, kind, batches, height| Planted { page_size, kind, batches, height };
+    vec![
+        plant(256, Kind::LongMixed, &[60, 3, 2], 3),
+        plant(568, Kind::LongStrings, &[128, 128, 4], 3),
+        plant(4096, Kind::LongIntegers, &[120, 3], 2),
+        plant(8192, Kind::LongMixed, &[128, 100, 3], 2),
+    ]
 }
 
 fn shapes() -> Vec<Shape> {
@@ -235,5 +253,40 @@ fn wide() -> Vec<Shape> {
     let mut shapes: Vec<Shape> = single.chain(around).chain(growing).chain(agreeing).collect();
     shapes.push(Shape { supply: 9_000, inserts: 60, sizes: &[128], branching: false, raw: false, look_every: 6, ..one(3, 128) });
     shapes.push(Shape { inserts: 3, raw: false, damages: 12, ..one_batch(8192, Kind::Integers, Plan::Scattered, 128) });
+    shapes
+}
+
+/// Long values at every page size: growth of every kind and plan, histories in which both oracles answer to the end, a high tree, and
+/// damaged ones. The supply is small, so that the heap is.
+fn long() -> Vec<Shape> {
+    let one = |page_size, kind, plan, first| Shape { supply: 500, raw: page_size < 4096, ..one_batch(page_size, kind, plan, first) };
+    let mut shapes = Vec::new();
+    for (i, &kind) in LONG_KINDS.iter().enumerate() {
+        for (j, &plan) in PLANS.iter().enumerate() {
+            shapes.push(Shape { inserts: 5, ..one(256, kind, plan, 7) });
+            shapes.push(match (i + j) % 3 {
+                0 => Shape { inserts: 4, ..one(568, kind, plan, 15) },
+                1 => Shape { inserts: 3, ..one(4096, kind, plan, 103) },
+                _ => Shape { inserts: 4, ..one(8192, kind, plan, 128) },
+            });
+        }
+    }
+    let agree = |page_size, kind, first, inserts, damages| {
+        Shape { inserts, agreeing: true, damages, ..one(page_size, kind, Plan::Scattered, first) }
+    };
+    shapes.extend([
+        agree(256, Kind::LongMixed, 11, 12, 16),
+        agree(256, Kind::LongStrings, 47, 8, 16),
+        agree(568, Kind::LongStrings, 15, 8, 12),
+        agree(4096, Kind::LongMixed, 103, 3, 4),
+    ]);
+    shapes.push(Shape { supply: 1500, inserts: 9, sizes: &[128], raw: false, ..one(256, Kind::LongMixed, Plan::Scattered, 128) });
+    let damage = |page_size, kind, first, damages| Shape { inserts: 2, damages, ..one(page_size, kind, Plan::Scattered, first) };
+    shapes.extend([
+        damage(256, Kind::LongStrings, 47, 30),
+        damage(256, Kind::LongIntegers, 35, 20),
+        damage(568, Kind::LongMixed, 29, 16),
+        damage(8192, Kind::LongMixed, 128, 4),
+    ]);
     shapes
 }

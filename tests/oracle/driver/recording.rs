@@ -5,6 +5,9 @@ use harness::{Answer, Datom};
 /// A reader may keep one record in memory, so none is longer, its length word not counted.
 pub const LONGEST_RECORD: usize = 65_536;
 
+/// How much of a heap one record carries.
+const HEAP_PART: usize = 32_768;
+
 /// Which oracles gave an answer.
 #[derive(Clone, Copy, Debug, PartialEq)]
 pub enum Who {
@@ -50,7 +53,8 @@ pub enum Question {
 
 #[derive(Clone, Debug, PartialEq)]
 pub enum Record {
-    Begin { page_size: u64, room: u64, history: u64 },
+    /// The room of the heap is in bytes, and not said where it is 0.
+    Begin { page_size: u64, room: u64, history: u64, heap_room: u64 },
     Initialise { who: Who, batch: Vec<Datom>, written: Written },
     Insert { who: Who, root: u64, batch: Vec<Datom>, written: Written },
     List { who: Who, root: u64, lower: Datom, upper: Datom, count: u64, datoms: Carried },
@@ -59,6 +63,19 @@ pub enum Record {
     Poke { page: u64, bytes: Vec<u8> },
     End { count: u64, digest: u64 },
     Named { root: u64, question: Question, answer: Answer },
+    /// Bytes of the heap from an offset on; it ends behind them if it ended before.
+    Heap { offset: u64, bytes: Vec<u8> },
+}
+
+/// What makes one heap of another that is not longer, in as many records as it takes.
+pub fn heap_records(old: &[u8], new: &[u8]) -> Vec<Record> {
+    let differs = |at: &usize| old.get(*at..*at + 8) != Some(&new[*at..*at + 8]);
+    let changed: Vec<usize> = (0..new.len()).step_by(8).filter(differs).collect();
+    let (Some(&first), Some(&last)) = (changed.first(), changed.last()) else {
+        return Vec::new();
+    };
+    let parts = new[first..last + 8].chunks(HEAP_PART).enumerate();
+    parts.map(|(i, part)| Record::Heap { offset: (first + i * HEAP_PART) as u64, bytes: part.to_vec() }).collect()
 }
 
 /// h = (h * 31 + byte) mod 4294967291, from h = 0.
@@ -74,7 +91,10 @@ impl Record {
     pub fn encode(&self) -> Vec<u8> {
         let mut body = Body::default();
         match self {
-            Record::Begin { page_size, room, history } => body.words(&[1, *page_size, *room, *history]),
+            Record::Begin { page_size, room, history, heap_room } => {
+                body.words(&[1, *page_size, *room, *history]);
+                body.words(if *heap_room > 0 { std::slice::from_ref(heap_room) } else { &[] });
+            }
             Record::Initialise { who, batch, written } => {
                 body.words(&[2, who.number()]);
                 body.batch(batch);
@@ -103,6 +123,10 @@ impl Record {
             Record::Named { root, question, answer } => {
                 body.words(&[8, question.number(), *root, answer.number, answer.root, answer.pages, answer.detail]);
                 body.question(question);
+            }
+            Record::Heap { offset, bytes } => {
+                body.words(&[9, *offset]);
+                body.bytes.extend(bytes);
             }
         }
         assert!(body.bytes.len() <= LONGEST_RECORD, "a record of {} bytes is too long", body.bytes.len());
@@ -195,7 +219,12 @@ struct Fields<'a>(&'a [u8]);
 impl<'a> Fields<'a> {
     fn record(&mut self) -> Result<Record, String> {
         Ok(match self.word()? {
-            1 => Record::Begin { page_size: self.word()?, room: self.word()?, history: self.word()? },
+            1 => Record::Begin {
+                page_size: self.word()?,
+                room: self.word()?,
+                history: self.word()?,
+                heap_room: if self.0.is_empty() { 0 } else { self.word()? },
+            },
             2 => Record::Initialise { who: self.who()?, batch: self.batch()?, written: self.written()? },
             3 => Record::Insert { who: self.who()?, root: self.word()?, batch: self.batch()?, written: self.written()? },
             4 => Record::List {
@@ -210,6 +239,7 @@ impl<'a> Fields<'a> {
             6 => Record::Poke { page: self.word()?, bytes: self.rest() },
             7 => Record::End { count: self.word()?, digest: self.word()? },
             8 => self.named()?,
+            9 => Record::Heap { offset: self.word()?, bytes: self.rest() },
             kind => return Err(format!("there is no kind {}", kind)),
         })
     }

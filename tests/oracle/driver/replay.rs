@@ -3,9 +3,11 @@
 use std::collections::{BTreeMap, BTreeSet};
 use std::fmt;
 use std::fs;
+use std::rc::Rc;
 
-use harness::{Answer, Datom, Oracle, Order, Pages, Panic, Verdict, Which, PAGE_SIZES};
+use harness::{Answer, Datom, Heap, Oracle, Order, Pages, Panic, Verdict, Which, PAGE_SIZES};
 
+use crate::history::LARGEST_HEAP;
 use crate::judge::{is_readable, judge};
 use crate::names::{Names, Naming};
 use crate::recording::{datom_bytes, digest, Question, Record, Who, Written};
@@ -40,14 +42,15 @@ struct Stores {
     /// Pages that cannot be read at present: the Rust has no such notion, and is asked nothing.
     unreadable: BTreeSet<u64>,
     room: u64,
+    heap_room: u64,
 }
 
 fn step(store: &mut Option<Stores>, summary: &mut Summary, record: &Record) -> Result<(), String> {
-    if let Record::Begin { page_size, room, .. } = record {
+    if let Record::Begin { page_size, room, heap_room, .. } = record {
         if store.is_some() {
             return Err("a history begins within another".to_string());
         }
-        *store = Some(Stores::new(*page_size, *room)?);
+        *store = Some(Stores::new(*page_size, *room, *heap_room)?);
         summary.histories += 1;
         return Ok(());
     }
@@ -91,6 +94,10 @@ fn step(store: &mut Option<Stores>, summary: &mut Summary, record: &Record) -> R
             *store = None;
         }
         Record::Named { root, question, answer } => name(stores, summary, *root, question, answer)?,
+        Record::Heap { offset, bytes } => {
+            stores.lay(*offset, bytes)?;
+            summary.laid += 1;
+        }
     }
     Ok(())
 }
@@ -117,12 +124,15 @@ fn list(oracle: Oracle, pages: &Pages, root: u64, lower: &Datom, upper: &Datom) 
 }
 
 impl Stores {
-    fn new(page_size: u64, room: u64) -> Result<Stores, String> {
+    fn new(page_size: u64, room: u64, heap_room: u64) -> Result<Stores, String> {
         let size = page_size as usize;
         if !PAGE_SIZES.contains(&size) {
             return Err(format!("there is no page size {}", page_size));
         }
-        Ok(Stores { patched: Pages::new(size), plain: Some(Pages::new(size)), unreadable: BTreeSet::new(), room })
+        if heap_room > LARGEST_HEAP as u64 {
+            return Err(format!("a heap of {} bytes is too long", heap_room));
+        }
+        Ok(Stores { patched: Pages::new(size), plain: Some(Pages::new(size)), unreadable: BTreeSet::new(), room, heap_room })
     }
 
     fn write<Call>(&mut self, who: Who, written: &Written, call: Call) -> Result<(), String>
@@ -160,6 +170,22 @@ impl Stores {
         Ok(())
     }
 
+    /// Bytes of the heap. What could be read may become what cannot, and the other way round.
+    fn lay(&mut self, offset: u64, bytes: &[u8]) -> Result<(), String> {
+        let mut heap = self.patched.heap().bytes().to_vec();
+        let end = offset.saturating_add(bytes.len() as u64);
+        if offset % 8 != 0 || offset > heap.len() as u64 || end > self.heap_room {
+            return Err(format!("{} bytes do not go to offset {} of the heap", bytes.len(), offset));
+        }
+        heap.resize(heap.len().max(end as usize), 0);
+        heap[offset as usize..end as usize].copy_from_slice(bytes);
+        let heap = Rc::new(Heap::of_bytes(&heap));
+        self.patched.set_heap(&heap);
+        self.plain.iter_mut().for_each(|plain| plain.set_heap(&heap));
+        self.unreadable = (0..self.patched.count()).filter(|&page| !is_readable(&self.patched, page)).collect();
+        Ok(())
+    }
+
     fn poke(&mut self, page: u64, bytes: &[u8]) -> Result<(), String> {
         if page >= self.patched.count() || bytes.len() != self.patched.page_size() {
             return Err(format!("{} bytes cannot replace page {}", bytes.len(), page));
@@ -191,6 +217,8 @@ struct Summary {
     all: Counts,
     by_both: Counts,
     pokes: usize,
+    /// How often the heap grew or was changed.
+    laid: usize,
     /// How many roots of each height were written, by page size.
     heights: [BTreeMap<u8, usize>; PAGE_SIZES.len()],
     names: Names,
@@ -220,10 +248,10 @@ impl fmt::Display for Summary {
         write!(
             out,
             "{} histories agree (all, of these by both oracles): initialise {}, {}; insert {}, {}; list {}, {}; \
-             sound {}, {}; unsound {}, {}; pages damaged or repaired {}; roots by height at {:?} bytes {:?}\n\
+             sound {}, {}; unsound {}, {}; pages damaged or repaired {}; parts of heaps {}; roots by height at {:?} bytes {:?}\n\
              {} faults named, by call\n{}",
             self.histories, all.initialise, both.initialise, all.insert, both.insert, all.list, both.list,
-            all.sound, both.sound, all.unsound, both.unsound, self.pokes, PAGE_SIZES, self.heights,
+            all.sound, both.sound, all.unsound, both.unsound, self.pokes, self.laid, PAGE_SIZES, self.heights,
             self.names.total(), self.names,
         )?;
         for (&(call, number), times) in &self.nameless {

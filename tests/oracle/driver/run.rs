@@ -2,8 +2,9 @@
 
 use std::fs;
 use std::io::{self, BufRead, Write};
+use std::rc::Rc;
 
-use harness::{capacity, Node, Oracle, Order, Pages, Panic, Verdict, Which, MAX_VALUE, NONE};
+use harness::{capacity, Constant, Heap, Node, Oracle, Order, Pages, Panic, Verdict, Which, MAX_VALUE, NONE};
 
 use crate::recording::digest;
 use crate::text::{
@@ -12,7 +13,8 @@ use crate::text::{
 
 const COMMANDS: &str = "oracle plain|patched, order eavt|rule, size 256|568|4096|8192, new, initialise D.., \
     insert ROOT D.., grow ROOT D.., list ROOT LO HI, lists ROOT D.., check ROOT, height ROOT, page N, node N, count, digest, \
-    poke PAGE OFFSET BYTE, save FILE, load FILE, compare D D, span CHILD.., inline NUMBER|\"BYTES\"";
+    poke PAGE OFFSET BYTE, save FILE, load FILE, compare D D, span CHILD.., inline NUMBER|\"BYTES\", append NUMBER|\"BYTES\", heap, \
+    spoil OFFSET BYTE";
 
 /// The most datoms of a batch, by document 01.
 const LARGEST_BATCH: usize = 128;
@@ -90,6 +92,9 @@ impl Session {
             ["compare", left, right] => self.compare(left, right),
             ["span", ref children @ ..] => self.span(children),
             ["inline", value] => self.inline(value),
+            ["append", value] => self.append(value),
+            ["heap"] => Ok(format!("heap {} bytes, digest {}", self.pages.heap().bytes().len(), digest(self.pages.heap().bytes()))),
+            ["spoil", offset, byte] => self.spoil(offset, byte),
             _ => Err(format!("`{}` is no command", words.join(" "))),
         }
     }
@@ -196,10 +201,8 @@ impl Session {
     }
 
     fn poke(&mut self, page: &str, offset: &str, byte: &str) -> Result<String, String> {
-        let (offset, value) = (parse_number(offset)? as usize, parse_number(byte)?);
         let mut bytes = self.page(page)?.to_vec();
-        let place = bytes.get_mut(offset).ok_or_else(|| format!("a page has no byte {}", offset))?;
-        *place = value.try_into().map_err(|_| format!("{} is no byte", value))?;
+        put_byte(&mut bytes, parse_number(offset)?, parse_number(byte)?, "a page")?;
         self.pages.replace(parse_page_id(page)?, &bytes);
         Ok("ok".to_string())
     }
@@ -220,7 +223,7 @@ impl Session {
     }
 
     fn compare(&self, left: &str, right: &str) -> Result<String, String> {
-        Ok(match self.oracle.compare(&parse_datom(left)?, &parse_datom(right)?) {
+        Ok(match self.oracle.compare(self.pages.heap(), &parse_datom(left)?, &parse_datom(right)?) {
             Ok(order) => format!("{:?}", order).to_lowercase(),
             Err(message) => refusal(&message),
         })
@@ -241,6 +244,26 @@ impl Session {
         Ok(word.map_or("no inline form".to_string(), |word| format!("{:#018x}", word)))
     }
 
+    /// Has the Rust append a constant to the heap.
+    fn append(&mut self, value: &str) -> Result<String, String> {
+        let constant = if value.starts_with('"') { Constant::Bytes(parse_bytes(value)?) } else { Constant::Integer(parse_number(value)?) };
+        Ok(match self.oracle.append(self.pages.heap(), &[constant]) {
+            Ok(appended) => {
+                let more = appended.bytes.len() - self.pages.heap().bytes().len();
+                self.pages.set_heap(&Rc::new(Heap::of_bytes(&appended.bytes)));
+                format!("{:#018x}, {} bytes appended", appended.words[0], more)
+            }
+            Err(message) => refusal(&message),
+        })
+    }
+
+    fn spoil(&mut self, offset: &str, byte: &str) -> Result<String, String> {
+        let mut bytes = self.pages.heap().bytes().to_vec();
+        put_byte(&mut bytes, parse_number(offset)?, parse_number(byte)?, "the heap")?;
+        self.pages.set_heap(&Rc::new(Heap::of_bytes(&bytes)));
+        Ok("ok".to_string())
+    }
+
     fn root(&self, text: &str) -> Result<u64, String> {
         if text == "last" { Ok(self.last_root) } else { parse_page_id(text) }
     }
@@ -248,6 +271,12 @@ impl Session {
     fn page(&self, text: &str) -> Result<&[u8], String> {
         self.pages.page(parse_page_id(text)?).ok_or_else(|| format!("the store has no page {}", text))
     }
+}
+
+fn put_byte(bytes: &mut [u8], offset: u64, value: u64, of: &str) -> Result<(), String> {
+    let place = bytes.get_mut(offset as usize).ok_or_else(|| format!("{} has no byte {}", of, offset))?;
+    *place = value.try_into().map_err(|_| format!("{} is no byte", value))?;
+    Ok(())
 }
 
 /// A panic on one line.

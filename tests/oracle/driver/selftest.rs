@@ -1,9 +1,12 @@
-//! Compares noblit's order and byte strings with those written to document 01, on random pairs, and the records of named faults with
-//! the text of their format.
+//! Compares noblit's order, byte strings and heap with those written to documents 01 and 02, on random pairs and constants, and some
+//! records with the text of their format.
 
 use std::cmp::Ordering;
+use std::rc::Rc;
 
-use harness::{byte_string, compare, is_bound, Answer, Datom, Oracle, Order, Random, Value, Which, MAX_VALUE};
+use harness::{
+    bad_constant, byte_string, Answer, Datom, Heap, Kind, Oracle, Order, Random, Supply, Which, Word, MALFORMED, MAX_VALUE,
+};
 
 use crate::model::Cursor;
 use crate::recording::{Question, Record};
@@ -12,36 +15,76 @@ use crate::text::show_datom;
 const SEED: u64 = 1;
 const PAIRS: usize = 400_000;
 
+/// Heaps, datoms with constants on each of them, and pairs of these. The Rust is handed a copy of the heap for each.
+const HEAPS: usize = 40;
+const LONG: usize = 120;
+const LONG_PAIRS: usize = 2_000;
+
+const BUILDS: [Which; 2] = [Which::Plain, Which::Patched];
+
 pub fn selftest() -> Result<(), String> {
     let mut random = Random::new(SEED);
-    let (mut less, mut equal, mut greater) = (0, 0, 0);
+    let (mut orders, no_heap) = (Orders::default(), Rc::default());
     for _ in 0..PAIRS {
         agreed_string(&bytes(&mut random))?;
         let left = bound(&mut random);
         let right = neighbour(&mut random, &left);
-        match agreed_order(&left, &right)? {
-            Ordering::Less => less += 1,
-            Ordering::Equal => equal += 1,
-            Ordering::Greater => greater += 1,
+        orders.count(agreed_order(&no_heap, &left, &right)?);
+    }
+    println!("{} pairs agree: {}", PAIRS, orders);
+    agreed_heaps(&mut random)?;
+    known_constants()?;
+    agreed_records()
+}
+
+#[derive(Default)]
+struct Orders {
+    less: usize,
+    equal: usize,
+    greater: usize,
+}
+
+impl Orders {
+    fn count(&mut self, order: Ordering) {
+        match order {
+            Ordering::Less => self.less += 1,
+            Ordering::Equal => self.equal += 1,
+            Ordering::Greater => self.greater += 1,
         }
     }
-    println!("{} pairs agree: {} less, {} equal, {} greater", PAIRS, less, equal, greater);
+}
+
+impl std::fmt::Display for Orders {
+    fn fmt(&self, out: &mut std::fmt::Formatter) -> std::fmt::Result {
+        write!(out, "{} less, {} equal, {} greater", self.less, self.equal, self.greater)
+    }
+}
+
+/// The words of some records stand where docs/ORACLE.md has them.
+fn agreed_records() -> Result<(), String> {
     let batch = vec![[31, 32, 33, 34], [35, 36, 37, 38]];
     let cursor = Cursor { height: 31, ..Cursor::default() }.bytes();
-    agreed_record(1, Question::Check, &[])?;
-    agreed_record(2, Question::Start { lower: batch[0], upper: batch[1] }, &[31, 32, 33, 34, 35, 36, 37, 38])?;
-    agreed_record(3, Question::Step { cursor }, &[&[31][..], &[0; 32]].concat())?;
-    agreed_record(4, Question::Held { batch: batch.clone() }, &[31, 32, 33, 34, 35, 36, 37, 38])?;
-    agreed_record(5, Question::InsertNamed { batch }, &[31, 32, 33, 34, 35, 36, 37, 38])?;
+    agreed_named(1, Question::Check, &[])?;
+    agreed_named(2, Question::Start { lower: batch[0], upper: batch[1] }, &[31, 32, 33, 34, 35, 36, 37, 38])?;
+    agreed_named(3, Question::Step { cursor }, &[&[31][..], &[0; 32]].concat())?;
+    agreed_named(4, Question::Held { batch: batch.clone() }, &[31, 32, 33, 34, 35, 36, 37, 38])?;
+    agreed_named(5, Question::InsertNamed { batch }, &[31, 32, 33, 34, 35, 36, 37, 38])?;
     println!("5 calls that name a fault are recorded as docs/ORACLE.md says");
+    agreed_record(Record::Begin { page_size: 21, room: 22, history: 23, heap_room: 0 }, &[1, 21, 22, 23])?;
+    agreed_record(Record::Begin { page_size: 21, room: 22, history: 23, heap_room: 24 }, &[1, 21, 22, 23, 24])?;
+    agreed_record(Record::Heap { offset: 21, bytes: vec![1, 0, 0, 0, 0, 0, 0, 0] }, &[9, 21, 1])?;
+    println!("so is the beginning of a history with a heap and without, and what goes to the heap");
     Ok(())
 }
 
-/// The words of a NAMED record stand where docs/ORACLE.md has them, and are read back from there; cut short there is none.
-fn agreed_record(call: u64, question: Question, given: &[u64]) -> Result<(), String> {
+fn agreed_named(call: u64, question: Question, given: &[u64]) -> Result<(), String> {
     let record = Record::Named { root: 21, question, answer: Answer { number: 22, root: 23, pages: 24, detail: 25 } };
-    let content = [&[8, call, 21, 22, 23, 24, 25][..], given].concat();
-    let words = [&[8 * content.len() as u64][..], &content].concat();
+    agreed_record(record, &[&[8, call, 21, 22, 23, 24, 25][..], given].concat())
+}
+
+/// A record is its length and these words, and is read back from there; cut short there is none.
+fn agreed_record(record: Record, content: &[u64]) -> Result<(), String> {
+    let words = [&[8 * content.len() as u64][..], content].concat();
     let bytes: Vec<u8> = words.iter().flat_map(|word| word.to_le_bytes()).collect();
     if record.encode() != bytes {
         return Err(format!("{:?} is recorded as {:x?}", record, record.encode()));
@@ -56,7 +99,7 @@ fn agreed_record(call: u64, question: Question, given: &[u64]) -> Result<(), Str
 
 /// Both oracles must have the word that document 01 gives a byte string.
 fn agreed_string(bytes: &[u8]) -> Result<(), String> {
-    for which in [Which::Plain, Which::Patched] {
+    for which in BUILDS {
         let found = Oracle { which, order: Order::Eavt }.inline_bytes(bytes);
         if found != Some(byte_string(bytes)) {
             return Err(format!("the {:?} Rust has {:x?} for the byte string {:x?}", which, found, bytes));
@@ -66,22 +109,137 @@ fn agreed_string(bytes: &[u8]) -> Result<(), String> {
 }
 
 /// What both orders say of a pair, which both oracles must say both ways round.
-fn agreed_order(left: &Datom, right: &Datom) -> Result<Ordering, String> {
-    assert!(is_bound(left) && is_bound(right), "the generator makes well-formed datoms only");
-    let ruled = compare(left, right);
-    for which in [Which::Plain, Which::Patched] {
+fn agreed_order(heap: &Rc<Heap>, left: &Datom, right: &Datom) -> Result<Ordering, String> {
+    assert!(heap.is_bound(left) && heap.is_bound(right), "the generator makes well-formed datoms only");
+    let ruled = heap.compare(left, right);
+    for which in BUILDS {
         let oracle = Oracle { which, order: Order::Eavt };
         for (l, r, expected) in [(left, right, ruled), (right, left, ruled.reverse())] {
-            let found = oracle.compare(l, r);
+            let found = oracle.compare(heap, l, r);
             if found != Ok(expected) {
                 return Err(format!(
-                    "{} and {} are {:?} by document 01 but {:?} in the {:?} Rust",
-                    show_datom(l), show_datom(r), expected, found, which,
+                    "{} and {} are {:?} by the documents but {:?} in the {:?} Rust, heap {:x?}",
+                    show_datom(l), show_datom(r), expected, found, which, heap.bytes(),
                 ));
             }
         }
     }
     Ok(ruled)
+}
+
+/// The same constants make the same heap and have the same words. Pairs of values on it compare alike, as do those of equal content.
+fn agreed_heaps(random: &mut Random) -> Result<(), String> {
+    let (mut orders, mut constants, mut twins, mut unread) = (Orders::default(), 0, 0, 0);
+    for i in 0..HEAPS {
+        let kind = [Kind::LongStrings, Kind::LongIntegers, Kind::LongMixed][i % 3];
+        let supply = Supply::new(kind, LONG, random);
+        let heap = supply.heap();
+        agreed_appends(&supply)?;
+        constants += supply.constants().len();
+        for _ in 0..LONG_PAIRS {
+            let left = supply.any(random);
+            let right = long_neighbour(&supply, &left, random);
+            let order = agreed_order(heap, &left, &right)?;
+            twins += (order.is_eq() && left != right) as usize;
+            orders.count(order);
+        }
+        for _ in 0..LONG {
+            unread += is_unread(heap, bad_constant(heap, random))? as usize;
+        }
+    }
+    println!("{} constants are laid alike; {} pairs of long values agree: {}, {} of these by other words", constants, HEAPS * LONG_PAIRS, orders, twins);
+    println!("{} constants that are not valid, {} of them a panic of the Rust", HEAPS * LONG, unread);
+    if twins == 0 || unread == 0 { Err("no words of equal content, or none that the Rust does not read".to_string()) } else { Ok(()) }
+}
+
+fn agreed_appends(supply: &Supply) -> Result<(), String> {
+    let (heap, constants) = (supply.heap(), supply.constants());
+    for which in BUILDS {
+        let appended = Oracle { which, order: Order::Eavt }.append(&Heap::default(), constants)?;
+        if !appended.is_in(heap, constants) {
+            return Err(format!("the {:?} Rust lays {:x?} as {:x?}", which, constants, appended));
+        }
+    }
+    Ok(())
+}
+
+/// A datom that agrees with the other one in most places; its value is that of another datom, or of equal content.
+fn long_neighbour(supply: &Supply, datom: &Datom, random: &mut Random) -> Datom {
+    let other = supply.any(random);
+    match random.below(8) {
+        0 => supply.twin(datom).unwrap_or(*datom),
+        1 => other,
+        2 => [datom[0], datom[1], MAX_VALUE, datom[3]],
+        3 => [datom[0], datom[1], byte_string(&bytes(random)), datom[3]],
+        _ => [datom[0], datom[1], other[2], datom[3]],
+    }
+}
+
+/// Whether the Rust does not read a constant either that is not valid. It tests less: it must read every one that is.
+fn is_unread(heap: &Rc<Heap>, word: u64) -> Result<bool, String> {
+    let datom = [0, 0, word, 0];
+    if heap.is_storable(&datom) {
+        return Err(format!("{:#018x} is a constant of {:x?}", word, heap.bytes()));
+    }
+    Ok(Oracle { which: Which::Patched, order: Order::Eavt }.compare(heap, &datom, &datom).is_err())
+}
+
+/// Constants that are valid and some that are not, by document 02's text: a heap by its words, a value, whether a page may have it.
+fn known_constants() -> Result<(), String> {
+    const INT: u64 = 1 << 62;
+    const STR: u64 = 3 << 62;
+    let cases: &[(&[u64], u64, bool)] = &[
+        // "In example j, 2^62 then names offset 0."
+        (&[], INT, false),
+        (&[1 << 62], INT, true),
+        (&[(1 << 62) - 1], INT, false),
+        (&[u64::MAX], INT, true),
+        (&[u64::MAX, 1 << 63], INT + 8, true),
+        (&[u64::MAX, 1 << 63], INT + 16, false),
+        (&[u64::MAX, u64::MAX], INT + 1, false),
+        (&[u64::MAX, u64::MAX], INT + 4, false),
+        (&[u64::MAX], INT + (1 << 62) - 8, false),
+        // A length, the bytes, and zeros to a multiple of 8, all of them below the heap's length.
+        (&[8, 7], STR, true),
+        (&[8], STR, false),
+        (&[7, 7], STR, false),
+        (&[0], STR, false),
+        (&[9, 7, 0xff], STR, true),
+        (&[9, 7, 0x1ff], STR, false),
+        (&[9, 7, 1 << 63], STR, false),
+        (&[9, 7], STR, false),
+        (&[15, 7, u64::MAX >> 8], STR, true),
+        (&[15, 7, u64::MAX], STR, false),
+        (&[16, 7, u64::MAX], STR, true),
+        (&[16, 7, u64::MAX], STR + 8, false),
+        (&[17, 7, 7, 0], STR, true),
+        (&[17, 7, 7], STR, false),
+        (&[8, 0], STR, true),
+        (&[8, 8, 8], STR + 8, true),
+        (&[u64::MAX, 7], STR, false),
+        (&[u64::MAX - 7, 7], STR, false),
+        (&[1 << 63, 7], STR, false),
+        (&[8, 7], MAX_VALUE - 7, false),
+        (&[8, 7], MAX_VALUE, false),
+        // One kind is not the other.
+        (&[8, 7], INT, false),
+        (&[1 << 62, 7], STR, false),
+    ];
+    for (words, value, expected) in cases {
+        let bytes: Vec<u8> = words.iter().flat_map(|word| word.to_le_bytes()).collect();
+        let heap = Heap::of_bytes(&bytes);
+        let (found, is_bound) = (heap.is_storable(&[0, 0, *value, 0]), heap.is_bound(&[0, 0, *value, 0]));
+        if found != *expected || is_bound != (*expected || *value == MAX_VALUE) {
+            return Err(format!("on a heap of {:x?} {:#018x} is storable: {}", words, value, found));
+        }
+    }
+    for word in MALFORMED {
+        if !matches!(Word::of(word), Word::Malformed | Word::Max) {
+            return Err(format!("{:#018x} is not malformed", word));
+        }
+    }
+    println!("{} constants are valid or not as document 02 says", cases.len());
+    Ok(())
 }
 
 fn bound(random: &mut Random) -> Datom {
@@ -129,7 +287,7 @@ fn bytes(random: &mut Random) -> Vec<u8> {
 
 /// A byte string that differs in one byte or in length by one; another value for other kinds.
 fn similar_value(random: &mut Random, word: u64) -> u64 {
-    let Some(Value::Bytes(content, length)) = Value::of_word(word) else {
+    let Word::Bytes(content, length) = Word::of(word) else {
         return value(random);
     };
     let mut bytes = content[..length].to_vec();

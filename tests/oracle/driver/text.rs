@@ -2,9 +2,9 @@
 //!
 //! A datom is `ENTITY,ATTRIBUTE,VALUE,LASTWORD` or `d5` for `5,1,5,3`; `d0..d6` is seven datoms.
 //! Numbers are decimal or start with 0x. A value is a number, a byte string as `"ab"` with `\xHH`
-//! for bytes other than letters and digits, or `max`. A page id is a number or `none`.
+//! for bytes other than letters and digits, or `max`; one on the heap is the number that `append` gave. A page id is a number or `none`.
 
-use harness::{byte_string, Datom, Value, MAX_VALUE, NONE};
+use harness::{byte_string, Datom, Word, MAX_VALUE, NONE};
 
 /// The datom that document 01's examples call d(k).
 fn example(k: u64) -> Datom {
@@ -57,7 +57,7 @@ fn parse_value(text: &str) -> Result<u64, String> {
     } else if text.starts_with('"') {
         let bytes = parse_bytes(text)?;
         if bytes.len() > 7 {
-            return Err(format!("{} has more than 7 bytes", text));
+            return Err(format!("{} has more than 7 bytes: `append` gives the word of a constant", text));
         }
         Ok(byte_string(&bytes))
     } else {
@@ -94,11 +94,11 @@ pub fn parse_batch(words: &[&str]) -> Result<Vec<Datom>, String> {
 }
 
 fn show_value(word: u64) -> String {
-    match Value::of_word(word) {
-        Some(Value::Integer(number)) => number.to_string(),
-        Some(Value::Bytes(bytes, length)) => format!("\"{}\"", show_bytes(&bytes[..length])),
-        Some(Value::Max) => "max".to_string(),
-        None => format!("{:#018x}", word),
+    match Word::of(word) {
+        Word::Integer(number) => number.to_string(),
+        Word::Bytes(bytes, length) => format!("\"{}\"", show_bytes(&bytes[..length])),
+        Word::Max => "max".to_string(),
+        Word::IntegerAt(_) | Word::BytesAt(_) | Word::Malformed => format!("{:#018x}", word),
     }
 }
 

@@ -1,6 +1,8 @@
-//! Datoms as words, and document 01's form and order of them, written to its text and not to noblit.
+//! Datoms as words, and the form and order that documents 01 and 02 give them over a heap, written to their text and not to noblit.
 
 use std::cmp::Ordering;
+
+use crate::heap::{Constant, Heap};
 
 /// Entity, attribute, value and last word.
 pub type Datom = [u64; 4];
@@ -11,41 +13,87 @@ pub const MAX_VALUE: u64 = u64::MAX;
 const INLINE_INTEGERS: u64 = 1 << 62;
 const LONGEST_STRING: usize = 7;
 
-/// What a value word stands for.
+/// What a value word says by itself.
 #[derive(Clone, Copy, Debug, PartialEq)]
-pub enum Value {
+pub enum Word {
     Integer(u64),
     /// The bytes, zero after the length.
     Bytes([u8; LONGEST_STRING], usize),
+    /// The offset of an integer on the heap.
+    IntegerAt(u64),
+    /// The offset of a byte string on the heap.
+    BytesAt(u64),
+    Max,
+    Malformed,
+}
+
+impl Word {
+    pub fn of(word: u64) -> Word {
+        let offset = word % (1 << 62);
+        match word >> 62 {
+            0b00 => Word::Integer(word),
+            0b01 => Word::IntegerAt(offset),
+            0b10 => Word::of_inline_bytes(word),
+            _ if word == MAX_VALUE => Word::Max,
+            _ => Word::BytesAt(offset),
+        }
+    }
+
+    fn of_inline_bytes(word: u64) -> Word {
+        let bytes = word.to_le_bytes();
+        let length = (bytes[7] & 0x3f) as usize;
+        let mut content = [0; LONGEST_STRING];
+        content.copy_from_slice(&bytes[..LONGEST_STRING]);
+        if length > LONGEST_STRING || content[length..].iter().any(|&byte| byte != 0) {
+            return Word::Malformed;
+        }
+        Word::Bytes(content, length)
+    }
+
+    /// Whether it names a constant, valid or not.
+    pub fn is_long(self) -> bool {
+        matches!(self, Word::IntegerAt(_) | Word::BytesAt(_))
+    }
+}
+
+/// What a value stands for.
+enum Value<'a> {
+    Integer(u64),
+    Bytes(Text<'a>),
     Max,
 }
 
-impl Value {
-    /// The value of a word, or nothing if the word is malformed.
-    pub fn of_word(word: u64) -> Option<Value> {
-        if word < INLINE_INTEGERS {
-            return Some(Value::Integer(word));
+/// A byte string, inline or on the heap.
+enum Text<'a> {
+    Inline([u8; LONGEST_STRING], usize),
+    OnHeap(&'a [u8]),
+}
+
+impl Text<'_> {
+    fn bytes(&self) -> &[u8] {
+        match self {
+            Text::Inline(bytes, length) => &bytes[..*length],
+            Text::OnHeap(bytes) => bytes,
         }
-        if word == MAX_VALUE {
-            return Some(Value::Max);
+    }
+}
+
+impl Value<'_> {
+    /// What is not there, or is malformed, has a place, too: that of max.
+    fn of_word(word: u64, heap: &Heap) -> Value<'_> {
+        match Word::of(word) {
+            Word::Integer(number) => Value::Integer(number),
+            Word::Bytes(bytes, length) => Value::Bytes(Text::Inline(bytes, length)),
+            Word::IntegerAt(offset) => heap.integer_at(offset).map_or(Value::Max, Value::Integer),
+            Word::BytesAt(offset) => heap.bytes_at(offset).map_or(Value::Max, |bytes| Value::Bytes(Text::OnHeap(bytes))),
+            Word::Max | Word::Malformed => Value::Max,
         }
-        let bytes = word.to_le_bytes();
-        let length = (bytes[7] & 0x3f) as usize;
-        if bytes[7] >> 6 != 0b10 || length > LONGEST_STRING {
-            return None;
-        }
-        let mut content = [0; LONGEST_STRING];
-        content.copy_from_slice(&bytes[..LONGEST_STRING]);
-        if content[length..].iter().any(|&byte| byte != 0) {
-            return None;
-        }
-        Some(Value::Bytes(content, length))
     }
 
-    fn class(self) -> u8 {
+    fn class(&self) -> u8 {
         match self {
             Value::Integer(_) => 0,
-            Value::Bytes(..) => 1,
+            Value::Bytes(_) => 1,
             Value::Max => 2,
         }
     }
@@ -60,30 +108,60 @@ pub fn byte_string(bytes: &[u8]) -> u64 {
     u64::from_le_bytes(word)
 }
 
-/// Whether a page or a batch may hold the datom.
-pub fn is_storable(datom: &Datom) -> bool {
-    matches!(Value::of_word(datom[2]), Some(Value::Integer(_)) | Some(Value::Bytes(..)))
+/// Whether a datom's value word says nothing against it by itself: what 3 is not given for.
+pub fn is_formed(datom: &Datom) -> bool {
+    !matches!(Word::of(datom[2]), Word::Max | Word::Malformed)
 }
 
-/// Whether a listing may have the datom as a bound.
-pub fn is_bound(datom: &Datom) -> bool {
-    Value::of_word(datom[2]).is_some()
-}
+impl Heap {
+    /// The word of an integer, which goes to the heap if it has no inline form.
+    pub fn value_of_integer(&mut self, number: u64) -> u64 {
+        if number < INLINE_INTEGERS { number } else { self.append_u64(number) }
+    }
 
-/// Document 01's order: entity, attribute, value, last word. Both values must be well formed.
-pub fn compare(left: &Datom, right: &Datom) -> Ordering {
-    left[0].cmp(&right[0])
-        .then(left[1].cmp(&right[1]))
-        .then_with(|| compare_values(left[2], right[2]))
-        .then(left[3].cmp(&right[3]))
-}
+    /// The word of a byte string, which goes to the heap if it has no inline form.
+    pub fn value_of_bytes(&mut self, bytes: &[u8]) -> u64 {
+        if bytes.len() <= LONGEST_STRING { byte_string(bytes) } else { self.append_bytes(bytes) }
+    }
 
-fn compare_values(left: u64, right: u64) -> Ordering {
-    let well_formed = |word| Value::of_word(word).unwrap_or_else(|| panic!("malformed value {:#018x}", word));
-    match (well_formed(left), well_formed(right)) {
-        (Value::Integer(l), Value::Integer(r)) => l.cmp(&r),
-        (Value::Bytes(l, l_length), Value::Bytes(r, r_length)) => compare_bytes(&l[..l_length], &r[..r_length]),
-        (l, r) => l.class().cmp(&r.class()),
+    /// What stands where a word names a constant, valid or not; nothing if it names none, or not all of it is there.
+    pub fn constant(&self, word: u64) -> Option<Constant> {
+        match Word::of(word) {
+            Word::IntegerAt(offset) => self.integer_at(offset).map(Constant::Integer),
+            Word::BytesAt(offset) => self.bytes_at(offset).map(|bytes| Constant::Bytes(bytes.to_vec())),
+            _ => None,
+        }
+    }
+
+    /// Whether a page or a batch may hold the datom.
+    pub fn is_storable(&self, datom: &Datom) -> bool {
+        match Word::of(datom[2]) {
+            Word::Integer(_) | Word::Bytes(..) => true,
+            Word::IntegerAt(offset) => self.has_integer(offset),
+            Word::BytesAt(offset) => self.has_bytes(offset),
+            Word::Max | Word::Malformed => false,
+        }
+    }
+
+    /// Whether a listing may have the datom as a bound.
+    pub fn is_bound(&self, datom: &Datom) -> bool {
+        datom[2] == MAX_VALUE || self.is_storable(datom)
+    }
+
+    /// Document 01's order: entity, attribute, value, last word; values by content, of any words.
+    pub fn compare(&self, left: &Datom, right: &Datom) -> Ordering {
+        left[0].cmp(&right[0])
+            .then(left[1].cmp(&right[1]))
+            .then_with(|| self.compare_values(left[2], right[2]))
+            .then(left[3].cmp(&right[3]))
+    }
+
+    fn compare_values(&self, left: u64, right: u64) -> Ordering {
+        match (Value::of_word(left, self), Value::of_word(right, self)) {
+            (Value::Integer(l), Value::Integer(r)) => l.cmp(&r),
+            (Value::Bytes(l), Value::Bytes(r)) => compare_bytes(l.bytes(), r.bytes()),
+            (l, r) => l.class().cmp(&r.class()),
+        }
     }
 }
 

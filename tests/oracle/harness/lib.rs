@@ -1,4 +1,4 @@
-//! What programs that run the Rust oracle share: datoms, pages, both oracles, random numbers.
+//! What programs that run the Rust oracle share: datoms, pages, heaps, both oracles, random numbers.
 //!
 //! A program links this crate and thereby both builds of noblit. It sees datoms as four words and
 //! a store as bytes, never a type of noblit, so plain and patched are used alike.
@@ -9,6 +9,7 @@ compile_error!("the Rust stores datoms as the host has them: the oracle needs a 
 mod answer;
 mod damage;
 mod datom;
+mod heap;
 mod node;
 mod oracle;
 mod pages;
@@ -17,10 +18,11 @@ mod random;
 mod supply;
 
 pub use answer::Answer;
-pub use damage::{readable_damage, relevel};
-pub use datom::{byte_string, compare, is_bound, is_storable, Datom, Value, MAX_VALUE};
+pub use damage::{bad_constant, bad_value, readable_damage, relevel, spoiled, MALFORMED};
+pub use datom::{byte_string, is_formed, Datom, Word, MAX_VALUE};
+pub use heap::{Constant, Heap};
 pub use node::{capacity, Node, Rule, PAGE_SIZES};
-pub use oracle::{Oracle, Order, Verdict, Which};
+pub use oracle::{Appended, Oracle, Order, Verdict, Which};
 pub use pages::{Pages, NONE};
 pub use panics::Panic;
 pub use random::Random;

@@ -1,6 +1,10 @@
-//! Both builds of noblit's tree, behind one type that takes and gives words.
+//! Both builds of noblit's tree and heap, behind one type that takes and gives words.
 
-use crate::datom::{compare, Datom};
+use std::cmp::Ordering;
+use std::rc::Rc;
+
+use crate::datom::Datom;
+use crate::heap::{Constant, Heap};
 use crate::pages::Pages;
 use crate::panics::{catching, Panic};
 
@@ -30,7 +34,22 @@ pub enum Verdict {
     Unsound(u64, String),
 }
 
-/// The Rust's tree over a store of any known page size.
+/// What the Rust's heap makes of constants: the words that name them, and all of its bytes behind the last.
+#[derive(Clone, Debug, PartialEq)]
+pub struct Appended {
+    pub words: Vec<u64>,
+    pub bytes: Vec<u8>,
+}
+
+impl Appended {
+    /// Whether the heap is this one, and the words name these constants of it.
+    pub fn is_in(&self, heap: &Heap, constants: &[Constant]) -> bool {
+        let named: Vec<Constant> = self.words.iter().filter_map(|&word| heap.constant(word)).collect();
+        self.bytes == heap.bytes() && named == constants
+    }
+}
+
+/// The Rust's tree over a store of any known page size, and over its heap.
 ///
 /// Every call answers a panic of the Rust as an error. A store that a panicking insert has written
 /// to keeps those pages; the caller truncates it if it wants to go on.
@@ -90,9 +109,14 @@ impl Oracle {
         }
     }
 
-    /// How two datoms compare.
-    pub fn compare(self, left: &Datom, right: &Datom) -> Result<std::cmp::Ordering, String> {
-        catching(|| at_build!(self, compare_datoms(self.order, left, right)))
+    /// How two datoms compare, their constants on this heap.
+    pub fn compare(self, heap: &Rc<Heap>, left: &Datom, right: &Datom) -> Result<Ordering, String> {
+        catching(|| at_build!(self, compare_datoms(self.order, heap, left, right)))
+    }
+
+    /// Constants appended to a heap, one after the other.
+    pub fn append(self, heap: &Heap, constants: &[Constant]) -> Result<Appended, String> {
+        catching(|| at_build!(self, append(heap, constants)))
     }
 
     /// The longest pending span of a node with these children, as start and end.
@@ -130,10 +154,10 @@ macro_rules! at_order_and_size {
             (Order::Eavt, 568) => $operation::<_, PageSize568>(Eavt, $($argument),*),
             (Order::Eavt, 4096) => $operation::<_, PageSize4096>(Eavt, $($argument),*),
             (Order::Eavt, 8192) => $operation::<_, PageSize8192>(Eavt, $($argument),*),
-            (Order::Rule, 256) => $operation::<_, PageSize256>(ByRule, $($argument),*),
-            (Order::Rule, 568) => $operation::<_, PageSize568>(ByRule, $($argument),*),
-            (Order::Rule, 4096) => $operation::<_, PageSize4096>(ByRule, $($argument),*),
-            (Order::Rule, 8192) => $operation::<_, PageSize8192>(ByRule, $($argument),*),
+            (Order::Rule, 256) => $operation::<_, PageSize256>(ByRule(Rc::clone($pages.heap())), $($argument),*),
+            (Order::Rule, 568) => $operation::<_, PageSize568>(ByRule(Rc::clone($pages.heap())), $($argument),*),
+            (Order::Rule, 4096) => $operation::<_, PageSize4096>(ByRule(Rc::clone($pages.heap())), $($argument),*),
+            (Order::Rule, 8192) => $operation::<_, PageSize8192>(ByRule(Rc::clone($pages.heap())), $($argument),*),
             (_, size) => panic!("noblit has no page size {}", size),
         }
     };
@@ -143,20 +167,22 @@ macro_rules! at_order_and_size {
 macro_rules! build_of_noblit {
     ($name:ident, $noblit:ident) => {
         mod $name {
+            use std::cell::RefCell;
             use std::cmp::Ordering;
             use std::io;
             use std::marker::PhantomData;
             use std::mem::{offset_of, size_of};
             use std::ops::{Deref, DerefMut};
+            use std::rc::Rc;
 
             use $noblit::datom::{Aid, Datom as Fact, Eid, Operation, Tid, Value};
-            use $noblit::heap::Heap;
+            use $noblit::heap::{Heap, HeapMut, SizedHeap};
             use $noblit::htree::{HTree, Node};
             use $noblit::index::{DatomOrd, Eavt};
             use $noblit::memory_store::MemoryHeap;
             use $noblit::store::{PageId, PageSize, PageSize256, PageSize4096, PageSize568, Store, StoreMut};
 
-            use super::{Datom, Order, Pages};
+            use super::{Appended, Constant, Datom, Heap as Constants, Order, Pages};
 
             include!("page_size_8192.rs");
 
@@ -187,12 +213,29 @@ macro_rules! build_of_noblit {
                 batch.iter().map(fact).collect()
             }
 
-            /// The comparator written to document 01.
-            struct ByRule;
+            thread_local! {
+                static LAST_HEAP: RefCell<Option<(Rc<Constants>, Rc<MemoryHeap>)>> = const { RefCell::new(None) };
+            }
+
+            /// Noblit's own heap, of these bytes. The one of the call before is used again where the bytes are the same: they are shared,
+            /// so that nobody changes them.
+            fn memory_heap(heap: &Rc<Constants>) -> Rc<MemoryHeap> {
+                LAST_HEAP.with_borrow_mut(|last| match last {
+                    Some((of, by_noblit)) if Rc::ptr_eq(of, heap) => Rc::clone(by_noblit),
+                    _ => {
+                        let by_noblit = Rc::new(MemoryHeap::from_vec(heap.bytes().to_vec()));
+                        *last = Some((Rc::clone(heap), Rc::clone(&by_noblit)));
+                        by_noblit
+                    }
+                })
+            }
+
+            /// The comparator written to documents 01 and 02, which reads the heap by itself.
+            struct ByRule(Rc<Constants>);
 
             impl DatomOrd for ByRule {
                 fn cmp(&self, left: &Fact, right: &Fact, _heap: &dyn Heap) -> Ordering {
-                    super::compare(&words(left), &words(right))
+                    self.0.compare(&words(left), &words(right))
                 }
             }
 
@@ -229,13 +272,15 @@ macro_rules! build_of_noblit {
             const IN_MEMORY: &str = "a store in memory gives no input or output error";
 
             fn initialise_at<Cmp: DatomOrd, Size: PageSize>(order: Cmp, pages: &mut Pages, batch: &[Datom]) -> u64 {
+                let heap = memory_heap(pages.heap());
                 let store = Lent::<_, Size>::new(pages);
-                HTree::initialize(order, store, MemoryHeap::new(), &facts(batch)).expect(IN_MEMORY).root_page.0
+                HTree::initialize(order, store, &*heap, &facts(batch)).expect(IN_MEMORY).root_page.0
             }
 
             fn insert_at<Cmp: DatomOrd, Size: PageSize>(order: Cmp, pages: &mut Pages, root: u64, batch: &[Datom]) -> u64 {
+                let heap = memory_heap(pages.heap());
                 let store = Lent::<_, Size>::new(pages);
-                let mut tree = HTree::new(PageId(root), order, store, MemoryHeap::new());
+                let mut tree = HTree::new(PageId(root), order, store, &*heap);
                 tree.insert(&facts(batch)).expect(IN_MEMORY).0
             }
 
@@ -247,21 +292,21 @@ macro_rules! build_of_noblit {
                 upper: &Datom,
                 listed: &mut Vec<Datom>,
             ) {
-                let (store, heap) = (Lent::<_, Size>::new(pages), MemoryHeap::new());
-                let tree = HTree::new(PageId(root), order, &store, &heap);
+                let (store, heap) = (Lent::<_, Size>::new(pages), memory_heap(pages.heap()));
+                let tree = HTree::new(PageId(root), order, &store, &*heap);
                 for found in tree.into_iter(&fact(lower), &fact(upper)) {
                     listed.push(words(found));
                 }
             }
 
             fn check_at<Cmp: DatomOrd, Size: PageSize>(order: Cmp, pages: &Pages, root: u64) {
-                let store = Lent::<_, Size>::new(pages);
-                HTree::new(PageId(root), order, store, MemoryHeap::new()).check_invariants().expect(IN_MEMORY)
+                let (store, heap) = (Lent::<_, Size>::new(pages), memory_heap(pages.heap()));
+                HTree::new(PageId(root), order, store, &*heap).check_invariants().expect(IN_MEMORY)
             }
 
             fn height_at<Cmp: DatomOrd, Size: PageSize>(order: Cmp, pages: &Pages, root: u64) -> u8 {
-                let store = Lent::<_, Size>::new(pages);
-                HTree::new(PageId(root), order, store, MemoryHeap::new()).height()
+                let (store, heap) = (Lent::<_, Size>::new(pages), memory_heap(pages.heap()));
+                HTree::new(PageId(root), order, store, &*heap).height()
             }
 
             pub fn initialise(order: Order, pages: &mut Pages, batch: &[Datom]) -> u64 {
@@ -284,12 +329,23 @@ macro_rules! build_of_noblit {
                 at_order_and_size!(order, pages, height_at(pages, root))
             }
 
-            pub fn compare_datoms(order: Order, left: &Datom, right: &Datom) -> Ordering {
-                let heap = MemoryHeap::new();
+            pub fn compare_datoms(order: Order, heap: &Rc<Constants>, left: &Datom, right: &Datom) -> Ordering {
+                let by_noblit = memory_heap(heap);
                 match order {
-                    Order::Eavt => Eavt.cmp(&fact(left), &fact(right), &heap),
-                    Order::Rule => ByRule.cmp(&fact(left), &fact(right), &heap),
+                    Order::Eavt => Eavt.cmp(&fact(left), &fact(right), &*by_noblit),
+                    Order::Rule => ByRule(Rc::clone(heap)).cmp(&fact(left), &fact(right), &*by_noblit),
                 }
+            }
+
+            pub fn append(heap: &Constants, constants: &[Constant]) -> Appended {
+                let mut heap = MemoryHeap::from_vec(heap.bytes().to_vec());
+                let words = constants.iter().map(|constant| match constant {
+                    Constant::Integer(number) => Value::from_const_u64(heap.append_u64(*number).expect(IN_MEMORY)).0,
+                    Constant::Bytes(bytes) => Value::from_const_bytes(heap.append_bytes(bytes).expect(IN_MEMORY)).0,
+                }).collect();
+                let mut bytes = Vec::new();
+                heap.dump(&mut bytes).expect(IN_MEMORY);
+                Appended { words, bytes }
             }
 
             pub fn longest_pending_span(children: &[u64]) -> (usize, usize) {

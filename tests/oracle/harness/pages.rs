@@ -1,7 +1,10 @@
-//! A store of pages that remembers which page was read last.
+//! A store of pages that remembers which page was read last, and the heap that its values name constants of.
 
 use std::cell::Cell;
+use std::rc::Rc;
 use std::slice;
+
+use crate::heap::Heap;
 
 /// The page id that means "none".
 pub const NONE: u64 = u64::MAX;
@@ -13,14 +16,25 @@ pub const NONE: u64 = u64::MAX;
 pub struct Pages {
     page_size: usize,
     words: Vec<u64>,
+    heap: Rc<Heap>,
     last_read: Cell<u64>,
     lost: Cell<u64>,
 }
 
 impl Pages {
+    /// No pages, and an empty heap.
     pub fn new(page_size: usize) -> Pages {
         assert_eq!(page_size % 8, 0, "a page is a whole number of words");
-        Pages { page_size, words: Vec::new(), last_read: Cell::new(NONE), lost: Cell::new(NONE) }
+        Pages { page_size, words: Vec::new(), heap: Rc::default(), last_read: Cell::new(NONE), lost: Cell::new(NONE) }
+    }
+
+    pub fn heap(&self) -> &Rc<Heap> {
+        &self.heap
+    }
+
+    /// The heap is this one from here on. It is shared, as one heap may serve several stores.
+    pub fn set_heap(&mut self, heap: &Rc<Heap>) {
+        self.heap = Rc::clone(heap);
     }
 
     pub fn page_size(&self) -> usize {

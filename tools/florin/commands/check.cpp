@@ -36,6 +36,14 @@ Trouble altered(const StoreFile &store, std::uint64_t page, std::uint64_t root) 
             {{"page", page}, {"root", page_json(root)}}};
 }
 
+Trouble altered_values(std::uint64_t page, std::uint64_t root, std::uint64_t batch) {
+    return {kAltered, "Altered",
+            "page " + std::to_string(page) + ", root " + page_text(root) + ": it names a long value of batch @" + std::to_string(batch) +
+                ".\n  The long values of that batch have not the checksum that was kept when they were written.",
+            "restore the file from a backup; florin check --all says which roots do not reach the page.",
+            {{"page", page}, {"root", page_json(root)}, {"receipt", batch}}};
+}
+
 // Pages whose kept checksums are not those that the receipt of their batch speaks of: they tell nothing of the page.
 std::vector<bool> unvouched_pages(const StoreFile &store) {
     std::vector<bool> unvouched(store.head().page_count);
@@ -46,8 +54,16 @@ std::vector<bool> unvouched_pages(const StoreFile &store) {
     return unvouched;
 }
 
-// The library's rules first, then the checksums of the pages that the tree has.
-std::optional<Trouble> trouble_of(const StoreFile &store, std::uint64_t root, const std::vector<bool> &unvouched) {
+// What the checksums of pages and of long values are compared with, once for all roots.
+struct Kept {
+    explicit Kept(const StoreFile &store) : unvouched(unvouched_pages(store)), parts(store.heap_parts()) {}
+
+    std::vector<bool> unvouched;
+    HeapParts parts;
+};
+
+// The library's rules first, then the checksums of the pages that the tree has, then those of the long values that they name.
+std::optional<Trouble> trouble_of(const StoreFile &store, std::uint64_t root, const Kept &kept) {
     const Answer answer = store.reader().check(root);
     if (!answer.done()) {
         Trouble trouble = refusal(answer, "root " + page_text(root));
@@ -59,7 +75,12 @@ std::optional<Trouble> trouble_of(const StoreFile &store, std::uint64_t root, co
         if (!store.is_as_written(page)) return altered(store, page, root);
     }
     for (std::uint64_t page : pages) {
-        if (unvouched[page]) return altered(store, page, root);
+        if (kept.unvouched[page]) return altered(store, page, root);
+    }
+    for (std::uint64_t page : pages) {
+        const auto view = page_of(store.reader(), page);
+        const std::uint64_t batch = view ? kept.parts.altered_under(*view) : 0;
+        if (batch != 0) return altered_values(page, root, batch);
     }
     return std::nullopt;
 }
@@ -67,7 +88,7 @@ std::optional<Trouble> trouble_of(const StoreFile &store, std::uint64_t root, co
 void check_one(const StoreFile &store, std::uint64_t root, Output &out) {
     Progress progress;
     progress.announce("checking root " + page_text(root));
-    const auto trouble = trouble_of(store, root, unvouched_pages(store));
+    const auto trouble = trouble_of(store, root, Kept(store));
     progress.clear();
     if (trouble) throw *trouble;
     const std::uint64_t pages = pages_under(store.reader(), root).size();
@@ -91,6 +112,13 @@ Trouble altered_aside(std::uint64_t page) {
             "look at the disk. florin dump and load make a store without the damage.", {{"page", page}}};
 }
 
+// Long values that no page names: the middle of a binary batch's constant may be, or what an altered page named.
+Trouble altered_values_aside(std::uint64_t batch) {
+    return {kAltered, "Altered",
+            "long values of batch @" + std::to_string(batch) + ", which no page names, are not as they were written. All roots are sound.",
+            "look at the disk. florin dump and load make a store without the damage.", {{"receipt", batch}}};
+}
+
 // One line for a root that is not sound; the first of them is told in full at the end.
 void tell_of_root(std::uint64_t number, std::uint64_t root, const Trouble &trouble, Output &out) {
     Json object = {{"receipt", number}, {"sound", false}, {"error", trouble.name}};
@@ -105,9 +133,12 @@ void tell_of_root(std::uint64_t number, std::uint64_t root, const Trouble &troub
 void check_all(const StoreFile &store, bool walk, Output &out) {
     Progress progress;
     progress.announce("comparing the pages with their checksums");
-    const std::vector<bool> unvouched = unvouched_pages(store);
-    std::vector<bool> bad = unvouched;
-    for (std::uint64_t page = 0; page < bad.size(); ++page) bad[page] = bad[page] || !store.is_as_written(page);
+    const Kept kept(store);
+    std::vector<bool> bad = kept.unvouched;
+    for (std::uint64_t page = 0; page < bad.size(); ++page) {
+        const auto view = page_of(store.reader(), page);
+        bad[page] = bad[page] || !store.is_as_written(page) || (view && kept.parts.altered_under(*view) != 0);
+    }
     const std::vector<bool> reaches = reaching(store.reader(), bad);
     const std::vector<Receipt> receipts = store.receipts();
     walk = walk || !is_history(receipts);
@@ -118,7 +149,7 @@ void check_all(const StoreFile &store, bool walk, Output &out) {
         number += 1;
         if (!walk && number < receipts.size() && !reaches[receipt.root]) continue;
         walked += 1;
-        const auto trouble = trouble_of(store, receipt.root, unvouched);
+        const auto trouble = trouble_of(store, receipt.root, kept);
         if (!trouble) continue;
         progress.clear();
         tell_of_root(number, receipt.root, *trouble, out);
@@ -129,9 +160,11 @@ void check_all(const StoreFile &store, bool walk, Output &out) {
     if (first) throw *first;
     const auto aside = std::find(bad.begin(), bad.end(), true);
     if (aside != bad.end()) throw altered_aside(static_cast<std::uint64_t>(aside - bad.begin()));
-    out.tell("Sound: all " + counted(receipts.size(), "root") + "; " + counted(bad.size(), "page") + " as written, " +
-                 counted(walked, "root") + " walked",
-             {{"sound", true}, {"roots", receipts.size()}, {"pages", bad.size()}, {"walked", walked}});
+    if (const std::uint64_t batch = kept.parts.first_altered()) throw altered_values_aside(batch);
+    const std::uint64_t heap = store.head().heap_length;
+    out.tell("Sound: all " + counted(receipts.size(), "root") + "; " + counted(bad.size(), "page") +
+                 (heap > 0 ? " and " + counted(heap, "byte") + " of long values" : "") + " as written, " + counted(walked, "root") + " walked",
+             {{"sound", true}, {"roots", receipts.size()}, {"pages", bad.size()}, {"walked", walked}, {"heap_bytes", heap}});
 }
 
 void check(const Given &given, Output &out) {
@@ -153,9 +186,10 @@ Run define_check(Words &words) {
     given->root.define(words, "the tree of this root; the newest if not given");
     words.flag("--all", given->all, "the trees of all roots");
     words.flag("--walk", given->walk, "with --all: walk every root by itself");
-    words.footer("Of a tree: the rules of every page, the levels, the bounds between pages, and that every page has the checksum it was\n"
-               "written with. With --all every page in use is compared with its checksum once, and the library walks the newest root and\n"
-               "those that reach an altered page: the others are what accepted inserts left, and those are proved to be sound.\n"
+    words.footer("Of a tree: the rules of every page, the levels, the bounds between pages, and that every page and every long value\n"
+               "that it names has the checksum it was written with. With --all every page in use and every long value is compared\n"
+               "with its checksum once, and the library walks the newest root and those that reach what is altered: the others are\n"
+               "what accepted inserts left, and those are proved to be sound.\n"
                "\n"
                "Damaged and Unsound name a page and its fault, the first that was met:\n"
                "\n" + faults_text() + "\n"

@@ -14,8 +14,9 @@ struct Given {
 };
 
 void count(const Given &given, Output &out) {
-    const florinwick::Datom lower = given.bounds.lower(), upper = given.bounds.upper();
+    const TypedDatom from = given.bounds.lower(), to = given.bounds.upper();
     const auto store = given.store.open();
+    const florinwick::Datom lower = store->put_aside(from), upper = store->put_aside(to);
     const std::uint64_t root = given.root.of(*store);
     florinwick::Listing listing = store->reader().list(root, lower, upper);
     Progress progress;

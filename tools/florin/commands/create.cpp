@@ -24,16 +24,15 @@ Batch first_batch(const Given &given) {
 
 void create(const Given &given, Output &out) {
     if (given.form.binary && given.from.empty()) throw usage_trouble("--binary goes with --from");
-    const Batch batch = given.from.empty() ? Batch{} : first_batch(given);
-    const auto first = batch.bytes.empty() ? std::nullopt : std::optional<florinwick::ByteView>(batch.bytes);
-    const florinwick::Answer answer = StoreFile::create(given.path, given.page_size, given.room, first);
+    Batch batch = given.from.empty() ? Batch{} : first_batch(given);
+    const florinwick::Answer answer = StoreFile::create(given.path, given.page_size, given.room, batch);
     if (!answer.done()) {
         const bool of_datom = answer.carries() == florinwick::Carries::Index;
-        throw refusal(answer, of_datom ? batch.place_of(answer.detail) : "");
+        throw refusal(answer, of_datom ? batch.place_of(answer.detail, {}) : "");
     }
     std::string text = "created " + given.path + ", pages of " + std::to_string(given.page_size) + " bytes";
     Json object = {{"created", given.path}, {"page_size", given.page_size}};
-    if (first) {
+    if (!batch.bytes.empty()) {
         text += "; its first batch is in: " + counted(batch.datoms(), "datom") + ", " + counted(answer.pages, "page") + " written, root " +
                 page_text(answer.root);
         object.put_all({{"datoms", batch.datoms()}, {"pages", answer.pages}, {"root", page_json(answer.root)}});

@@ -3,6 +3,7 @@
 #include "commands/options.h"
 #include "datom_text.h"
 #include "dump_text.h"
+#include "heap_parts.h"
 #include "progress.h"
 
 #include <cstdio>
@@ -45,6 +46,18 @@ private:
     std::uint64_t length_ = 0;
 };
 
+// A dump has no long value that is not as it was written.
+void see_constants(const HeapParts &parts, const Batch &batch) {
+    for (std::uint64_t i = 0; i < batch.datoms(); ++i) {
+        const std::uint64_t altered = parts.altered_under(batch.datom(i).value);
+        if (altered == 0) continue;
+        throw Trouble{kAltered, "Altered",
+                      "batch @" + std::to_string(batch.number) + ": the long values of batch @" + std::to_string(altered) +
+                          ", of which it has one, are not as they were written.",
+                      "run florin check --all, and restore the file from a backup.", {{"receipt", altered}}};
+    }
+}
+
 void dump(const Given &given, Output &out) {
     if (out.json()) throw usage_trouble("florin dump has no --json");
     const auto store = given.store.open();
@@ -52,12 +65,15 @@ void dump(const Given &given, Output &out) {
     Target target(given.path);
     Progress progress;
     const bool followed = target.is_file() || isatty(STDOUT_FILENO) == 0;
+    const HeapParts parts = store->heap_parts();
     DumpText text;
     target.put(text.head(store->head()));
     std::uint64_t number = 0, datoms = 0;
     for (const Receipt &receipt : receipts) {
         number += 1;
-        target.put(text.batch(receipt, batch_of(*store, receipt, number)));
+        const Batch batch = batch_of(*store, receipt, number);
+        see_constants(parts, batch);
+        target.put(text.batch(receipt, batch, store->heap()));
         datoms += receipt.datoms;
         if (followed) progress.tell([&] { return counted(number, "batch") + " of " + grouped(receipts.size()) + " dumped"; });
         if (std::ferror(stdout)) break;

@@ -59,15 +59,15 @@ class Insertion {
 public:
     Insertion(StoreFile &store, const Given &given, Output &out) : store_(store), given_(given), out_(out), root_(first_root(given, store)) {}
 
-    void take(const Batches &batches, const Batch &batch) {
+    void take(const Batches &batches, Batch &batch) {
         const bool back = root_ != store_.head().root();
-        const Answer answer = store_.insert(root_, batch.bytes, {!given_.no_grow, back ? Receipt::kBack : 0, {}});
+        const Answer answer = store_.insert(root_, batch, {!given_.no_grow, back ? Receipt::kBack : 0, {}});
         if (answer.done()) {
             receive(batch, answer, back);
         } else if (answer.number == Number::Repeated) {
-            repeat(batches.refused(answer, batch), batch);
+            repeat(batches.refused(answer, batch, store_.heap()), batch);
         } else {
-            throw batches.refused(answer, batch);
+            throw batches.refused(answer, batch, store_.heap());
         }
         progress_.tell([this] { return counted(feed_.batches, "batch") + " with " + counted(feed_.datoms, "datom") + " in"; });
     }

@@ -24,14 +24,14 @@ struct Given {
 // Datoms as they come: lines with columns, bare words of 8 bytes, objects, or batches that florin insert takes.
 class Printer {
 public:
-    Printer(const Given &given, Output &out) : given_(given), out_(out) {}
+    Printer(const Given &given, const florinwick::HeapView &heap, Output &out) : given_(given), heap_(heap), out_(out) {}
 
     void put(const Datom &datom) {
         if (given_.every != 0) {
             batch_.add(datom);
             if (batch_.datoms() == given_.every) end();
         } else if (out_.json()) {
-            out_.tell("", datom_json(datom));
+            out_.tell("", datom_json(datom, heap_));
         } else if (given_.form.binary) {
             std::uint8_t bytes[Datom::size];
             datom.write(bytes);
@@ -44,34 +44,40 @@ public:
     // The last batch may be shorter.
     void end() {
         if (batch_.bytes.empty()) return;
-        const std::string text = batch_text(batch_, given_.form.form());
+        const std::string text = batch_text(batch_, given_.form.form(), heap_);
         std::fwrite(text.data(), 1, text.size(), stdout);
         batch_ = Batch{};
     }
 
 private:
-    static std::string row(const Datom &datom) {
-        char text[128];
-        std::snprintf(text, sizeof text, "%10llu %6llu %-12s %10llu %s\n", static_cast<unsigned long long>(datom.entity),
-                      static_cast<unsigned long long>(datom.attribute), value_text(datom.value).c_str(),
-                      static_cast<unsigned long long>(datom.transaction()), datom.is_assert() ? "assert" : "retract");
-        return text;
+    // A value may be of any length.
+    std::string row(const Datom &datom) const {
+        char before[64], after[64];
+        std::snprintf(before, sizeof before, "%10llu %6llu ", static_cast<unsigned long long>(datom.entity),
+                      static_cast<unsigned long long>(datom.attribute));
+        std::snprintf(after, sizeof after, " %10llu %s\n", static_cast<unsigned long long>(datom.transaction()),
+                      datom.is_assert() ? "assert" : "retract");
+        std::string value = value_text(datom.value, heap_);
+        if (value.size() < 12) value.resize(12, ' ');
+        return before + value + after;
     }
 
     const Given &given_;
+    const florinwick::HeapView heap_;
     Output &out_;
     Batch batch_;
 };
 
 void list(const Given &given, Output &out) {
     if (out.json() && (given.form.binary || given.every != 0)) throw usage_trouble("--json goes with neither --binary nor --every");
-    const Datom lower = given.bounds.lower(), upper = given.bounds.upper();
+    const TypedDatom from = given.bounds.lower(), to = given.bounds.upper();
     const auto store = given.store.open();
+    const Datom lower = store->put_aside(from), upper = store->put_aside(to);
     const bool followed = isatty(STDOUT_FILENO) == 0;
     const std::uint64_t root = given.root.of(*store);
     florinwick::Listing listing = store->reader().list(root, lower, upper);
     Progress progress;
-    Printer printer(given, out);
+    Printer printer(given, store->heap(), out);
     std::uint64_t listed = 0;
     for (const Datom &datom : listing) {
         if (listed == given.limit) break;

@@ -55,11 +55,11 @@ private:
                             ", which is no batch's root: that can be loaded with the page size of the dump alone");
     }
 
-    void take(StoreFile &store, const DumpedBatch &dumped) {
-        const Batch &batch = dumped.batch;
+    void take(StoreFile &store, DumpedBatch &dumped) {
+        Batch &batch = dumped.batch;
         const std::uint64_t from = root_of(dumped);
         const bool back = from != store.head().root();
-        const Answer answer = store.insert(from, batch.bytes, {true, back ? Receipt::kBack : 0, dumped.time});
+        const Answer answer = store.insert(from, batch, {true, back ? Receipt::kBack : 0, dumped.time});
         if (!answer.done()) throw dump_.refused(answer, batch);
         if (answer.pages == 0) throw dump_.altered(batch, "it writes no page");
         if (same_size_ && (answer.root != dumped.root || answer.pages != dumped.pages)) {

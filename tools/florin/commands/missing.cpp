@@ -23,15 +23,16 @@ void missing(const Given &given, Output &out) {
     Batch batch;
     while (batches->next(batch)) {
         datoms += batch.datoms();
+        store->put_aside(batch);
         Batch rest;
         for (std::uint64_t at : missing_of(store->reader(), root, batch)) rest.add(batch.datom(at));
         missed += rest.datoms();
         if (rest.bytes.empty()) continue;
-        const std::string text = batch_text(rest, given.input.form.form());
+        const std::string text = batch_text(rest, given.input.form.form(), store->heap());
         if (!out.json()) {
             std::fwrite(text.data(), 1, text.size(), stdout);
         } else {
-            for (std::uint64_t i = 0; i < rest.datoms(); ++i) out.tell("", datom_json(rest.datom(i), batch.number));
+            for (std::uint64_t i = 0; i < rest.datoms(); ++i) out.tell("", datom_json(rest.datom(i), store->heap(), batch.number));
         }
         out.flush();
     }

@@ -18,14 +18,16 @@ const char kDatomsHelp[] =
     "  1001 2 \"FGBL\" 2 assert\n"
     "  ---                                                      (ends a batch; # begins a comment)\n"
     "\n"
-    "A value is an integer below 2^62, a string of at most 7 bytes in quotes (\\\" \\\\ \\xNN), or a raw word\n"
-    "0x... A transaction is even. A batch has at most 128 datoms, and goes in once its end was seen: an\n"
-    "input that ends within a batch is an error, and nothing of that batch is written.\n"
-    "With --binary a batch is its number of datoms, 8 bytes little-endian, then 32 bytes for each datom.\n";
+    "A value is an integer below 2^64, a string in quotes (\\\" \\\\ \\xNN) of any length, or a raw word 0x...\n"
+    "Integers from 2^62 on and strings of over 7 bytes are long values: they lie beside the pages, on the\n"
+    "store's heap, each content once. A transaction is even. A batch has at most 128 datoms, and goes in\n"
+    "once its end was seen: an input that ends within a batch is an error, and nothing of that batch is\n"
+    "written. With --binary a batch is its number of datoms, 8 bytes little-endian, then 32 bytes for each\n"
+    "datom; its words name long values that lie in this store already.\n";
 
 const char kBoundsHelp[] =
     "A BOUND is a datom of 1 to 5 words; max may stand for any of the first four, and what is left out is\n"
-    "the least: --from \"1001\" --to \"1002\" is entity 1001.\n";
+    "the least: --from \"1001\" --to \"1002\" is entity 1001. Its value may be of any length.\n";
 
 std::uint64_t number_word(const std::string &word, const std::string &what) {
     try {
@@ -91,8 +93,8 @@ void BoundsOptions::define(Words &words) {
 
 namespace {
 
-Datom bound_of(const std::optional<std::string> &word, const char *option, const Datom &otherwise) {
-    if (!word) return otherwise;
+TypedDatom bound_of(const std::optional<std::string> &word, const char *option, const Datom &otherwise) {
+    if (!word) return {otherwise};
     try {
         return parse_bound(*word);
     } catch (const BadText &bad) {
@@ -102,8 +104,8 @@ Datom bound_of(const std::optional<std::string> &word, const char *option, const
 
 }  // namespace
 
-Datom BoundsOptions::lower() const { return bound_of(from, "--from", Datom::min()); }
-Datom BoundsOptions::upper() const { return bound_of(to, "--to", Datom::max()); }
+TypedDatom BoundsOptions::lower() const { return bound_of(from, "--from", Datom::min()); }
+TypedDatom BoundsOptions::upper() const { return bound_of(to, "--to", Datom::max()); }
 
 void FormOption::define(Words &words, const std::string &help) { words.flag("--binary", binary, help); }
 

@@ -45,8 +45,8 @@ struct BoundsOptions {
     std::optional<std::string> from, to;
 
     void define(Words &words);
-    florinwick::Datom lower() const;
-    florinwick::Datom upper() const;
+    TypedDatom lower() const;
+    TypedDatom upper() const;
 };
 
 // --binary

@@ -22,7 +22,7 @@ void page(const Given &given, Output &out) {
     const florinwick::Reader reader = store->reader();
     const florinwick::Answer answer = reader.refusal(id);
     if (!answer.done()) throw refusal(answer, "page " + page_text(id) + " of " + grouped(reader.page_count()));
-    draw_page(stdout, PageView(id, reader.fetch(id)));
+    draw_page(stdout, PageView(id, reader.fetch(id)), reader.heap());
     if (const auto fault = broken_rule_of(reader, id)) out.text("its fault is " + fault_text(*fault));
     const char *altered = store->is_as_written(id) ? "" : "; it is not as it was written";
     out.text("at byte " + std::to_string(store->offset_of(id)) + " of " + store->path() + altered);

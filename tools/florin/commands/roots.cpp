@@ -31,7 +31,7 @@ Json object(std::uint64_t number, const Receipt &receipt) {
     return {{"receipt", number},        {"root", page_json(receipt.root)}, {"from", page_json(receipt.from)},
             {"datoms", receipt.datoms}, {"pages", receipt.pages},          {"page_count", receipt.page_count},
             {"time", receipt.time},     {"branch", receipt.went_back()},   {"datoms_sum", datoms_sum},
-            {"pages_sum", sum_text(receipt.pages_sum)}};
+            {"pages_sum", sum_text(receipt.pages_sum)}, {"heap_length", receipt.heap_length}};
 }
 
 void roots(const StoreToRead &given, Output &out) {
@@ -55,7 +55,9 @@ void roots(const StoreToRead &given, Output &out) {
 Run define_roots(Words &words) {
     const auto given = std::make_shared<StoreToRead>();
     given->define(words);
-    words.footer("The checksum is XXH64 of the batch's datoms, ascending, 32 bytes each: xxh64sum prints it of such a file.\n");
+    words.footer("The checksum is XXH64 of the batch's datoms, ascending, 32 bytes each: xxh64sum prints it of such a file. A long value\n"
+                 "has no offset there, only the two top bits of its word, and stands behind its datom: an integer in 8 bytes, a string as\n"
+                 "its length in 8 bytes, its bytes, and zeros to a multiple of 8.\n");
     return [given](Output &out) { roots(*given, out); };
 }
 

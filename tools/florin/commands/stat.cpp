@@ -41,7 +41,8 @@ void stat(const StoreToRead &given, Output &out) {
     if (out.json()) {
         out.tell("", {{"store", given.path}, {"bytes", store->file_size()}, {"page_size", head.page_size}, {"pages", head.page_count},
                       {"free_pages", store->free_pages()}, {"root", page_json(head.root())}, {"batches", head.receipts}, {"datoms", shape.datoms()},
-                      {"pending", shape.pending}, {"height", shape.height()}, {"levels", levels_json(shape)}, {"pages_of_older_roots", older}});
+                      {"pending", shape.pending}, {"height", shape.height()}, {"levels", levels_json(shape)}, {"pages_of_older_roots", older},
+                      {"heap_bytes", head.heap_length}});
         return;
     }
     print_rows({{"store", given.path + ", " + counted(store->file_size(), "byte")},
@@ -54,6 +55,10 @@ void stat(const StoreToRead &given, Output &out) {
                out);
     print_levels(shape, PageView::capacity_of(head.page_size), out);
     print_rows({{"older", counted(older, "page") + " that only older roots reach"}}, out);
+    if (head.heap_length > 0) {
+        print_rows({{"long values", counted(head.heap_length, "byte") + ", room for " + grouped(store->free_heap()) + " more before the file grows"}},
+                   out);
+    }
     if (shape.lost > 0) print_rows({{"lost", counted(shape.lost, "child") + " cannot be followed: run florin check"}}, out);
 }
 

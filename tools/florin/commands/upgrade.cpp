@@ -58,7 +58,7 @@ void upgrade(const Given &given, Output &out) {
     head.roots[0] = old.root;
     head.receipts = old.receipts.size();
     const std::vector<std::uint8_t> sums = sums_of(old), receipts = receipts_of(old, sums, head.chain);
-    write_store(given.path, head, old.pages, sums, receipts);
+    write_store(given.path, head, {old.pages, sums, receipts, {}});
     out.tell("made " + given.path + " from " + given.old + ": " + counted(head.receipts, "batch") + ", " + counted(head.page_count, "page") +
                  ", root " + page_text(head.root()),
              {{"made", given.path}, {"from", given.old}, {"batches", head.receipts}, {"pages", head.page_count}, {"root", page_json(head.root())}});

@@ -5,10 +5,9 @@ use mathlib.Core.Bool.{true, false}
 use mathlib.Core.Path.{_≡_, refl, sym, _∙_}
 use borrow.Author.Tests.{not-true, not-false}
 use lib.ListN.{drop}
-use Rattle.datom.specs.Datom.{datomAt, datomsOf}
+use Rattle.datom.specs.Datom.{datomAt, datomsOf, formedDatom}
 use Rattle.datom.specs.Laws.{datoms-from}
-use Rattle.index.specs.Order.{eavt}
-use Rattle.index.specs.Form.{eavt-stored}
+use Rattle.answer.specs.declared.Refusal.the-variants.{BadDatom}
 use Rattle.rules.specs.Insert.{formFault}
 use Rattle.batch.specs.Steps.{form-on, form-stop, form-end}
 use borrow.Author.Needs.{needs}
@@ -16,7 +15,7 @@ use Rattle.batch.proofs.form_fault.Statement.{statement}
 use Rattle.batch.proofs.form_fault.Tie as tie
 
 abbrev Inv-loop : tie.InvT-loop
-Inv-loop b n i₀ i = (i ≤ n) × (formFault (eavt .stored) i (drop i (datomsOf n b)) ≡ formFault (eavt .stored) 0 (datomsOf n b))
+Inv-loop b n i₀ i = (i ≤ n) × (formFault BadDatom formedDatom i (drop i (datomsOf n b)) ≡ formFault BadDatom formedDatom 0 (datomsOf n b))
 
 abbrev μ-loop : tie.MeasureT-loop
 μ-loop b n i₀ i = n - i
@@ -30,16 +29,16 @@ mul-datom-at c = search needs
 datom-at-requires : tie.Need-datom-at-requires Inv-loop μ-loop
 datom-at-requires c κs = search needs
 
-is-stored-requires : tie.Need-is-stored-requires Inv-loop μ-loop
-is-stored-requires c κs = search needs
+is-formed-requires : tie.Need-is-formed-requires Inv-loop μ-loop
+is-formed-requires c κs = search needs
 
 returns : tie.Need-returns Inv-loop μ-loop
 returns c =
     let a = c .before .before .before .before .before .before .args in
     let l = c .before .before .before .before .loop in
-    let e : eavt .stored (datomAt (a .b .now) (32 * l .i)) ≡ false =
-    eavt-stored _ ∙ cc (not-true (c .before .is-stored .result) (c .if1 .taken)) in
-    sym (form-stop (eavt .stored) (l .i) (datoms-from (a .n) (l .i) (a .b .now) (omega arith)) e) ∙ l .inv .1
+    let e : formedDatom (datomAt (a .b .now) (32 * l .i)) ≡ false =
+    cc (not-true (c .before .is-formed .result) (c .if1 .taken)) in
+    sym (form-stop BadDatom formedDatom (l .i) (datoms-from (a .n) (l .i) (a .b .now) (omega arith)) e) ∙ l .inv .1
 
 add-i : tie.Need-add-i Inv-loop μ-loop
 add-i c = search needs
@@ -51,12 +50,12 @@ loop-again : tie.Need-loop-again Inv-loop μ-loop
 loop-again c =
     let a = c .before .before .before .before .before .before .args in
     let l = c .before .before .before .before .loop in
-    let e : eavt .stored (datomAt (a .b .now) (32 * l .i)) ≡ true =
-    eavt-stored _ ∙ cc (not-false (c .before .is-stored .result) (c .if1 .left)) in
-    (omega arith, sym (form-on (eavt .stored) (l .i) (datoms-from (a .n) (l .i) (a .b .now) (omega arith)) e) ∙ l .inv .1)
+    let e : formedDatom (datomAt (a .b .now) (32 * l .i)) ≡ true =
+    cc (not-false (c .before .is-formed .result) (c .if1 .left)) in
+    (omega arith, sym (form-on BadDatom formedDatom (l .i) (datoms-from (a .n) (l .i) (a .b .now) (omega arith)) e) ∙ l .inv .1)
 
 returns-2 : tie.Need-returns-2 Inv-loop μ-loop
-returns-2 c = let l = c .before .loop in sym (form-end (eavt .stored) (l .i) _ _ (omega arith)) ∙ l .inv .1
+returns-2 c = let l = c .before .loop in sym (form-end BadDatom formedDatom (l .i) _ _ (omega arith)) ∙ l .inv .1
 
 pub form-fault-spec : {M : Type 1} → statement M
 form-fault-spec =
@@ -67,7 +66,7 @@ form-fault-spec =
     loop-holds
     mul-datom-at
     datom-at-requires
-    is-stored-requires
+    is-formed-requires
     returns
     add-i
     loop-less

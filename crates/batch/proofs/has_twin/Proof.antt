@@ -4,7 +4,7 @@ use native.Mathlib.Omega.{arith}
 use mathlib.Core.Path.{_≡_, sym, _∙_}
 use Rattle.datom.specs.Datom.{datomAt}
 use Rattle.index.specs.declared.Order.the-variants.{Less, Equal, Greater}
-use Rattle.index.specs.Order.{eavt, named}
+use Rattle.index.specs.Order.{orderIn, named}
 use Rattle.rules.specs.Insert.{anySame}
 use Rattle.index.specs.Named.{less-named, equal-named, greater-named}
 use Rattle.batch.specs.Twins.{earlier, earlier-at, any-on, any-stop, any-end}
@@ -13,10 +13,10 @@ use Rattle.batch.proofs.has_twin.Statement.{statement}
 use Rattle.batch.proofs.has_twin.Tie as tie
 
 abbrev Inv-loop : tie.InvT-loop
-Inv-loop b i d j₀ j = (j ≤ i) × (anySame (eavt .cmp) d (earlier j b) ≡ anySame (eavt .cmp) (datomAt b (32 * i)) (earlier i b))
+Inv-loop b i by heap d j₀ j = (j ≤ i) × (anySame (orderIn by heap .cmp) d (earlier j b) ≡ anySame (orderIn by heap .cmp) (datomAt b (32 * i)) (earlier i b))
 
 abbrev μ-loop : tie.MeasureT-loop
-μ-loop b i d j₀ j = j
+μ-loop b i by heap d j₀ j = j
 
 mul-datom-at : tie.Need-mul-datom-at Inv-loop μ-loop
 mul-datom-at c = search needs
@@ -47,20 +47,20 @@ loop-less c = search needs
 
 loop-again : tie.Need-loop-again Inv-loop μ-loop
 loop-again c =
-    let a = c .before .before .before .before .before .before .before .before .args in
+    let a = c .before .before .before .before .before .before .before .before .before .args in
     let l = c .before .before .before .before .before .loop in
-    let e : named (eavt .cmp (datomAt (a .b .now) (32 * (l .j - 1))) (c .before .before .before .before .before .before .datom-at .result)) ≡ Less = cc (c .enum-told .given .1) in
-    (omega arith, sym (any-on (eavt .cmp) (c .before .before .before .before .before .before .datom-at .result) (earlier-at (l .j) (a .b .now) (omega arith)) (less-named _ e .1)) ∙ l .inv .1)
+    let e : named (orderIn (a .by) (a .heap .now) .cmp (datomAt (a .b .now) (32 * (l .j - 1))) (c .before .before .before .before .before .before .datom-at .result)) ≡ Less = cc (c .enum-told .given .1) in
+    (omega arith, sym (any-on (orderIn (a .by) (a .heap .now) .cmp) (c .before .before .before .before .before .before .datom-at .result) (earlier-at (l .j) (a .b .now) (omega arith)) (less-named _ e .1)) ∙ l .inv .1)
 
 enum-told-2 : tie.Need-enum-told-2 Inv-loop μ-loop
 enum-told-2 c = search needs
 
 returns : tie.Need-returns Inv-loop μ-loop
 returns c =
-    let a = c .before .before .before .before .before .before .before .before .args in
+    let a = c .before .before .before .before .before .before .before .before .before .args in
     let l = c .before .before .before .before .before .loop in
-    let e : named (eavt .cmp (datomAt (a .b .now) (32 * (l .j - 1))) (c .before .before .before .before .before .before .datom-at .result)) ≡ Equal = cc (c .enum-told2 .given .1) in
-    sym (any-stop (eavt .cmp) (c .before .before .before .before .before .before .datom-at .result) (earlier-at (l .j) (a .b .now) (omega arith)) (equal-named _ e .1)) ∙ l .inv .1
+    let e : named (orderIn (a .by) (a .heap .now) .cmp (datomAt (a .b .now) (32 * (l .j - 1))) (c .before .before .before .before .before .before .datom-at .result)) ≡ Equal = cc (c .enum-told2 .given .1) in
+    sym (any-stop (orderIn (a .by) (a .heap .now) .cmp) (c .before .before .before .before .before .before .datom-at .result) (earlier-at (l .j) (a .b .now) (omega arith)) (equal-named _ e .1)) ∙ l .inv .1
 
 enum-told-3 : tie.Need-enum-told-3 Inv-loop μ-loop
 enum-told-3 c = search needs
@@ -70,13 +70,13 @@ loop-less-2 c = search needs
 
 loop-again-2 : tie.Need-loop-again-2 Inv-loop μ-loop
 loop-again-2 c =
-    let a = c .before .before .before .before .before .before .before .before .args in
+    let a = c .before .before .before .before .before .before .before .before .before .args in
     let l = c .before .before .before .before .before .loop in
-    let e : named (eavt .cmp (datomAt (a .b .now) (32 * (l .j - 1))) (c .before .before .before .before .before .before .datom-at .result)) ≡ Greater = cc (c .enum-told3 .given .1) in
-    (omega arith, sym (any-on (eavt .cmp) (c .before .before .before .before .before .before .datom-at .result) (earlier-at (l .j) (a .b .now) (omega arith)) (greater-named _ e .1)) ∙ l .inv .1)
+    let e : named (orderIn (a .by) (a .heap .now) .cmp (datomAt (a .b .now) (32 * (l .j - 1))) (c .before .before .before .before .before .before .datom-at .result)) ≡ Greater = cc (c .enum-told3 .given .1) in
+    (omega arith, sym (any-on (orderIn (a .by) (a .heap .now) .cmp) (c .before .before .before .before .before .before .datom-at .result) (earlier-at (l .j) (a .b .now) (omega arith)) (greater-named _ e .1)) ∙ l .inv .1)
 
 returns-2 : tie.Need-returns-2 Inv-loop μ-loop
-returns-2 c = let l = c .before .loop in sym (any-end (eavt .cmp) (c .before .before .datom-at .result) (l .j) _ (omega arith)) ∙ l .inv .1
+returns-2 c = let l = c .before .loop in sym (any-end (orderIn _ _ .cmp) (c .before .before .datom-at .result) (l .j) _ (omega arith)) ∙ l .inv .1
 
 pub has-twin-spec : {M : Type 1} → statement M
 has-twin-spec =

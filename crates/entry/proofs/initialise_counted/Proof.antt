@@ -25,7 +25,7 @@ answer-of-requires c κs = search needs
 
 returns : tie.Need-returns
 returns c =
-    let a = c .before .before .before .before .before .before .before .args in
+    let a = c .before .before .before .before .before .before .before .before .args in
     replies-refused _ _ _ _ (sorted-found _ _ (a .extent) (a .store .now) _ (sym (ap findingOf (c .before .refusal .given .1)) ∙ c .before .before .before .initialise-fault .ensures))
 
 same-length : tie.Need-same-length
@@ -36,7 +36,7 @@ same-length-2 c = search needs
 
 returns-2 : tie.Need-returns-2
 returns-2 c =
-    let a = c .before .before .before .before .before .before .before .before .before .before .before .before .before .before .args in
+    let a = c .before .before .before .before .before .before .before .before .before .before .before .before .before .before .before .args in
     let free = sym (ap findingOf (c .before .before .before .before .before .before .before .before .enum-told .given .1)) ∙ c .before .before .before .before .before .before .before .before .before .before .initialise-fault .ensures in
     rw (c .answer-of .ensures, sorted-fresh _ _ (a .extent) (a .store .now) free) (replies _ _ _ _ _ (c .before .before .before .before .before .sorted .ensures [] refl))
 

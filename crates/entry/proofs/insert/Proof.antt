@@ -1,59 +1,47 @@
--- `insert` meets its contract on every input: 1 and 2, then the rest. Assumes nothing.
+-- `insert` meets its contract: the heap's length is tested, and the rest goes by the heap in use. Assumes nothing.
 use mathlib.Core.Path.{sym, _∙_}
-use lib.ListN.{length}
-use Rattle.entry.specs.Reply.{Replies, replies-refused}
-use Rattle.entry.specs.Checks.{insert-refused, insert-counted, passed}
+use Rattle.rules.specs.Calls.{heapFault, insertBytesCall}
+use Rattle.entry.specs.Reply.{replies-refused}
 use borrow.Author.Needs.{needs}
 use Rattle.entry.proofs.insert.Statement.{statement}
 use Rattle.entry.proofs.insert.Tie as tie
 
-count-of-requires : tie.Need-count-of-requires
-count-of-requires c κs = search needs
+is-bad-requires : tie.Need-is-bad-requires
+is-bad-requires c κs = search needs
 
-enum-known-refusal : tie.Need-enum-known-refusal
-enum-known-refusal c = search needs
+returns : tie.Need-returns
+unfolding heapFault insertBytesCall
+returns c = replies-refused _ _ _ _ (rw (sym (c .before .is-bad .ensures) ∙ c .if1 .taken))
 
-enum-known-n : tie.Need-enum-known-n
-enum-known-n c = search needs
+used-of-requires : tie.Need-used-of-requires
+used-of-requires c κs = sym (c .before .is-bad .ensures) ∙ c .if1 .left
 
-capacity-of-requires : tie.Need-capacity-of-requires
-capacity-of-requires c κs = search needs
+extent-requires : tie.Need-extent-requires
+extent-requires c κs = search needs
 
-insert-counted-requires : tie.Need-insert-counted-requires
-insert-counted-requires c κs =
-    let a = c .before .before .before .before .before .before .before .before .before .before .before .args in
-    rw (c .before .before .capacity-of .ensures) (passed (a .extent) (a .store .now) (length (a .s .now)) (a .b .now) _ (sym (c .before .before .before .before .before .before .count-of .ensures) ∙ c .before .before .before .before .n .given .1))
+insert-in-requires : tie.Need-insert-in-requires
+insert-in-requires c κs = search needs
 
 same-length : tie.Need-same-length
 same-length c = search needs
 
-returns : tie.Need-returns
-returns c =
-    let a = c .before .before .before .before .before .before .before .before .args in
-    replies-refused _ _ _ _ (insert-refused (a .extent) (a .store .now) (length (a .s .now)) (a .b .now) _ _ (sym (c .before .before .before .count-of .ensures) ∙ c .before .refusal .given .1) (a .root))
-
 same-length-2 : tie.Need-same-length-2
 same-length-2 c = search needs
 
-same-length-3 : tie.Need-same-length-3
-same-length-3 c = search needs
-
 returns-2 : tie.Need-returns-2
+unfolding heapFault insertBytesCall
 returns-2 c =
-    let a = c .before .before .before .before .before .before .before .before .before .before .before .before .before .before .before .before .args in
-    rw (insert-counted (a .extent) (a .store .now) (length (a .s .now)) (a .b .now) _ (sym (c .before .before .before .before .before .before .before .before .before .before .before .count-of .ensures) ∙ c .before .before .before .before .before .before .before .before .before .n .given .1) _ (a .root)) (c .before .before .before .before .insert-counted .ensures)
+    rw (sym (c .before .before .before .before .before .before .before .before .before .before .is-bad .ensures) ∙ c .before .before .before .before .before .before .before .before .before .if1 .left, ← c .before .before .before .before .before .before .before .before .used-of .ensures, ← c .before .before .before .before .before .before .extent .ensures) (c .before .before .before .before .insert-in .ensures)
 
 pub insert-spec : {M : Type 1} → statement M
 insert-spec =
     tie.close
     (tie.spec
-    count-of-requires
-    enum-known-refusal
-    enum-known-n
-    capacity-of-requires
-    insert-counted-requires
-    same-length
+    is-bad-requires
     returns
+    used-of-requires
+    extent-requires
+    insert-in-requires
+    same-length
     same-length-2
-    same-length-3
     returns-2)

@@ -22,7 +22,7 @@ is-bad-root-requires c κs = search needs
 
 returns : tie.Need-returns
 returns c =
-    let a = c .before .before .before .before .before .before .before .before .args in
+    let a = c .before .before .before .before .before .before .before .before .before .args in
     let free = sym (ap findingOf (c .before .before .enum-told .given .1)) ∙ c .before .before .before .before .insert-fault .ensures in
     replies-refused _ _ _ _ (counted-missing _ _ (a .extent) (a .store .now) (a .root) free (sym (c .before .is-bad-root .ensures) ∙ c .if1 .taken))
 
@@ -43,7 +43,7 @@ same-length-2 c = search needs
 
 returns-2 : tie.Need-returns-2
 returns-2 c =
-    let a = c .before .before .before .before .before .before .before .before .before .before .before .before .before .before .before .before .before .before .args in
+    let a = c .before .before .before .before .before .before .before .before .before .before .before .before .before .before .before .before .before .before .before .args in
     let free = sym (ap findingOf (c .before .before .before .before .before .before .before .before .before .before .before .before .enum-told .given .1)) ∙ c .before .before .before .before .before .before .before .before .before .before .before .before .before .before .insert-fault .ensures in
     let known = sym (c .before .before .before .before .before .before .before .before .before .before .before .is-bad-root .ensures) ∙ c .before .before .before .before .before .before .before .before .before .before .if1 .left in
     let none = sym (c .before .before .before .before .before .before .before .before .before .is-none .ensures) ∙ c .before .before .before .before .before .before .before .before .if2 .taken in
@@ -52,11 +52,11 @@ returns-2 c =
 insert-at-requires : tie.Need-insert-at-requires
 insert-at-requires c κs =
     let free = sym (ap findingOf (c .before .before .before .before .before .before .enum-told .given .1)) ∙ c .before .before .before .before .before .before .before .before .insert-fault .ensures in
-    (c .before .before .before .before .before .before .before .before .before .before .before .before .pre, fault-rises _ _ free)
+    (c .before .before .before .before .before .before .before .before .before .before .before .before .before .pre, fault-rises _ _ free)
 
 returns-3 : tie.Need-returns-3
 returns-3 c =
-    let a = c .before .before .before .before .before .before .before .args in
+    let a = c .before .before .before .before .before .before .before .before .args in
     replies-refused _ _ _ _ (counted-found _ _ (a .extent) (a .store .now) (a .root) _ (sym (ap findingOf (c .before .refusal .given .1)) ∙ c .before .before .before .insert-fault .ensures))
 
 same-length-3 : tie.Need-same-length-3
@@ -67,7 +67,7 @@ same-length-4 c = search needs
 
 returns-4 : tie.Need-returns-4
 returns-4 c =
-    let a = c .before .before .before .before .before .before .before .before .before .before .before .before .before .before .before .before .before .args in
+    let a = c .before .before .before .before .before .before .before .before .before .before .before .before .before .before .before .before .before .before .args in
     let free = sym (ap findingOf (c .before .before .before .before .before .before .before .before .before .before .before .enum-told .given .1)) ∙ c .before .before .before .before .before .before .before .before .before .before .before .before .before .insert-fault .ensures in
     let known = sym (c .before .before .before .before .before .before .before .before .before .before .is-bad-root .ensures) ∙ c .before .before .before .before .before .before .before .before .before .if1 .left in
     let some = sym (c .before .before .before .before .before .before .before .before .is-none .ensures) ∙ c .before .before .before .before .before .before .before .if2 .left in

@@ -5,10 +5,10 @@ use Rattle.failover.proofs.list.Statement.{statement}
 use Rattle.failover.proofs.list.Tie as tie
 
 abbrev Inv-loop : tie.InvT-loop
-Inv-loop store extent cursor₀ turns₀ cursor turns = Unit {0}
+Inv-loop store heap stored cursor₀ turns₀ cursor turns = Unit {0}
 
 abbrev μ-loop : tie.MeasureT-loop
-μ-loop store extent cursor₀ turns₀ cursor turns = turns
+μ-loop store heap stored cursor₀ turns₀ cursor turns = turns
 
 lowest-requires : tie.Need-lowest-requires Inv-loop μ-loop
 lowest-requires c κs = search needs

@@ -8,6 +8,9 @@ use Rattle.florinwick.proofs.florinwick_check.Tie as tie
 returns : tie.Need-returns
 returns c = not-answered _ _ (c .if1 .taken)
 
+record-in-requires : tie.Need-record-in-requires
+record-in-requires c κs = search needs
+
 check-requires : tie.Need-check-requires
 check-requires c κs = search needs
 
@@ -37,40 +40,44 @@ same-length c = search needs
 
 returns-2 : tie.Need-returns-2
 returns-2 c =
-    let if1 = c .before .before .before .before .before .before .before .if1 in
+    let record-in = c .before .before .before .before .before .before .before .record-in in
+    let if1 = c .before .before .before .before .before .before .before .before .if1 in
     let check = c .before .before .before .before .before .before .check in
     let enum-told = c .before .before .before .before .enum-told in
     let t = c .before .before .plain .ensures in
-    rw (← check .ensures, enum-told .given .1) (answered _ _ _ _ (if1 .left) (t .0) (t .1))
+    rw (← record-in .ensures, ← check .ensures, enum-told .given .1) (answered _ _ _ _ (if1 .left) (t .0) (t .1))
 
 same-length-2 : tie.Need-same-length-2
 same-length-2 c = search needs
 
 returns-3 : tie.Need-returns-3
 returns-3 c =
-    let if1 = c .before .before .before .before .before .before .before .before .before .if1 in
+    let record-in = c .before .before .before .before .before .before .before .before .before .record-in in
+    let if1 = c .before .before .before .before .before .before .before .before .before .before .if1 in
     let check = c .before .before .before .before .before .before .before .before .check in
     let page = c .before .before .before .before .before .before .page in
     let number = c .before .before .before .number in
     let put-words = c .before .before .put-words in
-    rw (← check .ensures, page .given .1) (answered _ _ _ _ (if1 .left) refl (rw (number .ensures) at (put-words .ensures)))
+    rw (← record-in .ensures, ← check .ensures, page .given .1) (answered _ _ _ _ (if1 .left) refl (rw (number .ensures) at (put-words .ensures)))
 
 same-length-3 : tie.Need-same-length-3
 same-length-3 c = search needs
 
 returns-4 : tie.Need-returns-4
 returns-4 c =
-    let if1 = c .before .before .before .before .before .before .before .before .if1 in
+    let record-in = c .before .before .before .before .before .before .before .before .record-in in
+    let if1 = c .before .before .before .before .before .before .before .before .before .if1 in
     let check = c .before .before .before .before .before .before .before .check in
     let refusal = c .before .before .before .before .before .refusal in
     let t = c .before .before .refuse .ensures in
-    rw (← check .ensures, refusal .given .1) (answered _ _ _ _ (if1 .left) (t .0) (t .1))
+    rw (← record-in .ensures, ← check .ensures, refusal .given .1) (answered _ _ _ _ (if1 .left) (t .0) (t .1))
 
 pub florinwick-check-spec : {M : Type 1} → statement M
 florinwick-check-spec =
     tie.close
     (tie.spec
     returns
+    record-in-requires
     check-requires
     enum-told
     plain-requires

@@ -9,6 +9,9 @@ returns : tie.Need-returns
 unfolding initialiseReply
 returns c = no-area _ _ _ _ _ (c .if1 .taken)
 
+record-in-requires : tie.Need-record-in-requires
+record-in-requires c κs = search needs
+
 initialise-requires : tie.Need-initialise-requires
 initialise-requires c κs = search needs
 
@@ -30,18 +33,20 @@ same-length-3 c = search needs
 returns-2 : tie.Need-returns-2
 unfolding initialiseReply
 returns-2 c =
-    let if1 = c .before .before .before .before .before .before .before .before .before .before .before .before .if1 in
+    let record-in = c .before .before .before .before .before .before .before .before .before .before .before .before .record-in in
+    let if1 = c .before .before .before .before .before .before .before .before .before .before .before .before .before .if1 in
     let initialise = c .before .before .before .before .before .before .before .before .before .initialise in
     let max = c .before .before .before .max in
     let tell = c .before .before .tell in
     let t = rw (max .ensures) at (tell .ensures) in
-    told-reply _ _ _ _ _ _ _ _ _ (if1 .left) (initialise .ensures) (t .0) (t .1)
+    told-reply _ _ _ _ _ _ _ _ _ (if1 .left) (rw (record-in .ensures) at (initialise .ensures)) (t .0) (t .1)
 
 pub florinwick-initialise-spec : {M : Type 1} → statement M
 florinwick-initialise-spec =
     tie.close
     (tie.spec
     returns
+    record-in-requires
     initialise-requires
     max-requires
     tell-requires

@@ -1,9 +1,6 @@
--- `held` meets its contract on every input: 1 and 2, then the rest. Assumes nothing.
-use native.Mathlib.Omega.{arith}
+-- `held` meets its contract: the heap's length is tested, and the rest goes by the heap in use. Assumes nothing.
 use mathlib.Core.Path.{sym, _∙_}
-use Rattle.index.specs.Order.{eavt}
-use Rattle.batch.specs.Finding.{given-count}
-use Rattle.held.specs.Ways.{held-of, bytes-bad, bytes-refused, bytes-counted}
+use Rattle.rules.specs.Calls.{heapFault, heldCall}
 use borrow.Author.Needs.{needs}
 use Rattle.held.proofs.held.Statement.{statement}
 use Rattle.held.proofs.held.Tie as tie
@@ -12,52 +9,25 @@ is-bad-requires : tie.Need-is-bad-requires
 is-bad-requires c κs = search needs
 
 returns : tie.Need-returns
-returns c =
-    let a = c .before .before .before .before .args in
-    bytes-bad eavt (a .extent) (a .store .now) (a .root) (a .b .now) (sym (c .before .is-bad .ensures) ∙ c .if1 .taken)
+unfolding heapFault heldCall
+returns c = rw (sym (c .before .is-bad .ensures) ∙ c .if1 .taken)
 
-count-of-requires : tie.Need-count-of-requires
-count-of-requires c κs = search needs
+used-of-requires : tie.Need-used-of-requires
+used-of-requires c κs = sym (c .before .is-bad .ensures) ∙ c .if1 .left
 
-enum-known-refusal : tie.Need-enum-known-refusal
-enum-known-refusal c = search needs
+extent-requires : tie.Need-extent-requires
+extent-requires c κs = search needs
 
-enum-known-n : tie.Need-enum-known-n
-enum-known-n c = search needs
-
-held-counted-requires : tie.Need-held-counted-requires
-held-counted-requires c κs =
-    let a = c .before .before .before .before .before .before .before .before .args in
-    let good = sym (c .before .before .before .before .before .is-bad .ensures) ∙ c .before .before .before .before .if1 .left in
-    let G = given-count (a .b .now) _ (sym (c .before .before .before .count-of .ensures) ∙ c .before .n .given .1) in
-    (good, omega (arith, G .whole))
-
-answer-of-requires : tie.Need-answer-of-requires
-answer-of-requires c κs = search needs
+held-in-requires : tie.Need-held-in-requires
+held-in-requires c κs = search needs
 
 returns-2 : tie.Need-returns-2
+unfolding heapFault heldCall
 returns-2 c =
-    let a = c .before .before .before .before .before .before .before .before .args in
-    let good = sym (c .before .before .before .before .before .is-bad .ensures) ∙ c .before .before .before .before .if1 .left in
-    bytes-refused eavt (a .extent) (a .store .now) (a .root) (a .b .now) good _ (sym (c .before .before .before .count-of .ensures) ∙ c .before .refusal .given .1)
-
-returns-3 : tie.Need-returns-3
-returns-3 c =
-    let a = c .before .before .before .before .before .before .before .before .before .before .args in
-    let good = sym (c .before .before .before .before .before .before .before .is-bad .ensures) ∙ c .before .before .before .before .before .before .if1 .left in
-    let n = sym (c .before .before .before .before .before .count-of .ensures) ∙ c .before .before .before .n .given .1 in
-    c .answer-of .ensures ∙ held-of _ _ (c .before .held-counted .ensures) ∙ bytes-counted eavt (a .extent) (a .store .now) (a .root) (a .b .now) good _ n
+    c .held-in .ensures
+    ∙ rw (c .before .extent .ensures, c .before .before .used-of .ensures, sym (c .before .before .before .before .is-bad .ensures) ∙ c .before .before .before .if1 .left)
 
 pub held-spec : {M : Type 1} → statement M
 held-spec =
     tie.close
-    (tie.spec
-    is-bad-requires
-    returns
-    count-of-requires
-    enum-known-refusal
-    enum-known-n
-    held-counted-requires
-    answer-of-requires
-    returns-2
-    returns-3)
+    (tie.spec is-bad-requires returns used-of-requires extent-requires held-in-requires returns-2)

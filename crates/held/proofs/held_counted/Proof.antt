@@ -1,7 +1,7 @@
 -- `held_counted` meets its contract: what an insert's checks find is refused, and a root that is no page; else the tree tells. Assumes nothing.
 use mathlib.Core.Path.{sym, _∙_, ap}
 use Rattle.datom.specs.Datom.{datomsOf}
-use Rattle.index.specs.Order.{eavt}
+use Rattle.index.specs.Order.{orderIn}
 use Rattle.batch.specs.Finding.{findingOf}
 use Rattle.held.specs.Ways.{counted-found, counted-missing, counted-on}
 use borrow.Author.Needs.{needs}
@@ -22,23 +22,23 @@ is-bad-root-requires c κs = search needs
 
 returns : tie.Need-returns
 returns c =
-    let a = c .before .before .before .before .before .before .before .args in
+    let a = c .before .before .before .before .before .before .before .before .args in
     let free = sym (ap findingOf (c .before .before .enum-told .given .1)) ∙ c .before .before .before .before .insert-fault .ensures in
-    counted-missing eavt (a .extent) (a .store .now) (a .root) (datomsOf (a .n) (a .b .now)) free (sym (c .before .is-bad-root .ensures) ∙ c .if1 .taken)
+    counted-missing (orderIn (a .by) (a .heap .now)) (a .extent) (a .store .now) (a .root) (datomsOf (a .n) (a .b .now)) free (sym (c .before .is-bad-root .ensures) ∙ c .if1 .taken)
 
 held-tree-requires : tie.Need-held-tree-requires
 held-tree-requires c κs = search needs
 
 returns-2 : tie.Need-returns-2
 returns-2 c =
-    let a = c .before .before .before .before .before .before .args in
-    counted-found eavt (a .extent) (a .store .now) (a .root) (datomsOf (a .n) (a .b .now)) _ (sym (ap findingOf (c .before .refusal .given .1)) ∙ c .before .before .before .insert-fault .ensures)
+    let a = c .before .before .before .before .before .before .before .args in
+    counted-found (orderIn (a .by) (a .heap .now)) (a .extent) (a .store .now) (a .root) (datomsOf (a .n) (a .b .now)) _ (sym (ap findingOf (c .before .refusal .given .1)) ∙ c .before .before .before .insert-fault .ensures)
 
 returns-3 : tie.Need-returns-3
 returns-3 c =
-    let a = c .before .before .before .before .before .before .before .before .args in
+    let a = c .before .before .before .before .before .before .before .before .before .args in
     let free = sym (ap findingOf (c .before .before .before .enum-told .given .1)) ∙ c .before .before .before .before .before .insert-fault .ensures in
-    c .held-tree .ensures ∙ counted-on eavt (a .extent) (a .store .now) (a .root) (datomsOf (a .n) (a .b .now)) free (sym (c .before .before .is-bad-root .ensures) ∙ c .before .if1 .left)
+    c .held-tree .ensures ∙ counted-on (orderIn (a .by) (a .heap .now)) (a .extent) (a .store .now) (a .root) (datomsOf (a .n) (a .b .now)) free (sym (c .before .before .is-bad-root .ensures) ∙ c .before .if1 .left)
 
 pub held-counted-spec : {M : Type 1} → statement M
 held-counted-spec =

@@ -1,29 +1,14 @@
--- `order_of` meets its contract: one law for each way through. Assumes nothing.
-use native.Mathlib.Omega.{arith}
-use mathlib.Core.Path.{_∙_}
-use Rattle.index.specs.Ways.{less-entity, greater-entity, less-attribute, greater-attribute, on-to-rest}
+-- `index::order_of` meets its contract. Assumes nothing.
+use Rattle.index.specs.Ways.{only-eavt}
 use borrow.Author.Needs.{needs}
 use Rattle.index.proofs.order_of.Statement.{statement}
 use Rattle.index.proofs.order_of.Tie as tie
 
+order-of-eavt-requires : tie.Need-order-of-eavt-requires
+order-of-eavt-requires c κs = search needs
+
 returns : tie.Need-returns
-returns c = less-entity _ _ (omega arith)
-
-returns-2 : tie.Need-returns-2
-returns-2 c = greater-entity _ _ (omega arith)
-
-returns-3 : tie.Need-returns-3
-returns-3 c = less-attribute _ _ (omega arith) (omega arith)
-
-returns-4 : tie.Need-returns-4
-returns-4 c = greater-attribute _ _ (omega arith) (omega arith)
-
-order-of-rest-requires : tie.Need-order-of-rest-requires
-order-of-rest-requires c κs = search needs
-
-returns-5 : tie.Need-returns-5
-returns-5 c = c .order-of-rest .ensures ∙ on-to-rest _ _ (omega arith) (omega arith)
+returns c = rw (only-eavt (c .before .before .args .by)) (c .order-of-eavt .ensures)
 
 pub order-of-spec : {M : Type 1} → statement M
-order-of-spec =
-    tie.close (tie.spec returns returns-2 returns-3 returns-4 order-of-rest-requires returns-5)
+order-of-spec = tie.close (tie.spec order-of-eavt-requires returns)

@@ -1,32 +1,42 @@
--- `order_of_rest` meets its contract: keys are in the values' order. Assumes nothing.
-use native.Mathlib.Omega.{arith}
-use Rattle.index.specs.Ways.{less-value, greater-value, less-word, greater-word, equal-word}
+-- `index::order_of_rest` meets its contract. Assumes nothing.
+use mathlib.Core.Path.{sym, _∙_}
 use borrow.Author.Needs.{needs}
 use Rattle.index.proofs.order_of_rest.Statement.{statement}
 use Rattle.index.proofs.order_of_rest.Tie as tie
 
-key-of-requires : tie.Need-key-of-requires
-key-of-requires c κs = search needs
+is-external-requires : tie.Need-is-external-requires
+is-external-requires c κs = search needs
 
-key-of-requires-2 : tie.Need-key-of-requires-2
-key-of-requires-2 c κs = search needs
+order-of-far-requires : tie.Need-order-of-far-requires
+order-of-far-requires c κs = search needs
 
 returns : tie.Need-returns
-returns c = less-value _ _ _ _ (omega arith)
+returns c = search needs
+
+is-external-requires-2 : tie.Need-is-external-requires-2
+is-external-requires-2 c κs = search needs
+
+order-of-far-requires-2 : tie.Need-order-of-far-requires-2
+order-of-far-requires-2 c κs = search needs
 
 returns-2 : tie.Need-returns-2
-returns-2 c = greater-value _ _ _ _ (omega arith)
+returns-2 c = search needs
+
+order-of-near-requires : tie.Need-order-of-near-requires
+order-of-near-requires c κs = (sym (c .before .before .before .is-external .ensures) ∙ c .before .before .if1 .left, sym (c .before .is-external2 .ensures) ∙ c .if2 .left)
 
 returns-3 : tie.Need-returns-3
-returns-3 c = less-word _ _ _ _ (omega arith) (omega arith)
-
-returns-4 : tie.Need-returns-4
-returns-4 c = greater-word _ _ _ _ (omega arith) (omega arith)
-
-returns-5 : tie.Need-returns-5
-returns-5 c = equal-word _ _ _ _ (omega arith) (omega arith)
+returns-3 c = search needs
 
 pub order-of-rest-spec : {M : Type 1} → statement M
 order-of-rest-spec =
     tie.close
-    (tie.spec key-of-requires key-of-requires-2 returns returns-2 returns-3 returns-4 returns-5)
+    (tie.spec
+    is-external-requires
+    order-of-far-requires
+    returns
+    is-external-requires-2
+    order-of-far-requires-2
+    returns-2
+    order-of-near-requires
+    returns-3)

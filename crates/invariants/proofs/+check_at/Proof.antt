@@ -7,7 +7,7 @@ use borrow.Author.Needs.{needs}
 use borrow.Author.Tests.{not-true, not-false}
 use borrow.Fn.Kinds.{In}
 use borrow.Fn.PlainCycle.{Measures, is, falls, and}
-use Rattle.index.specs.Order.{eavt}
+use Rattle.index.specs.Order.{orderIn}
 use Rattle.memory_store.specs.Opened.{opened-node}
 use Rattle.invariants.specs.Bounds.{boundOf}
 use Rattle.invariants.specs.Walk.{page-faulty}
@@ -25,14 +25,14 @@ use Rattle.invariants.proofs.+check_at.{statement}
 use Rattle.invariants.proofs.+check_at.Tie.{close}
 
 -- the level falls at each call
-abbrev level-of : Measures 1 check-at-kinds.ps ℕ
+abbrev level-of : Measures 2 check-at-kinds.ps ℕ
 level-of κs a = a .1 .1 .1 .0
 
-abbrev at : ℕ → In 1 check-at-kinds.ps
-at t = and 1 check-at-kinds.ps (is 1 check-at-kinds.ps level-of t) check-at.Pre
+abbrev at : ℕ → In 2 check-at-kinds.ps
+at t = and 2 check-at-kinds.ps (is 2 check-at-kinds.ps level-of t) check-at.Pre
 
-abbrev falling : ℕ → In 1 check-at-kinds.ps
-falling t = and 1 check-at-kinds.ps (falls 1 check-at-kinds.ps _<_ level-of t) check-at.Pre
+abbrev falling : ℕ → In 2 check-at-kinds.ps
+falling t = and 2 check-at-kinds.ps (falls 2 check-at-kinds.ps _<_ level-of t) check-at.Pre
 
 -- what the calls ask and give
 abbrev calls : ℕ → lts.Claims
@@ -54,19 +54,19 @@ calls t = (
 )
 
 abbrev Inv-loop : lts.InvT-loop
-Inv-loop store extent c level page k upper part i₀ last₀ midpoint₀ i last midpoint =
-    Along eavt extent store c level page k part (boundOf last₀) (boundOf upper) i (boundOf last) (boundOf midpoint)
+Inv-loop store extent c level page k upper by heap part i₀ last₀ midpoint₀ i last midpoint =
+    Along (orderIn by heap) extent store c level page k part (boundOf last₀) (boundOf upper) i (boundOf last) (boundOf midpoint)
 
 abbrev μ-loop : lts.MeasureT-loop
-μ-loop store extent c level page k upper part i₀ last₀ midpoint₀ i last midpoint = k + 1 - i
+μ-loop store extent c level page k upper by heap part i₀ last₀ midpoint₀ i last midpoint = k + 1 - i
 
 fetch-requires : (t : ℕ) → lts.Need-fetch-requires (calls t) (at t) check-at.Post Inv-loop μ-loop
 fetch-requires t c κs = search needs
 
 loop-holds : (t : ℕ) → lts.Need-loop-holds (calls t) (at t) check-at.Post Inv-loop μ-loop
-loop-holds t c = let a = c .before .before .args in
-    let P = c .before .before .pre .1 in
-    along-start eavt (a .extent) (a .store .now) (a .c) (a .level) (a .page) _ _ (boundOf (a .lower)) (boundOf (a .upper)) (P .0) (P .1) (P .2) (c .fetch .ensures)
+loop-holds t c = let a = c .before .before .before .args in
+    let P = c .before .before .before .pre .1 in
+    along-start (orderIn (a .by) (a .heap .now)) (a .extent) (a .store .now) (a .c) (a .level) (a .page) _ _ (boundOf (a .lower)) (boundOf (a .upper)) (P .0) (P .1) (P .2) (c .fetch .ensures)
 
 bound-at-requires : (t : ℕ) → lts.Need-bound-at-requires (calls t) (at t) check-at.Post Inv-loop μ-loop
 bound-at-requires t c κs = along-datoms (c .before .loop .inv)
@@ -101,11 +101,11 @@ enum-known-fault t c = search needs
 
 returns-2 : (t : ℕ) → lts.Need-returns-2 (calls t) (at t) check-at.Post Inv-loop μ-loop
 returns-2 t c = let k = c .before .before .before .before .before .before in
-    let a = k .before .before .before .before .before .before .before .before .args in
+    let a = k .before .before .before .before .before .before .before .before .before .args in
     along-unsound (k .before .before .before .before .before .loop .inv) (k .before .before .before .before .loop-test .taken) _ (k .before .before .before .bound-at .ensures)
     (sym (k .before .before .is-below .ensures) ∙ not-false _ (k .before .if1 .left)) _ (k .child-at .ensures)
     (sym (c .before .before .before .before .before .is-none .ensures) ∙ not-true _ (c .before .before .before .before .if2 .taken)) _
-    (page-faulty eavt (a .extent) (a .store .now) _ _ _ _ _ (sym (c .before .fault .given .1) ∙ c .before .before .before .open-at .ensures)) _ _ refl
+    (page-faulty (orderIn (a .by) (a .heap .now)) (a .extent) (a .store .now) _ _ _ _ _ (sym (c .before .fault .given .1) ∙ c .before .before .before .open-at .ensures)) _ _ refl
 
 enum-known-n : (t : ℕ) → lts.Need-enum-known-n (calls t) (at t) check-at.Post Inv-loop μ-loop
 enum-known-n t c = search needs
@@ -117,8 +117,8 @@ check-at-requires t c κs = let k = c .before .before .before .before .before .b
     (sym (k .before .before .is-below .ensures) ∙ not-false _ (k .before .if1 .left)) _ (k .child-at .ensures)
     (sym (c .before .before .before .before .before .is-none .ensures) ∙ not-true _ (c .before .before .before .before .if2 .taken)) in
     let z = k .before .before .before .before .before .before .before .before in
-    let read = opened-node eavt (z .args .extent) (z .args .store .now) _ _ _ (sym (c .before .n .given .1) ∙ c .before .before .before .open-at .ensures) in
-    (omega (arith, up, z .pre .0), (A .good, A .room, read))
+    let read = opened-node (orderIn (z .before .args .by) (z .before .args .heap .now)) (z .before .args .extent) (z .before .args .store .now) _ _ _ (sym (c .before .n .given .1) ∙ c .before .before .before .open-at .ensures) in
+    (omega (arith, up, z .before .pre .0), (A .good, A .room, read))
 
 enum-told : (t : ℕ) → lts.Need-enum-told (calls t) (at t) check-at.Post Inv-loop μ-loop
 enum-told t c = search needs

@@ -4,7 +4,7 @@ use native.Mathlib.Omega.{arith}
 use mathlib.Core.Path.{_≡_, sym}
 use Rattle.datom.specs.Datom.{datomAt}
 use Rattle.index.specs.declared.Order.the-variants.{Less, Equal, Greater}
-use Rattle.index.specs.Order.{eavt, named}
+use Rattle.index.specs.Order.{orderIn, named}
 use Rattle.index.specs.Named.{less-named, equal-named, greater-named}
 use Rattle.lookup.specs.Steps.{same-past, same-at}
 use borrow.Author.Needs.{needs}
@@ -13,8 +13,8 @@ use Rattle.lookup.proofs.is_met.Tie as tie
 
 returns : tie.Need-returns
 returns c =
-    let a = c .before .before .args in
-    sym (same-past (eavt .cmp) (a .d) (a .k) (a .i) (a .page .now) (omega arith))
+    let a = c .before .before .before .args in
+    sym (same-past (orderIn (a .by) (a .heap .now) .cmp) (a .d) (a .k) (a .i) (a .page .now) (omega arith))
 
 mul-datom-at : tie.Need-mul-datom-at
 mul-datom-at c = search needs
@@ -36,21 +36,21 @@ enum-told-3 c = search needs
 
 returns-2 : tie.Need-returns-2
 returns-2 c =
-    let a = c .before .before .before .before .before .before .args in
-    let e : named (eavt .cmp (datomAt (a .page .now) (32 * a .i)) (a .d)) ≡ Less = cc (c .enum-told .given .1) in
-    rw (same-at (eavt .cmp) (a .d) (a .k) (a .i) (a .page .now) (omega arith), less-named _ e .1)
+    let a = c .before .before .before .before .before .before .before .args in
+    let e : named (orderIn (a .by) (a .heap .now) .cmp (datomAt (a .page .now) (32 * a .i)) (a .d)) ≡ Less = cc (c .enum-told .given .1) in
+    rw (same-at (orderIn (a .by) (a .heap .now) .cmp) (a .d) (a .k) (a .i) (a .page .now) (omega arith), less-named _ e .1)
 
 returns-3 : tie.Need-returns-3
 returns-3 c =
-    let a = c .before .before .before .before .before .before .args in
-    let e : named (eavt .cmp (datomAt (a .page .now) (32 * a .i)) (a .d)) ≡ Equal = cc (c .enum-told2 .given .1) in
-    rw (same-at (eavt .cmp) (a .d) (a .k) (a .i) (a .page .now) (omega arith), equal-named _ e .1)
+    let a = c .before .before .before .before .before .before .before .args in
+    let e : named (orderIn (a .by) (a .heap .now) .cmp (datomAt (a .page .now) (32 * a .i)) (a .d)) ≡ Equal = cc (c .enum-told2 .given .1) in
+    rw (same-at (orderIn (a .by) (a .heap .now) .cmp) (a .d) (a .k) (a .i) (a .page .now) (omega arith), equal-named _ e .1)
 
 returns-4 : tie.Need-returns-4
 returns-4 c =
-    let a = c .before .before .before .before .before .before .args in
-    let e : named (eavt .cmp (datomAt (a .page .now) (32 * a .i)) (a .d)) ≡ Greater = cc (c .enum-told3 .given .1) in
-    rw (same-at (eavt .cmp) (a .d) (a .k) (a .i) (a .page .now) (omega arith), greater-named _ e .1)
+    let a = c .before .before .before .before .before .before .before .args in
+    let e : named (orderIn (a .by) (a .heap .now) .cmp (datomAt (a .page .now) (32 * a .i)) (a .d)) ≡ Greater = cc (c .enum-told3 .given .1) in
+    rw (same-at (orderIn (a .by) (a .heap .now) .cmp) (a .d) (a .k) (a .i) (a .page .now) (omega arith), greater-named _ e .1)
 
 pub is-met-spec : {M : Type 1} → statement M
 is-met-spec =

@@ -10,16 +10,16 @@ mul-last c = search needs
 element-copy-out-last : tie.Need-element-copy-out-last
 element-copy-out-last c = search needs
 
-mul-t14 : tie.Need-mul-t14
-mul-t14 c = search needs
+mul-t16 : tie.Need-mul-t16
+mul-t16 c = search needs
 
-element-copy-out-t17 : tie.Need-element-copy-out-t17
-element-copy-out-t17 c = search needs
+element-copy-out-t19 : tie.Need-element-copy-out-t19
+element-copy-out-t19 c = search needs
 
 returns : tie.Need-returns
 returns c =
-    let a = c .before .before .before .before .before .before .args in
-    kept-hit (c .before .before .before .before .before .before .pre .2) (a .level) (c .before .before .before .before .before .before .pre .3) (a .page) (c .before .before .before .before .before .before .pre .4) (c .before .if1 .taken)
+    let a = c .before .before .before .before .before .before .before .args in
+    kept-hit (c .before .before .before .before .before .before .before .pre .2) (a .level) (c .before .before .before .before .before .before .before .pre .3) (a .page) (c .before .before .before .before .before .before .before .pre .4) (c .before .if1 .taken)
 
 open-at-requires : tie.Need-open-at-requires
 open-at-requires c κs = search needs
@@ -33,8 +33,8 @@ open-at-spec =
     (tie.spec
     mul-last
     element-copy-out-last
-    mul-t14
-    element-copy-out-t17
+    mul-t16
+    element-copy-out-t19
     returns
     open-at-requires
     returns-2)

@@ -1,6 +1,7 @@
 -- `look_at` meets its contract. Assumes nothing.
 use mathlib.Core.Path.{sym, _∙_, ap}
-use Rattle.index.specs.Order.{eavt}
+use Rattle.index.specs.declared.Index.the-variants.{Eavt}
+use Rattle.index.specs.Order.{orderIn}
 use Rattle.memory_store.specs.Reading.{said}
 use Rattle.probe.specs.Seen.{shown, unread}
 use Rattle.probe.specs.Laws.{look-none, look-fits, look-broken, look-good}
@@ -15,7 +16,7 @@ returns : tie.Need-returns
 returns c = look-none _ _ _ _ (c .before .capacity-of .ensures) (c .if1 .taken)
 
 read-page-requires : tie.Need-read-page-requires
-read-page-requires c κs = look-fits (c .before .before .before .args .bytes .now) _ (c .before .capacity-of .ensures) (c .if1 .left)
+read-page-requires c κs = look-fits (c .before .before .before .before .args .bytes .now) _ (c .before .capacity-of .ensures) (c .if1 .left)
 
 enum-known-rule : tie.Need-enum-known-rule
 enum-known-rule c = search needs
@@ -29,15 +30,15 @@ enum-known-level c = search needs
 returns-2 : tie.Need-returns-2
 unfolding shown
 returns-2 c =
-    let a = c .before .before .before .before .before .before .before .before .args in
+    let a = c .before .before .before .before .before .before .before .before .before .args in
     ap unread (c .number .ensures)
-    ∙ look-broken eavt (a .bytes .now) (a .id) _ (c .before .before .before .before .before .before .capacity-of .ensures) (c .before .before .before .before .before .if1 .left) _
+    ∙ look-broken (orderIn Eavt (a .heap .now)) (a .bytes .now) (a .id) _ (c .before .before .before .before .before .before .capacity-of .ensures) (c .before .before .before .before .before .if1 .left) _
     (sym (ap (said _ (a .bytes .now)) (c .before .before .rule .given .1)) ∙ c .before .before .before .before .read-page .ensures)
 
 returns-3 : tie.Need-returns-3
 returns-3 c =
-    let a = c .before .before .before .before .before .before .before .args in
-    look-good eavt (a .bytes .now) (a .id) _ (c .before .before .before .before .before .capacity-of .ensures) (c .before .before .before .before .if1 .left) _ _
+    let a = c .before .before .before .before .before .before .before .before .args in
+    look-good (orderIn Eavt (a .heap .now)) (a .bytes .now) (a .id) _ (c .before .before .before .before .before .capacity-of .ensures) (c .before .before .before .before .if1 .left) _ _
     (sym (ap (said _ (a .bytes .now)) (c .before .level .given .1)) ∙ c .before .before .before .read-page .ensures)
 
 pub look-at-spec : {M : Type 1} → statement M

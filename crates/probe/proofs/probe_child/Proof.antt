@@ -26,7 +26,7 @@ returns c = of-unread _ _ _ _ (c .enum-told .given .1) (c .before .before .look-
 returns-2 : tie.Need-returns-2
 unfolding nodeOf
 returns-2 c =
-    let a = c .before .before .before .before .before .before .args in
+    let a = c .before .before .before .before .before .before .before .args in
     ap (λ (p : PageId). p .0) (child-past (a .bytes .now) (capacity (length (a .bytes .now))) _ (a .i) (c .if1 .taken))
     ∙ of-good _ _ _ (c .before .before .count .given .1) (c .before .before .before .before .look-at .ensures) (λ n. getD (n .children) (a .i) none .0)
 
@@ -41,7 +41,7 @@ child-at-requires c κs =
 returns-3 : tie.Need-returns-3
 unfolding nodeOf
 returns-3 c =
-    let a = c .before .before .before .before .before .before .before .before .args in
+    let a = c .before .before .before .before .before .before .before .before .before .args in
     let k = c .before .before .before .before .count .given .0 .1 .0 in
     let e = child-here (a .bytes .now) (capacity (length (a .bytes .now))) k (a .i) (omega arith) in
     ap (λ (p : PageId). p .0) (c .child-at .ensures ∙ rw (c .before .capacity-of .ensures) e)

@@ -24,7 +24,7 @@ returns c = of-unread _ _ _ _ (c .enum-told .given .1) (c .before .before .look-
 returns-2 : tie.Need-returns-2
 unfolding nodeOf
 returns-2 c =
-    sym (cells-length datomOf 32 _ (c .before .before .before .before .before .args .bytes .now))
+    sym (cells-length datomOf 32 _ (c .before .before .before .before .before .before .args .bytes .now))
     ∙ of-good _ _ _ (c .before .count .given .1) (c .before .before .before .look-at .ensures) (λ n. length (n .datoms))
 
 pub probe-count-spec : {M : Type 1} → statement M

@@ -4,7 +4,8 @@ use native.Mathlib.Omega.{arith}
 use mathlib.Core.Path.{_∙_, ap}
 use Rattle.datom.specs.declared.Datom.{Datom}
 use Rattle.datom.specs.Datom.{datomsOf}
-use Rattle.index.specs.Order.{eavt}
+use Rattle.index.specs.declared.Index.the-variants.{Eavt}
+use Rattle.index.specs.Order.{orderIn}
 use Rattle.rules.specs.Page.{nodeOf}
 use Rattle.rules.specs.Node.{rank}
 use Rattle.probe.specs.Seen.{ofDatom}
@@ -28,8 +29,8 @@ returns c = of-unread _ _ _ _ (c .enum-told .given .1) (c .before .before .look-
 returns-2 : tie.Need-returns-2
 unfolding nodeOf
 returns-2 c =
-    let a = c .before .before .before .before .before .before .before .args in
-    of-others _ _ (c .if1 .taken) ∙ of-good _ _ _ (c .before .before .count .given .1) (c .before .before .before .before .look-at .ensures) (λ n. ofDatom (λ d. rank (eavt .cmp) d (n .datoms)) (a .sought .now))
+    let a = c .before .before .before .before .before .before .before .before .args in
+    of-others _ _ (c .if1 .taken) ∙ of-good _ _ _ (c .before .before .count .given .1) (c .before .before .before .before .look-at .ensures) (λ n. ofDatom (λ d. rank (orderIn Eavt (a .heap .now) .cmp) d (n .datoms)) (a .sought .now))
 
 datom-at-requires : tie.Need-datom-at-requires
 datom-at-requires c κs = search needs
@@ -42,12 +43,12 @@ first-not-below-requires c κs =
 returns-3 : tie.Need-returns-3
 unfolding nodeOf
 returns-3 c =
-    let a = c .before .before .before .before .before .before .before .before .before .args in
-    let place : Datom → ℕ = λ d. rank (eavt .cmp) d (datomsOf (c .before .before .before .before .count .given .0 .1 .0) (a .bytes .now)) in
+    let a = c .before .before .before .before .before .before .before .before .before .before .args in
+    let place : Datom → ℕ = λ d. rank (orderIn Eavt (a .heap .now) .cmp) d (datomsOf (c .before .before .before .before .count .given .0 .1 .0) (a .bytes .now)) in
     c .first-not-below .ensures
     ∙ (ap place (c .before .datom-at .ensures)
     ∙ (of-datom place (a .sought .now) (c .before .before .if1 .left)
-    ∙ of-good _ _ _ (c .before .before .before .before .count .given .1) (c .before .before .before .before .before .before .look-at .ensures) (λ n. ofDatom (λ d. rank (eavt .cmp) d (n .datoms)) (a .sought .now))))
+    ∙ of-good _ _ _ (c .before .before .before .before .count .given .1) (c .before .before .before .before .before .before .look-at .ensures) (λ n. ofDatom (λ d. rank (orderIn Eavt (a .heap .now) .cmp) d (n .datoms)) (a .sought .now))))
 
 pub probe-first-spec : {M : Type 1} → statement M
 probe-first-spec =

@@ -41,7 +41,7 @@ enum-told-2 c = search needs
 returns-2 : tie.Need-returns-2
 unfolding nodeOf
 returns-2 c =
-    let a = c .before .before .before .before .before .before .before .before .before .before .args in
+    let a = c .before .before .before .before .before .before .before .before .before .before .before .args in
     let e = rw (c .before .before .before .before .capacity-of .ensures) at (c .before .before .before .next-midpoint .ensures) in
     ap (λ (m : NextMidpoint). childOf m .0) (sym (c .before .child .given .1) ∙ e)
     ∙ of-good _ _ _ (c .before .before .before .before .before .before .count .given .1) (c .before .before .before .before .before .before .before .before .look-at .ensures) (λ n. childOf (nextMidpoint (drop (a .from) (n .children))) .0)
@@ -49,7 +49,7 @@ returns-2 c =
 returns-3 : tie.Need-returns-3
 unfolding nodeOf
 returns-3 c =
-    let a = c .before .before .before .before .before .before .before .before .before .args in
+    let a = c .before .before .before .before .before .before .before .before .before .before .args in
     let e = rw (c .before .before .before .capacity-of .ensures) at (c .before .before .next-midpoint .ensures) in
     ap (λ (m : NextMidpoint). childOf m .0) (sym (c .enum-told2 .given .1) ∙ e)
     ∙ of-good _ _ _ (c .before .before .before .before .before .count .given .1) (c .before .before .before .before .before .before .before .look-at .ensures) (λ n. childOf (nextMidpoint (drop (a .from) (n .children))) .0)

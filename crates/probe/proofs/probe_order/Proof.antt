@@ -1,7 +1,8 @@
 -- `probe_order` meets its contract. Assumes nothing.
 use mathlib.Core.Path.{sym, _∙_, ap, ap₂}
 use Rattle.datom.specs.declared.Datom.{Datom}
-use Rattle.index.specs.Order.{eavt, named}
+use Rattle.index.specs.declared.Index.the-variants.{Eavt}
+use Rattle.index.specs.Order.{orderIn, named}
 use Rattle.probe.specs.Seen.{orderNumber}
 use Rattle.probe.specs.Laws.{of-others, ordered, not-ordered}
 use borrow.Author.Needs.{needs}
@@ -12,7 +13,7 @@ returns : tie.Need-returns
 returns c = of-others _ _ (c .if1 .taken)
 
 returns-2 : tie.Need-returns-2
-returns-2 c = not-ordered eavt _ _ (c .before .if1 .left) (c .if2 .taken)
+returns-2 c = not-ordered (orderIn Eavt _) _ _ (c .before .if1 .left) (c .if2 .taken)
 
 datom-at-requires : tie.Need-datom-at-requires
 datom-at-requires c κs = search needs
@@ -34,24 +35,24 @@ enum-told-3 c = search needs
 
 returns-3 : tie.Need-returns-3
 returns-3 c =
-    let a = c .before .before .before .before .before .before .before .before .before .args in
+    let a = c .before .before .before .before .before .before .before .before .before .before .args in
     ap orderNumber (sym (c .enum-told .given .1))
-    ∙ ordered eavt (a .a .now) (a .b .now) (c .before .before .before .before .before .before .if1 .left) (c .before .before .before .before .before .if2 .left)
-    (c .before .before .order-of .ensures ∙ ap₂ (λ (x y : Datom). named (eavt .cmp x y)) (c .before .before .before .before .datom-at .ensures) (c .before .before .before .datom-at2 .ensures))
+    ∙ ordered (orderIn Eavt (a .heap .now)) (a .a .now) (a .b .now) (c .before .before .before .before .before .before .if1 .left) (c .before .before .before .before .before .if2 .left)
+    (c .before .before .order-of .ensures ∙ ap₂ (λ (x y : Datom). named (orderIn Eavt (a .heap .now) .cmp x y)) (c .before .before .before .before .datom-at .ensures) (c .before .before .before .datom-at2 .ensures))
 
 returns-4 : tie.Need-returns-4
 returns-4 c =
-    let a = c .before .before .before .before .before .before .before .before .before .args in
+    let a = c .before .before .before .before .before .before .before .before .before .before .args in
     ap orderNumber (sym (c .enum-told2 .given .1))
-    ∙ ordered eavt (a .a .now) (a .b .now) (c .before .before .before .before .before .before .if1 .left) (c .before .before .before .before .before .if2 .left)
-    (c .before .before .order-of .ensures ∙ ap₂ (λ (x y : Datom). named (eavt .cmp x y)) (c .before .before .before .before .datom-at .ensures) (c .before .before .before .datom-at2 .ensures))
+    ∙ ordered (orderIn Eavt (a .heap .now)) (a .a .now) (a .b .now) (c .before .before .before .before .before .before .if1 .left) (c .before .before .before .before .before .if2 .left)
+    (c .before .before .order-of .ensures ∙ ap₂ (λ (x y : Datom). named (orderIn Eavt (a .heap .now) .cmp x y)) (c .before .before .before .before .datom-at .ensures) (c .before .before .before .datom-at2 .ensures))
 
 returns-5 : tie.Need-returns-5
 returns-5 c =
-    let a = c .before .before .before .before .before .before .before .before .before .args in
+    let a = c .before .before .before .before .before .before .before .before .before .before .args in
     ap orderNumber (sym (c .enum-told3 .given .1))
-    ∙ ordered eavt (a .a .now) (a .b .now) (c .before .before .before .before .before .before .if1 .left) (c .before .before .before .before .before .if2 .left)
-    (c .before .before .order-of .ensures ∙ ap₂ (λ (x y : Datom). named (eavt .cmp x y)) (c .before .before .before .before .datom-at .ensures) (c .before .before .before .datom-at2 .ensures))
+    ∙ ordered (orderIn Eavt (a .heap .now)) (a .a .now) (a .b .now) (c .before .before .before .before .before .before .if1 .left) (c .before .before .before .before .before .if2 .left)
+    (c .before .before .order-of .ensures ∙ ap₂ (λ (x y : Datom). named (orderIn Eavt (a .heap .now) .cmp x y)) (c .before .before .before .before .datom-at .ensures) (c .before .before .before .datom-at2 .ensures))
 
 pub probe-order-spec : {M : Type 1} → statement M
 probe-order-spec =

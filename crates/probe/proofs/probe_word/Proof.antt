@@ -24,13 +24,13 @@ returns c = of-unread _ _ _ _ (c .enum-told .given .1) (c .before .before .look-
 returns-2 : tie.Need-returns-2
 unfolding nodeOf
 returns-2 c =
-    let a = c .before .before .before .before .before .before .args in
+    let a = c .before .before .before .before .before .before .before .args in
     word-past (a .bytes .now) _ _ _ (c .if1 .taken) ∙ of-good _ _ _ (c .before .before .count .given .1) (c .before .before .before .before .look-at .ensures) (λ n. headWord (a .j) (drop (a .i) (n .datoms)))
 
 returns-3 : tie.Need-returns-3
 unfolding nodeOf
 returns-3 c =
-    let a = c .before .before .before .before .before .before .before .args in
+    let a = c .before .before .before .before .before .before .before .before .args in
     word-none _ _ (c .if2 .taken) ∙ of-good _ _ _ (c .before .before .before .count .given .1) (c .before .before .before .before .before .look-at .ensures) (λ n. headWord (a .j) (drop (a .i) (n .datoms)))
 
 mul-word : tie.Need-mul-word
@@ -54,7 +54,7 @@ word-requires c κs =
 returns-4 : tie.Need-returns-4
 unfolding nodeOf
 returns-4 c =
-    let a = c .before .before .before .before .before .before .before .before .args in
+    let a = c .before .before .before .before .before .before .before .before .before .args in
     c .word .ensures
     ∙ (word-here (a .bytes .now) _ _ _ (omega arith) (omega arith)
     ∙ of-good _ _ _ (c .before .before .before .before .count .given .1) (c .before .before .before .before .before .before .look-at .ensures) (λ n. headWord (a .j) (drop (a .i) (n .datoms))))

@@ -1,7 +1,8 @@
 -- `probe_write` meets its contract. Assumes nothing.
 use native.Mathlib.Omega.{arith}
 use mathlib.Core.Path.{_∙_}
-use Rattle.index.specs.Order.{eavt}
+use Rattle.index.specs.declared.Index.the-variants.{Eavt}
+use Rattle.index.specs.Order.{orderIn}
 use Rattle.probe.specs.Laws.{good-held, not-written, no-place, written}
 use borrow.Author.Needs.{needs}
 use Rattle.probe.proofs.probe_write.Statement.{statement}
@@ -36,8 +37,8 @@ same-length c = search needs
 
 returns-3 : tie.Need-returns-3
 returns-3 c =
-    let a = c .before .before .before .before .before .before .before .before .before .before .before .before .args in
-    let w = written eavt (a .bytes .now) (a .free .now) (a .id) (c .before .before .before .before .before .before .before .level .given .1) (c .before .before .before .before .before .before .before .before .before .look-at .ensures) (omega arith) in
+    let a = c .before .before .before .before .before .before .before .before .before .before .before .before .before .args in
+    let w = written (orderIn Eavt (a .heap .now)) (a .bytes .now) (a .free .now) (a .id) (c .before .before .before .before .before .before .before .level .given .1) (c .before .before .before .before .before .before .before .before .before .look-at .ensures) (omega arith) in
     (w .0, c .before .before .write-page .ensures ∙ (rw (c .before .before .before .before .capacity-of .ensures) (w .1)))
 
 pub probe-write-spec : {M : Type 1} → statement M

@@ -2,11 +2,10 @@
 use Prim.Native.Nat.{ℕ}
 use mathlib.Core.Path.{_≡_, _∙_, ap, subst}
 use lib.ListN.{length}
-use Rattle.index.specs.Order.{eavt}
-use Rattle.rules.specs.Insert.{insert}
+use Rattle.rules.specs.Calls.{extentOf, insertCall}
 use Rattle.entry.specs.Reply.{Replies}
 use Rattle.records.specs.Laid.{firstOf}
-use Rattle.records.specs.Handed.{insert-first}
+use Rattle.records.specs.Handed.{insert-call-first}
 use borrow.Author.Needs.{needs}
 use Rattle.records.proofs.insert_array.Statement.{statement}
 use Rattle.records.proofs.insert_array.Tie as tie
@@ -25,12 +24,12 @@ same-length-2 c = search needs
 
 returns : tie.Need-returns
 returns c =
-    let a = c .before .before .before .before .before .before .before .before .before .before .before .before .before .args in
+    let a = c .before .before .before .before .before .before .before .before .before .before .before .before .before .before .args in
     let l = c .before .before .before .before .before .before .before .before .before .lay-array in
     let s = l .last .1 .1 .0 in
     let same : length s ≡ length (a .s .now) = l .kept .1 .1 .0 in
-    subst (Replies (a .extent) (a .store .now) _ _)
-    (insert-first (a .extent) (a .store .now) (a .n) (a .batch) s (l .ensures) eavt (a .root) ∙ ap (λ (k : ℕ). insert eavt (a .extent) (a .store .now) k (a .root) (firstOf (a .n) (a .batch))) same)
+    subst (Replies (extentOf (a .recorded)) (a .store .now) _ _)
+    (insert-call-first (a .recorded) (a .store .now) (a .heap .now) (a .n) (a .batch) s (l .ensures) (a .root) ∙ ap (λ (k : ℕ). insertCall (a .recorded) (a .store .now) (a .heap .now) k (a .root) (firstOf (a .n) (a .batch))) same)
     (c .before .before .before .before .insert-laid .ensures)
 
 pub insert-array-spec : {M : Type 1} → statement M

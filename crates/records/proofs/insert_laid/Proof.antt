@@ -18,13 +18,13 @@ handed-length-requires c κs = search needs
 array-share-prefix-b : tie.Need-array-share-prefix-b
 unfolding handedArea
 array-share-prefix-b c =
-    let a = c .before .before .before .before .before .before .before .before .args in
+    let a = c .before .before .before .before .before .before .before .before .before .args in
     handed-fits (a .n) (a .s .now) _ _ (c .before .handed-length .ensures) (c .before .before .before .hand .ensures)
 
 slice-aggregate-insert : tie.Need-slice-aggregate-insert
 unfolding handedArea
 slice-aggregate-insert c =
-    let a = c .before .before .before .before .before .before .before .before .before .args in
+    let a = c .before .before .before .before .before .before .before .before .before .before .args in
     sym (length-take-le _ _ (handed-fits (a .n) (a .s .now) _ _ (c .before .before .handed-length .ensures) (c .before .before .before .before .hand .ensures)))
 
 insert-requires : tie.Need-insert-requires

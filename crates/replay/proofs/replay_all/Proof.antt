@@ -5,10 +5,10 @@ use Rattle.replay.proofs.replay_all.Statement.{statement}
 use Rattle.replay.proofs.replay_all.Tie as tie
 
 abbrev Inv-loop : tie.InvT-loop
-Inv-loop store₀ scratch₀ recorded₀ counts₀ turns₀ turn₀ store scratch recorded counts turns turn = Unit {0}
+Inv-loop store₀ heap₀ scratch₀ recorded₀ counts₀ turns₀ turn₀ store heap scratch recorded counts turns turn = Unit {0}
 
 abbrev μ-loop : tie.MeasureT-loop
-μ-loop store₀ scratch₀ recorded₀ counts₀ turns₀ turn₀ store scratch recorded counts turns turn = turns
+μ-loop store₀ heap₀ scratch₀ recorded₀ counts₀ turns₀ turn₀ store heap scratch recorded counts turns turn = turns
 
 loop-holds : tie.Need-loop-holds Inv-loop μ-loop
 loop-holds c = search needs

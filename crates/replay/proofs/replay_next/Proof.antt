@@ -18,7 +18,7 @@ slice-reshare-prefix-replay : tie.Need-slice-reshare-prefix-replay
 slice-reshare-prefix-replay c = search needs
 
 slice-aggregate-replay : tie.Need-slice-aggregate-replay
-slice-aggregate-replay c = sym (length-take-le _ _ (c .before .before .before .before .before .before .next .ensures))
+slice-aggregate-replay c = sym (length-take-le _ _ (c .before .before .before .before .before .before .before .next .ensures))
 
 replay-requires : tie.Need-replay-requires
 replay-requires c κs = search needs
@@ -31,6 +31,9 @@ same-length-3 c = search needs
 
 same-length-4 : tie.Need-same-length-4
 same-length-4 c = search needs
+
+same-length-5 : tie.Need-same-length-5
+same-length-5 c = search needs
 
 returns-2 : tie.Need-returns-2
 returns-2 c = search needs
@@ -48,4 +51,5 @@ replay-next-spec =
     same-length-2
     same-length-3
     same-length-4
+    same-length-5
     returns-2)

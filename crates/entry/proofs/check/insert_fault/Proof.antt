@@ -6,8 +6,8 @@ use borrow.Author.Needs.{needs}
 use Rattle.entry.proofs.check.insert_fault.Statement.{statement}
 use Rattle.entry.proofs.check.insert_fault.Tie as tie
 
-form-fault-requires : tie.Need-form-fault-requires
-form-fault-requires c κs = search needs
+word-fault-requires : tie.Need-word-fault-requires
+word-fault-requires c κs = search needs
 
 enum-known-refusal : tie.Need-enum-known-refusal
 enum-known-refusal c = search needs
@@ -19,16 +19,16 @@ order-fault-requires : tie.Need-order-fault-requires
 order-fault-requires c κs = search needs
 
 returns : tie.Need-returns
-returns c = fault-form _ _ _ (sym (ap findingOf (c .before .refusal .given .1)) ∙ c .before .before .before .form-fault .ensures)
+returns c = fault-form _ _ _ (sym (ap findingOf (c .before .refusal .given .1)) ∙ c .before .before .before .word-fault .ensures _)
 
 returns-2 : tie.Need-returns-2
-returns-2 c = fault-order _ _ (sym (ap findingOf (c .before .enum-told .given .1)) ∙ c .before .before .before .form-fault .ensures) _ (c .order-fault .ensures)
+returns-2 c = fault-order _ _ (sym (ap findingOf (c .before .enum-told .given .1)) ∙ c .before .before .before .word-fault .ensures _) _ (c .order-fault .ensures)
 
 pub insert-fault-spec : {M : Type 1} → statement M
 insert-fault-spec =
     tie.close
     (tie.spec
-    form-fault-requires
+    word-fault-requires
     enum-known-refusal
     enum-told
     order-fault-requires

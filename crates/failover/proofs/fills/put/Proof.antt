@@ -5,10 +5,10 @@ use Rattle.failover.proofs.fills.put.Statement.{statement}
 use Rattle.failover.proofs.fills.put.Tie as tie
 
 abbrev Inv-loop : tie.InvT-loop
-Inv-loop batch₀ first n i₀ batch i = i ≤ n
+Inv-loop batch₀ heap₀ used first n end₀ i₀ batch heap end i = i ≤ n
 
 abbrev μ-loop : tie.MeasureT-loop
-μ-loop batch₀ first n i₀ batch i = n - i
+μ-loop batch₀ heap₀ used first n end₀ i₀ batch heap end i = n - i
 
 loop-holds : tie.Need-loop-holds Inv-loop μ-loop
 loop-holds c = search needs

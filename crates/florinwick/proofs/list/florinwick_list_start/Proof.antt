@@ -18,6 +18,9 @@ returns-2 c =
     let t = c .before .before .refuse .ensures in
     start-unkept _ _ _ _ _ _ _ _ _ _ (c .before .before .before .before .before .if1 .left) (c .before .before .before .before .if2 .taken) (t .0) (t .1)
 
+record-in-requires : tie.Need-record-in-requires
+record-in-requires c κs = search needs
+
 start-between-requires : tie.Need-start-between-requires
 start-between-requires c κs = search needs
 
@@ -32,11 +35,12 @@ same-length-3 c = search needs
 
 returns-3 : tie.Need-returns-3
 returns-3 c =
-    let if1 = c .before .before .before .before .before .before .before .before .before .if1 in
-    let if2 = c .before .before .before .before .before .before .before .before .if2 in
+    let record-in = c .before .before .before .before .before .before .before .before .record-in in
+    let if1 = c .before .before .before .before .before .before .before .before .before .before .if1 in
+    let if2 = c .before .before .before .before .before .before .before .before .before .if2 in
     let start-between = c .before .before .before .before .before .before .before .start-between in
     let t = c .before .before .before .before .keep-start .ensures in
-    start-kept _ _ _ _ _ _ _ _ _ _ _ _ (if1 .left) (if2 .left) (start-between .ensures) (t .0 .0) (t .0 .1) (t .1)
+    start-kept _ _ _ _ _ _ _ _ _ _ _ _ (if1 .left) (if2 .left) (rw (record-in .ensures) at (start-between .ensures)) (t .0 .0) (t .0 .1) (t .1)
 
 pub florinwick-list-start-spec : {M : Type 1} → statement M
 florinwick-list-start-spec =
@@ -46,6 +50,7 @@ florinwick-list-start-spec =
     refuse-requires
     same-length
     returns-2
+    record-in-requires
     start-between-requires
     keep-start-requires
     same-length-2

@@ -32,6 +32,9 @@ returns-3 c =
     let t = c .before .before .refuse2 .ensures in
     step-no-datom _ _ _ _ _ _ _ _ (if1 .left) (if2 .left) (if3 .taken) (t .0) (t .1)
 
+record-in-requires : tie.Need-record-in-requires
+record-in-requires c κs = search needs
+
 cursor-in-requires : tie.Need-cursor-in-requires
 cursor-in-requires c κs = search needs
 
@@ -52,13 +55,14 @@ same-length-5 c = search needs
 
 returns-4 : tie.Need-returns-4
 returns-4 c =
-    let if1 = c .before .before .before .before .before .before .before .before .before .before .before .before .before .before .before .if1 in
-    let if2 = c .before .before .before .before .before .before .before .before .before .before .before .before .before .before .if2 in
-    let if3 = c .before .before .before .before .before .before .before .before .before .before .before .before .before .if3 in
+    let record-in = c .before .before .before .before .before .before .before .before .before .before .before .before .before .record-in in
+    let if1 = c .before .before .before .before .before .before .before .before .before .before .before .before .before .before .before .before .if1 in
+    let if2 = c .before .before .before .before .before .before .before .before .before .before .before .before .before .before .before .if2 in
+    let if3 = c .before .before .before .before .before .before .before .before .before .before .before .before .before .before .if3 in
     let cursor-in = c .before .before .before .before .before .before .before .before .before .before .before .cursor-in in
     let step = c .before .before .before .before .before .before .before .before .before .before .step in
     let t = c .before .before .before .before .before .before .keep-step .ensures in
-    step-kept _ _ _ _ _ _ _ _ _ _ _ (if1 .left) (if2 .left) (if3 .left) (rw (cursor-in .ensures) at (step .ensures)) (t .0 .0) (t .0 .1) (t .1 .0)
+    step-kept _ _ _ _ _ _ _ _ _ _ _ (if1 .left) (if2 .left) (if3 .left) (rw (record-in .ensures, cursor-in .ensures) at (step .ensures)) (t .0 .0) (t .0 .1) (t .1 .0)
     (t .1 .1)
 
 pub florinwick-list-step-spec : {M : Type 1} → statement M
@@ -72,6 +76,7 @@ florinwick-list-step-spec =
     refuse-requires-2
     same-length-2
     returns-3
+    record-in-requires
     cursor-in-requires
     step-requires
     keep-step-requires

@@ -1,5 +1,5 @@
 -- `is_above` meets its contract. Assumes nothing.
-use Rattle.index.specs.Order.{eavt}
+use Rattle.index.specs.Order.{orderIn}
 use Rattle.invariants.specs.Bounds.{above-nothing, above-at}
 use Rattle.index.specs.Named.{less-named, equal-named, greater-named}
 use mathlib.Core.Bool.{true, false}
@@ -27,19 +27,19 @@ enum-told-4 : tie.Need-enum-told-4
 enum-told-4 c = search needs
 
 returns : tie.Need-returns
-returns c = let a = c .before .before .args in above-nothing eavt (a .lower) (a .d) (c .enum-told .given .1)
+returns c = let a = c .before .before .before .args in above-nothing (orderIn (a .by) (a .heap .now)) (a .lower) (a .d) (c .enum-told .given .1)
 
 returns-2 : tie.Need-returns-2
-returns-2 c = let a = c .before .before .before .before .before .before .args in
-    above-at eavt (a .lower) _ (a .d) true (c .before .before .before .before .lower .given .1) (less-named _ (sym (c .before .before .order-of .ensures) ∙ c .enum-told2 .given .1) .0)
+returns-2 c = let a = c .before .before .before .before .before .before .before .args in
+    above-at (orderIn (a .by) (a .heap .now)) (a .lower) _ (a .d) true (c .before .before .before .before .lower .given .1) (less-named _ (sym (c .before .before .order-of .ensures) ∙ c .enum-told2 .given .1) .0)
 
 returns-3 : tie.Need-returns-3
-returns-3 c = let a = c .before .before .before .before .before .before .args in
-    above-at eavt (a .lower) _ (a .d) false (c .before .before .before .before .lower .given .1) (equal-named _ (sym (c .before .before .order-of .ensures) ∙ c .enum-told3 .given .1) .0)
+returns-3 c = let a = c .before .before .before .before .before .before .before .args in
+    above-at (orderIn (a .by) (a .heap .now)) (a .lower) _ (a .d) false (c .before .before .before .before .lower .given .1) (equal-named _ (sym (c .before .before .order-of .ensures) ∙ c .enum-told3 .given .1) .0)
 
 returns-4 : tie.Need-returns-4
-returns-4 c = let a = c .before .before .before .before .before .before .args in
-    above-at eavt (a .lower) _ (a .d) false (c .before .before .before .before .lower .given .1) (greater-named _ (sym (c .before .before .order-of .ensures) ∙ c .enum-told4 .given .1) .0)
+returns-4 c = let a = c .before .before .before .before .before .before .before .args in
+    above-at (orderIn (a .by) (a .heap .now)) (a .lower) _ (a .d) false (c .before .before .before .before .lower .given .1) (greater-named _ (sym (c .before .before .order-of .ensures) ∙ c .enum-told4 .given .1) .0)
 
 pub is-above-spec : {M : Type 1} → statement M
 is-above-spec =

@@ -1,5 +1,5 @@
 -- `is_below` meets its contract. Assumes nothing.
-use Rattle.index.specs.Order.{eavt}
+use Rattle.index.specs.Order.{orderIn}
 use Rattle.invariants.specs.Bounds.{below-nothing, below-at}
 use mathlib.Core.Path.{_∙_}
 use borrow.Author.Needs.{needs}
@@ -16,11 +16,11 @@ is-above-requires : tie.Need-is-above-requires
 is-above-requires c κs = search needs
 
 returns : tie.Need-returns
-returns c = let a = c .before .before .args in below-nothing eavt (a .upper) (a .lower) (c .enum-told .given .1)
+returns c = let a = c .before .before .before .args in below-nothing (orderIn (a .by) (a .heap .now)) (a .upper) (a .lower) (c .enum-told .given .1)
 
 returns-2 : tie.Need-returns-2
-returns-2 c = let a = c .before .before .before .before .args in
-    c .is-above .ensures ∙ below-at eavt (a .upper) (a .lower) _ (c .before .before .upper .given .1)
+returns-2 c = let a = c .before .before .before .before .before .args in
+    c .is-above .ensures ∙ below-at (orderIn (a .by) (a .heap .now)) (a .upper) (a .lower) _ (c .before .before .upper .given .1)
 
 pub is-below-spec : {M : Type 1} → statement M
 is-below-spec = tie.close (tie.spec enum-told enum-known-upper is-above-requires returns returns-2)

@@ -1,5 +1,5 @@
 -- `index_in` meets its contract. Assumes nothing.
-use Rattle.index.specs.Order.{eavt}
+use Rattle.index.specs.Order.{orderIn}
 use Rattle.listing.specs.Descent.{index-first, index-bound}
 use mathlib.Core.Path.{_∙_}
 use Rattle.datom.specs.Datom.{datomsOf}
@@ -17,11 +17,11 @@ first-not-below-requires : tie.Need-first-not-below-requires
 first-not-below-requires c κs = search needs
 
 returns : tie.Need-returns
-returns c = let a = c .before .before .before .args in index-first eavt (a .seek) (datomsOf (a .k) (a .part .now)) (c .enum-told .given .1)
+returns c = let a = c .before .before .before .before .args in index-first (orderIn (a .by) (a .heap .now)) (a .seek) (datomsOf (a .k) (a .part .now)) (c .enum-told .given .1)
 
 returns-2 : tie.Need-returns-2
-returns-2 c = let a = c .before .before .before .before .before .args in
-    c .first-not-below .ensures ∙ index-bound eavt (a .seek) (datomsOf (a .k) (a .part .now)) _ (c .before .before .seek .given .1)
+returns-2 c = let a = c .before .before .before .before .before .before .args in
+    c .first-not-below .ensures ∙ index-bound (orderIn (a .by) (a .heap .now)) (a .seek) (datomsOf (a .k) (a .part .now)) _ (c .before .before .seek .given .1)
 
 pub index-in-spec : {M : Type 1} → statement M
 index-in-spec =

@@ -4,7 +4,7 @@ use mathlib.Core.Path.{sym, ap, _∙_}
 use borrow.Author.Tests.{not-true, not-false}
 use lib.ListN.{getD}
 use Rattle.store.specs.Page.{page}
-use Rattle.index.specs.Order.{eavt}
+use Rattle.index.specs.Order.{orderIn}
 use Rattle.rules.specs.Node.{isMidpoint}
 use Rattle.memory_store.specs.FetchLaws.{in-order}
 use Rattle.listing.specs.AdvanceLaws.{within-open, within-most, within-children, adv-bottom, adv-pending, adv-child, adv-stuck}
@@ -30,25 +30,25 @@ fetch-requires c κs = search needs
 count-of-requires : tie.Need-count-of-requires
 count-of-requires c κs =
     let start = c .before .before .before .before in
-    let a = start .args in
+    let a = start .before .args in
     let b = a .t5 in
     let q = getD (b .pages) (a .level) (page 0) in
-    let good = start .pre .0 in
-    let within = start .pre .1 .1 .1 in
-    let o = within-open eavt (a .extent) (a .store .now) q _ good within in
-    rw (c .fetch .ensures, o .bytes, start .pre .1 .0) (o .wide)
+    let good = start .before .pre .0 in
+    let within = start .before .pre .1 .1 .1 in
+    let o = within-open (orderIn (a .by) (a .heap .now)) (a .extent) (a .store .now) q _ good within in
+    rw (c .fetch .ensures, o .bytes, start .before .pre .1 .0) (o .wide)
 
 add-next : tie.Need-add-next
 add-next c =
     let start = c .before .before .before .before .before in
-    let a = start .args in
+    let a = start .before .args in
     let b = a .t5 in
     let q = getD (b .pages) (a .level) (page 0) in
-    let good = start .pre .0 in
-    let within = start .pre .1 .1 .1 in
-    let o = within-open eavt (a .extent) (a .store .now) q _ good within in
+    let good = start .before .pre .0 in
+    let within = start .before .pre .1 .1 .1 in
+    let o = within-open (orderIn (a .by) (a .heap .now)) (a .extent) (a .store .now) q _ good within in
     let few = in-order (a .extent) (a .store .now) good .known .few in
-    omega (arith, within-most eavt (a .extent) (a .store .now) q _ good within, o .few, few)
+    omega (arith, within-most (orderIn (a .by) (a .heap .now)) (a .extent) (a .store .now) q _ good within, o .few, few)
 
 mul-next : tie.Need-mul-next
 mul-next c = search needs
@@ -58,56 +58,56 @@ element-write-next c = search needs
 
 returns : tie.Need-returns
 returns c =
-    let a = c .before .before .before .before .before .before .args in
-    adv-bottom eavt (a .extent) (a .store .now) (a .t5) (a .level) (c .if1 .taken)
+    let a = c .before .before .before .before .before .before .before .args in
+    adv-bottom (orderIn (a .by) (a .heap .now)) (a .extent) (a .store .now) (a .t5) (a .level) (c .if1 .taken)
 
 is-midpoint-at-requires : tie.Need-is-midpoint-at-requires
 is-midpoint-at-requires c κs =
     let start = c .before .before .before .before .before .before in
-    let a = start .args in
+    let a = start .before .args in
     let b = a .t5 in
     let q = getD (b .pages) (a .level) (page 0) in
-    let good = start .pre .0 in
-    let within = start .pre .1 .1 .1 in
-    let o = within-open eavt (a .extent) (a .store .now) q _ good within in
-    rw (c .before .count-of .ensures, c .before .before .fetch .ensures, o .bytes, start .pre .1 .0)
-    (o .few, (omega (arith, o .wide), within-most eavt (a .extent) (a .store .now) q _ good within))
+    let good = start .before .pre .0 in
+    let within = start .before .pre .1 .1 .1 in
+    let o = within-open (orderIn (a .by) (a .heap .now)) (a .extent) (a .store .now) q _ good within in
+    rw (c .before .count-of .ensures, c .before .before .fetch .ensures, o .bytes, start .before .pre .1 .0)
+    (o .few, (omega (arith, o .wide), within-most (orderIn (a .by) (a .heap .now)) (a .extent) (a .store .now) q _ good within))
 
 returns-2 : tie.Need-returns-2
 returns-2 c =
     let start = c .before .before .before .before .before .before .before .before in
-    let a = start .args in
+    let a = start .before .args in
     let b = a .t5 in
     let q = getD (b .pages) (a .level) (page 0) in
-    let good = start .pre .0 in
-    let within = start .pre .1 .1 .1 in
-    let o = within-open eavt (a .extent) (a .store .now) q _ good within in
-    let kids = within-children eavt (a .extent) (a .store .now) q _ good within in
-    let mid = rw (c .before .before .before .count-of .ensures, c .before .before .before .before .fetch .ensures, o .bytes, start .pre .1 .0) at (c .before .is-midpoint-at .ensures) in
-    adv-pending eavt (a .extent) (a .store .now) b (a .level) (c .before .before .if1 .left) (ap (λ ks. isMidpoint ks (getD (b .indices) (a .level) 0)) kids ∙ sym mid ∙ not-true _ (c .if2 .taken))
+    let good = start .before .pre .0 in
+    let within = start .before .pre .1 .1 .1 in
+    let o = within-open (orderIn (a .by) (a .heap .now)) (a .extent) (a .store .now) q _ good within in
+    let kids = within-children (orderIn (a .by) (a .heap .now)) (a .extent) (a .store .now) q _ good within in
+    let mid = rw (c .before .before .before .count-of .ensures, c .before .before .before .before .fetch .ensures, o .bytes, start .before .pre .1 .0) at (c .before .is-midpoint-at .ensures) in
+    adv-pending (orderIn (a .by) (a .heap .now)) (a .extent) (a .store .now) b (a .level) (c .before .before .if1 .left) (ap (λ ks. isMidpoint ks (getD (b .indices) (a .level) 0)) kids ∙ sym mid ∙ not-true _ (c .if2 .taken))
 
 add-next-midpoint : tie.Need-add-next-midpoint
 add-next-midpoint c =
     let start = c .before .before .before .before .before .before .before .before in
-    let a = start .args in
+    let a = start .before .args in
     let b = a .t5 in
     let q = getD (b .pages) (a .level) (page 0) in
-    let good = start .pre .0 in
-    let within = start .pre .1 .1 .1 in
-    let o = within-open eavt (a .extent) (a .store .now) q _ good within in
+    let good = start .before .pre .0 in
+    let within = start .before .pre .1 .1 .1 in
+    let o = within-open (orderIn (a .by) (a .heap .now)) (a .extent) (a .store .now) q _ good within in
     let few = in-order (a .extent) (a .store .now) good .known .few in
-    omega (arith, within-most eavt (a .extent) (a .store .now) q _ good within, o .few, few)
+    omega (arith, within-most (orderIn (a .by) (a .heap .now)) (a .extent) (a .store .now) q _ good within, o .few, few)
 
 next-midpoint-requires : tie.Need-next-midpoint-requires
 next-midpoint-requires c κs =
     let start = c .before .before .before .before .before .before .before .before in
-    let a = start .args in
+    let a = start .before .args in
     let b = a .t5 in
     let q = getD (b .pages) (a .level) (page 0) in
-    let good = start .pre .0 in
-    let within = start .pre .1 .1 .1 in
-    let o = within-open eavt (a .extent) (a .store .now) q _ good within in
-    rw (c .before .before .before .count-of .ensures, c .before .before .before .before .fetch .ensures, o .bytes, start .pre .1 .0)
+    let good = start .before .pre .0 in
+    let within = start .before .pre .1 .1 .1 in
+    let o = within-open (orderIn (a .by) (a .heap .now)) (a .extent) (a .store .now) q _ good within in
+    rw (c .before .before .before .count-of .ensures, c .before .before .before .before .fetch .ensures, o .bytes, start .before .pre .1 .0)
     (o .few, omega (arith, o .wide))
 
 enum-known-child : tie.Need-enum-known-child
@@ -125,41 +125,41 @@ lost-at-requires c κs = search needs
 returns-3 : tie.Need-returns-3
 returns-3 c =
     let start = c .before .before .before .before .before .before .before .before .before .before .before .before .before in
-    let a = start .args in
+    let a = start .before .args in
     let b = a .t5 in
     let q = getD (b .pages) (a .level) (page 0) in
-    let good = start .pre .0 in
-    let within = start .pre .1 .1 .1 in
-    let o = within-open eavt (a .extent) (a .store .now) q _ good within in
-    let kids = within-children eavt (a .extent) (a .store .now) q _ good within in
-    let mid = rw (c .before .before .before .before .before .before .before .before .count-of .ensures, c .before .before .before .before .before .before .before .before .before .fetch .ensures, o .bytes, start .pre .1 .0) at (c .before .before .before .before .before .before .is-midpoint-at .ensures) in
-    let next = rw (c .before .before .before .before .before .before .before .before .count-of .ensures, c .before .before .before .before .before .before .before .before .before .fetch .ensures, o .bytes, start .pre .1 .0, ← kids) at (c .before .before .before .before .next-midpoint .ensures) in
-    let word = start .good .1 .0 in
+    let good = start .before .pre .0 in
+    let within = start .before .pre .1 .1 .1 in
+    let o = within-open (orderIn (a .by) (a .heap .now)) (a .extent) (a .store .now) q _ good within in
+    let kids = within-children (orderIn (a .by) (a .heap .now)) (a .extent) (a .store .now) q _ good within in
+    let mid = rw (c .before .before .before .before .before .before .before .before .count-of .ensures, c .before .before .before .before .before .before .before .before .before .fetch .ensures, o .bytes, start .before .pre .1 .0) at (c .before .before .before .before .before .before .is-midpoint-at .ensures) in
+    let next = rw (c .before .before .before .before .before .before .before .before .count-of .ensures, c .before .before .before .before .before .before .before .before .before .fetch .ensures, o .bytes, start .before .pre .1 .0, ← kids) at (c .before .before .before .before .next-midpoint .ensures) in
+    let word = start .before .good .1 .0 in
     c .lost-at .ensures
-    ∙ rw (c .before .max .ensures) (adv-stuck eavt (a .extent) (a .store .now) b (a .level) (c .before .before .before .before .before .before .before .if1 .left) (ap (λ ks. isMidpoint ks (getD (b .indices) (a .level) 0)) kids ∙ sym mid ∙ not-false _ (c .before .before .before .before .before .if2 .left)) (omega (arith, word)) (sym next ∙ c .before .before .enum-told .given .1))
+    ∙ rw (c .before .max .ensures) (adv-stuck (orderIn (a .by) (a .heap .now)) (a .extent) (a .store .now) b (a .level) (c .before .before .before .before .before .before .before .if1 .left) (ap (λ ks. isMidpoint ks (getD (b .indices) (a .level) 0)) kids ∙ sym mid ∙ not-false _ (c .before .before .before .before .before .if2 .left)) (omega (arith, word)) (sym next ∙ c .before .before .enum-told .given .1))
 
 sub-descend : tie.Need-sub-descend
 sub-descend c = search needs
 
 descend-requires : tie.Need-descend-requires
 descend-requires c κs =
-    let pre = c .before .before .before .before .before .before .before .before .before .before .before .before .pre in
+    let pre = c .before .before .before .before .before .before .before .before .before .before .before .before .before .pre in
     (pre .0, (pre .1 .0, omega (arith, pre .1 .1 .0)))
 
 returns-4 : tie.Need-returns-4
 returns-4 c =
     let start = c .before .before .before .before .before .before .before .before .before .before .before .before .before in
-    let a = start .args in
+    let a = start .before .args in
     let b = a .t5 in
     let q = getD (b .pages) (a .level) (page 0) in
-    let good = start .pre .0 in
-    let within = start .pre .1 .1 .1 in
-    let o = within-open eavt (a .extent) (a .store .now) q _ good within in
-    let kids = within-children eavt (a .extent) (a .store .now) q _ good within in
-    let mid = rw (c .before .before .before .before .before .before .before .before .count-of .ensures, c .before .before .before .before .before .before .before .before .before .fetch .ensures, o .bytes, start .pre .1 .0) at (c .before .before .before .before .before .before .is-midpoint-at .ensures) in
-    let next = rw (c .before .before .before .before .before .before .before .before .count-of .ensures, c .before .before .before .before .before .before .before .before .before .fetch .ensures, o .bytes, start .pre .1 .0, ← kids) at (c .before .before .before .before .next-midpoint .ensures) in
+    let good = start .before .pre .0 in
+    let within = start .before .pre .1 .1 .1 in
+    let o = within-open (orderIn (a .by) (a .heap .now)) (a .extent) (a .store .now) q _ good within in
+    let kids = within-children (orderIn (a .by) (a .heap .now)) (a .extent) (a .store .now) q _ good within in
+    let mid = rw (c .before .before .before .before .before .before .before .before .count-of .ensures, c .before .before .before .before .before .before .before .before .before .fetch .ensures, o .bytes, start .before .pre .1 .0) at (c .before .before .before .before .before .before .is-midpoint-at .ensures) in
+    let next = rw (c .before .before .before .before .before .before .before .before .count-of .ensures, c .before .before .before .before .before .before .before .before .before .fetch .ensures, o .bytes, start .before .pre .1 .0, ← kids) at (c .before .before .before .before .next-midpoint .ensures) in
     c .descend .ensures
-    ∙ adv-child eavt (a .extent) (a .store .now) b (a .level) (c .before .before .before .before .before .before .before .if1 .left) (ap (λ ks. isMidpoint ks (getD (b .indices) (a .level) 0)) kids ∙ sym mid ∙ not-false _ (c .before .before .before .before .before .if2 .left)) _ (sym next ∙ c .before .before .child .given .1)
+    ∙ adv-child (orderIn (a .by) (a .heap .now)) (a .extent) (a .store .now) b (a .level) (c .before .before .before .before .before .before .before .if1 .left) (ap (λ ks. isMidpoint ks (getD (b .indices) (a .level) 0)) kids ∙ sym mid ∙ not-false _ (c .before .before .before .before .before .if2 .left)) _ (sym next ∙ c .before .before .child .given .1)
 
 pub advance-spec : {M : Type 1} → statement M
 advance-spec =

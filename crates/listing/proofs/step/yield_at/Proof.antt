@@ -7,7 +7,7 @@ use Rattle.listing.proofs.step.yield_at.Tie as tie
 
 advance-requires : tie.Need-advance-requires
 advance-requires c κs =
-    let pre = c .before .before .before .before .before .pre in
+    let pre = c .before .before .before .before .before .before .pre in
     (pre .0, (pre .1 .0, (pre .1 .1 .1 .0, pre .1 .1 .1 .1)))
 
 enum-known-bottom : tie.Need-enum-known-bottom
@@ -18,7 +18,7 @@ refused-requires c κs = search needs
 
 returns : tie.Need-returns
 returns c =
-    let a = c .before .before .before .before .before .before .before .before .before .before .before .args in
+    let a = c .before .before .before .before .before .before .before .before .before .before .before .before .args in
     let advance = c .before .before .before .before .before .advance in
     let bottom = c .before .before .bottom in
     c .refused .ensures ∙ yield-lost (a .cursor) (a .datom) (advance .result) _ (advance .ensures) _ _ (bottom .given .1)
@@ -27,11 +27,11 @@ enum-told : tie.Need-enum-told
 enum-told c = search needs
 
 cursor-of-requires : tie.Need-cursor-of-requires
-cursor-of-requires c κs = c .before .before .before .before .before .before .before .before .before .pre .1 .1 .0
+cursor-of-requires c κs = c .before .before .before .before .before .before .before .before .before .before .pre .1 .1 .0
 
 returns-2 : tie.Need-returns-2
 returns-2 c =
-    let a = c .before .before .before .before .before .before .before .before .before .before .args in
+    let a = c .before .before .before .before .before .before .before .before .before .before .before .args in
     let advance = c .before .before .before .before .advance in
     rw (c .cursor-of .ensures) (yield-bottom (a .cursor) (a .datom) (advance .result) _ (advance .ensures) (c .before .enum-told .given .1))
 

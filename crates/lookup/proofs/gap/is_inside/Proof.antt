@@ -1,7 +1,7 @@
 -- `is_inside` meets its contract: an open gap has no end, else the comparison with the end says it. Assumes nothing.
 use mathlib.Core.Path.{_≡_}
 use Rattle.index.specs.declared.Order.the-variants.{Less, Equal, Greater}
-use Rattle.index.specs.Order.{eavt, named}
+use Rattle.index.specs.Order.{orderIn, named}
 use Rattle.index.specs.Named.{less-named, equal-named, greater-named}
 use Rattle.lookup.specs.Gap.{inside}
 use borrow.Author.Needs.{needs}
@@ -33,25 +33,25 @@ enum-told-4 c = search needs
 returns-2 : tie.Need-returns-2
 unfolding inside
 returns-2 c =
-    let a = c .before .before .before .before .before .before .args in
+    let a = c .before .before .before .before .before .before .before .args in
     let h = c .before .before .before .before .gap .given .0 .0 in
-    let e : named (eavt .cmp (a .d) h) ≡ Less = cc (c .enum-told2 .given .1) in
+    let e : named (orderIn (a .by) (a .heap .now) .cmp (a .d) h) ≡ Less = cc (c .enum-told2 .given .1) in
     rw (c .before .before .before .before .gap .given .1, less-named _ e .0)
 
 returns-3 : tie.Need-returns-3
 unfolding inside
 returns-3 c =
-    let a = c .before .before .before .before .before .before .args in
+    let a = c .before .before .before .before .before .before .before .args in
     let h = c .before .before .before .before .gap .given .0 .0 in
-    let e : named (eavt .cmp (a .d) h) ≡ Equal = cc (c .enum-told3 .given .1) in
+    let e : named (orderIn (a .by) (a .heap .now) .cmp (a .d) h) ≡ Equal = cc (c .enum-told3 .given .1) in
     rw (c .before .before .before .before .gap .given .1, equal-named _ e .0)
 
 returns-4 : tie.Need-returns-4
 unfolding inside
 returns-4 c =
-    let a = c .before .before .before .before .before .before .args in
+    let a = c .before .before .before .before .before .before .before .args in
     let h = c .before .before .before .before .gap .given .0 .0 in
-    let e : named (eavt .cmp (a .d) h) ≡ Greater = cc (c .enum-told4 .given .1) in
+    let e : named (orderIn (a .by) (a .heap .now) .cmp (a .d) h) ≡ Greater = cc (c .enum-told4 .given .1) in
     rw (c .before .before .before .before .gap .given .1, greater-named _ e .0)
 
 pub is-inside-spec : {M : Type 1} → statement M

@@ -4,7 +4,7 @@ use native.Mathlib.Omega.{arith}
 use mathlib.Core.Path.{_≡_, sym, _∙_}
 use lib.ListN.{drop}
 use Rattle.datom.specs.Datom.{datomsOf}
-use Rattle.index.specs.Order.{eavt}
+use Rattle.index.specs.Order.{orderIn}
 use Rattle.rules.specs.Node.{rankBy}
 use borrow.Author.Tests.{not-true, not-false}
 use Rattle.lookup.specs.Gap.{inside, pass-on, pass-stop, pass-end}
@@ -13,10 +13,10 @@ use Rattle.lookup.proofs.gap.skip.Statement.{statement}
 use Rattle.lookup.proofs.gap.skip.Tie as tie
 
 abbrev Inv-loop : tie.InvT-loop
-Inv-loop gap b n from i₀ i = (i ≤ n) × (i + rankBy (inside eavt gap) (drop i (datomsOf n b)) ≡ from + rankBy (inside eavt gap) (drop from (datomsOf n b)))
+Inv-loop gap b n from by heap i₀ i = (i ≤ n) × (i + rankBy (inside (orderIn by heap) gap) (drop i (datomsOf n b)) ≡ from + rankBy (inside (orderIn by heap) gap) (drop from (datomsOf n b)))
 
 abbrev μ-loop : tie.MeasureT-loop
-μ-loop gap b n from i₀ i = n - i
+μ-loop gap b n from by heap i₀ i = n - i
 
 loop-holds : tie.Need-loop-holds Inv-loop μ-loop
 loop-holds c = (search needs, search needs)
@@ -32,7 +32,7 @@ is-inside-requires c κs = search needs
 
 returns : tie.Need-returns Inv-loop μ-loop
 returns c =
-    let a = c .before .before .before .before .before .before .args in
+    let a = c .before .before .before .before .before .before .before .args in
     let w = c .before .before .before .before .loop in
     pass-stop _ (a .n) _ (a .b .now) (c .before .before .before .loop-test .taken) (sym (rw (c .before .before .datom-at .ensures) at (c .before .is-inside .ensures)) ∙ not-true _ (c .if1 .taken)) ∙ w .inv .1
 
@@ -44,7 +44,7 @@ loop-less c = search needs
 
 loop-again : tie.Need-loop-again Inv-loop μ-loop
 loop-again c =
-    let a = c .before .before .before .before .before .before .args in
+    let a = c .before .before .before .before .before .before .before .args in
     let w = c .before .before .before .before .loop in
     (omega arith, pass-on _ (a .n) _ (a .b .now) (c .before .before .before .loop-test .taken) (sym (rw (c .before .before .datom-at .ensures) at (c .before .is-inside .ensures)) ∙ not-false _ (c .if1 .left)) ∙ w .inv .1)
 

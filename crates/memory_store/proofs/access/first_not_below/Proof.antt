@@ -5,8 +5,8 @@ use native.Mathlib.Omega.{arith}
 use mathlib.Core.Path.{_≡_}
 use Rattle.datom.specs.Datom.{datomAt, datomsOf}
 use Rattle.index.specs.declared.Order.the-variants.{Less, Equal, Greater}
-use Rattle.index.specs.Order.{eavt, named}
-use Rattle.index.specs.Laws.{eavt-preorder}
+use Rattle.index.specs.Order.{orderIn, named}
+use Rattle.index.specs.Laws.{order-preorder}
 use Rattle.rules.specs.Node.{rank}
 use Rattle.memory_store.specs.RankLaws.{seek-right, seek-left, rank-within}
 use Rattle.index.specs.Named.{less-named, equal-named, greater-named}
@@ -14,13 +14,13 @@ use Rattle.memory_store.proofs.access.first_not_below.Statement.{statem
 use Rattle.memory_store.proofs.access.first_not_below.Tie as tie
 
 abbrev Inv-loop : tie.InvT-loop
-Inv-loop s k d lo₀ hi₀ lo hi = (lo ≤ rank (eavt .cmp) d (datomsOf k s)) × (rank (eavt .cmp) d (datomsOf k s) ≤ hi) × (hi ≤ k)
+Inv-loop s k d by heap lo₀ hi₀ lo hi = (lo ≤ rank (orderIn by heap .cmp) d (datomsOf k s)) × (rank (orderIn by heap .cmp) d (datomsOf k s) ≤ hi) × (hi ≤ k)
 
 abbrev μ-loop : tie.MeasureT-loop
-μ-loop s k d lo₀ hi₀ lo hi = hi - lo
+μ-loop s k d by heap lo₀ hi₀ lo hi = hi - lo
 
 loop-holds : tie.Need-loop-holds Inv-loop μ-loop
-loop-holds c = (zero-le, rank-within eavt _ _ _, omega arith)
+loop-holds c = (zero-le, rank-within (orderIn _ _) _ _ _, omega arith)
 
 sub-mid : tie.Need-sub-mid Inv-loop μ-loop
 sub-mid c = search needs
@@ -48,11 +48,11 @@ loop-less c = search needs
 
 loop-again : tie.Need-loop-again Inv-loop μ-loop
 loop-again c =
-    let a = c .before .before .before .before .before .before .before .args in
+    let a = c .before .before .before .before .before .before .before .before .args in
     let l = c .before .before .before .before .before .loop in
     let i = l .lo + (l .hi - l .lo) / 2 in
-    let e : named (eavt .cmp (datomAt (a .s .now) (32 * i)) (a .d)) ≡ Less = cc (c .enum-told .given .1) in
-    (omega (arith, seek-right eavt (a .k) (a .s .now) (a .d) i (omega arith) eavt-preorder (c .before .before .before .before .before .before .before .pre .1) (less-named _ e .0)), l .inv .1, l .inv .2)
+    let e : named (orderIn (a .by) (a .heap .now) .cmp (datomAt (a .s .now) (32 * i)) (a .d)) ≡ Less = cc (c .enum-told .given .1) in
+    (omega (arith, seek-right (orderIn (a .by) (a .heap .now)) (a .k) (a .s .now) (a .d) i (omega arith) (order-preorder (a .by) (a .heap .now)) (c .before .before .before .before .before .before .before .before .pre .1) (less-named _ e .0)), l .inv .1, l .inv .2)
 
 enum-told-2 : tie.Need-enum-told-2 Inv-loop μ-loop
 enum-told-2 c = search needs
@@ -62,11 +62,11 @@ loop-less-2 c = search needs
 
 loop-again-2 : tie.Need-loop-again-2 Inv-loop μ-loop
 loop-again-2 c =
-    let a = c .before .before .before .before .before .before .before .args in
+    let a = c .before .before .before .before .before .before .before .before .args in
     let l = c .before .before .before .before .before .loop in
     let i = l .lo + (l .hi - l .lo) / 2 in
-    let e : named (eavt .cmp (datomAt (a .s .now) (32 * i)) (a .d)) ≡ Equal = cc (c .enum-told2 .given .1) in
-    (l .inv .0, seek-left eavt (a .k) (a .s .now) (a .d) i (omega arith) (equal-named _ e .0), omega arith)
+    let e : named (orderIn (a .by) (a .heap .now) .cmp (datomAt (a .s .now) (32 * i)) (a .d)) ≡ Equal = cc (c .enum-told2 .given .1) in
+    (l .inv .0, seek-left (orderIn (a .by) (a .heap .now)) (a .k) (a .s .now) (a .d) i (omega arith) (equal-named _ e .0), omega arith)
 
 enum-told-3 : tie.Need-enum-told-3 Inv-loop μ-loop
 enum-told-3 c = search needs
@@ -76,11 +76,11 @@ loop-less-3 c = search needs
 
 loop-again-3 : tie.Need-loop-again-3 Inv-loop μ-loop
 loop-again-3 c =
-    let a = c .before .before .before .before .before .before .before .args in
+    let a = c .before .before .before .before .before .before .before .before .args in
     let l = c .before .before .before .before .before .loop in
     let i = l .lo + (l .hi - l .lo) / 2 in
-    let e : named (eavt .cmp (datomAt (a .s .now) (32 * i)) (a .d)) ≡ Greater = cc (c .enum-told3 .given .1) in
-    (l .inv .0, seek-left eavt (a .k) (a .s .now) (a .d) i (omega arith) (greater-named _ e .0), omega arith)
+    let e : named (orderIn (a .by) (a .heap .now) .cmp (datomAt (a .s .now) (32 * i)) (a .d)) ≡ Greater = cc (c .enum-told3 .given .1) in
+    (l .inv .0, seek-left (orderIn (a .by) (a .heap .now)) (a .k) (a .s .now) (a .d) i (omega arith) (greater-named _ e .0), omega arith)
 
 returns : tie.Need-returns Inv-loop μ-loop
 returns c = omega arith

@@ -8,20 +8,18 @@ use lib.ListN.{drop}
 use borrow.Author.Tests.{not-true, not-false}
 use Rattle.store.specs.Words.{wordAt}
 use Rattle.datom.specs.Value.{storedValue}
-use Rattle.datom.specs.Datom.{datomOf, datomsOf}
+use Rattle.datom.specs.Datom.{datomOf, datomsOf, storedDatom}
 use Rattle.datom.specs.Laws.{datoms-from}
-use Rattle.index.specs.Order.{eavt}
-use Rattle.index.specs.Form.{eavt-stored}
 use Rattle.rules.specs.Page.{all}
 use Rattle.memory_store.specs.Steps.{all-on, all-stop, all-end, stored-word}
 use Rattle.memory_store.proofs.reader.all_stored.Statement.{statement}
 use Rattle.memory_store.proofs.reader.all_stored.Tie as tie
 
 abbrev Inv-loop : tie.InvT-loop
-Inv-loop s «from» k i₀ i = all (eavt .stored) (drop i (datomsOf k s)) ≡ all (eavt .stored) (drop «from» (datomsOf k s))
+Inv-loop s «from» k heap i₀ i = all (storedDatom heap) (drop i (datomsOf k s)) ≡ all (storedDatom heap) (drop «from» (datomsOf k s))
 
 abbrev μ-loop : tie.MeasureT-loop
-μ-loop s «from» k i₀ i = k - i
+μ-loop s «from» k heap i₀ i = k - i
 
 loop-holds : tie.Need-loop-holds Inv-loop μ-loop
 loop-holds c = refl
@@ -40,10 +38,10 @@ is-stored-requires c κs = search needs
 
 returns : tie.Need-returns Inv-loop μ-loop
 returns c =
-    let a = c .before .before .before .before .before .before .args in
+    let a = c .before .before .before .before .before .before .before .args in
     let l = c .before .before .before .before .loop in
-    let e : storedValue (record { 0 = wordAt (a .s .now) (32 * l .i + 16) }) ≡ false = cc (not-true (c .before .is-stored .result) (c .if1 .taken)) in
-    sym (all-stop (eavt .stored) (datoms-from (a .k) (l .i) (a .s .now) (omega arith)) (eavt-stored _ ∙ stored-word (a .s .now) (32 * l .i) false e)) ∙ l .inv
+    let e : storedValue (a .heap .now) (record { 0 = wordAt (a .s .now) (32 * l .i + 16) }) ≡ false = cc (not-true (c .before .is-stored .result) (c .if1 .taken)) in
+    sym (all-stop (storedDatom (a .heap .now)) (datoms-from (a .k) (l .i) (a .s .now) (omega arith)) (stored-word (a .heap .now) (a .s .now) (32 * l .i) false e)) ∙ l .inv
 
 add-i : tie.Need-add-i Inv-loop μ-loop
 add-i c = search needs
@@ -53,13 +51,13 @@ loop-less c = search needs
 
 loop-again : tie.Need-loop-again Inv-loop μ-loop
 loop-again c =
-    let a = c .before .before .before .before .before .before .args in
+    let a = c .before .before .before .before .before .before .before .args in
     let l = c .before .before .before .before .loop in
-    let e : storedValue (record { 0 = wordAt (a .s .now) (32 * l .i + 16) }) ≡ true = cc (not-false (c .before .is-stored .result) (c .if1 .left)) in
-    sym (all-on (eavt .stored) (datoms-from (a .k) (l .i) (a .s .now) (omega arith)) (eavt-stored _ ∙ stored-word (a .s .now) (32 * l .i) true e)) ∙ l .inv
+    let e : storedValue (a .heap .now) (record { 0 = wordAt (a .s .now) (32 * l .i + 16) }) ≡ true = cc (not-false (c .before .is-stored .result) (c .if1 .left)) in
+    sym (all-on (storedDatom (a .heap .now)) (datoms-from (a .k) (l .i) (a .s .now) (omega arith)) (stored-word (a .heap .now) (a .s .now) (32 * l .i) true e)) ∙ l .inv
 
 returns-2 : tie.Need-returns-2 Inv-loop μ-loop
-returns-2 c = let l = c .before .loop in sym (all-end (eavt .stored) datomOf 32 _ (l .i) _ (omega arith)) ∙ l .inv
+returns-2 c = let l = c .before .loop in sym (all-end (storedDatom _) datomOf 32 _ (l .i) _ (omega arith)) ∙ l .inv
 
 pub all-stored-spec : {M : Type 1} → statement M
 all-stored-spec =

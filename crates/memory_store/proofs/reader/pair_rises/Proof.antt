@@ -2,8 +2,9 @@
 use Prim.Native.Nat.{_<_}
 use native.Mathlib.Omega.{arith}
 use borrow.Author.Tests.{ltb-true}
-use Rattle.index.specs.Order.{eavt}
-use Rattle.index.specs.Ways.{less-entity, less-attribute}
+use Rattle.index.specs.declared.Index.the-variants.{Eavt}
+use Rattle.index.specs.Order.{orderIn}
+use Rattle.index.specs.Ways.{less-entity, less-attribute, only-eavt}
 use Rattle.memory_store.specs.Fours.{never, rises-entity, rises-attribute}
 use borrow.Author.Needs.{needs}
 use Rattle.memory_store.proofs.reader.pair_rises.Statement.{statement}
@@ -19,10 +20,12 @@ word-requires-2 : tie.Need-word-requires-2
 word-requires-2 c κs = search needs
 
 returns : tie.Need-returns
-returns c e = let a = c .before .before .before .before .args in rises-entity eavt (a .s .now) (a .at) less-entity (omega (arith, c .if1 .taken))
+returns c e h =
+    let a = c .before .before .before .before .args in
+    rw (only-eavt (a .by)) (rises-entity (orderIn Eavt h) (a .s .now) (a .at) (less-entity h) (omega (arith, c .if1 .taken)))
 
 returns-2 : tie.Need-returns-2
-returns-2 c e = never e
+returns-2 c e h = never e
 
 add-word-2 : tie.Need-add-word-2
 add-word-2 c = search needs
@@ -37,10 +40,10 @@ word-requires-4 : tie.Need-word-requires-4
 word-requires-4 c κs = search needs
 
 returns-3 : tie.Need-returns-3
-returns-3 c e =
+returns-3 c e h =
     let a = c .before .before .before .before .before .before .before .args in
-    let h : c .before .word3 .result < c .word4 .result = ltb-true _ _ e in
-    rises-attribute eavt (a .s .now) (a .at) less-attribute (omega arith) (omega (arith, h))
+    let below : c .before .word3 .result < c .word4 .result = ltb-true _ _ e in
+    rw (only-eavt (a .by)) (rises-attribute (orderIn Eavt h) (a .s .now) (a .at) (less-attribute h) (omega arith) (omega (arith, below)))
 
 pub pair-rises-spec : {M : Type 1} → statement M
 pair-rises-spec =

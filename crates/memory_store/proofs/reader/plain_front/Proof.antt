@@ -1,23 +1,24 @@
 -- `plain_front` meets its contract: both rules on the rest of the list are the rules on the whole. Assumes nothing.
 use borrow.Author.Needs.{needs}
-use Prim.Native.Nat.{_-_, _≤_}
+use Prim.Native.Nat.{ℕ, _-_, _≤_}
 use native.Mathlib.Omega.{arith}
+use mathlib.Core.List.{List}
 use mathlib.Core.Path.{refl, _∙_}
 use borrow.Author.Tests.{not-false}
-use Rattle.index.specs.Order.{eavt}
-use Rattle.index.specs.Form.{eavt-plain}
+use Rattle.index.specs.Order.{orderIn}
+use Rattle.index.specs.Form.{order-plain}
 use Rattle.memory_store.specs.Fours.{SameFrom, four-on}
 use Rattle.memory_store.proofs.reader.plain_front.Statement.{statement}
 use Rattle.memory_store.proofs.reader.plain_front.Tie as tie
 
 abbrev Inv-loop : tie.InvT-loop
-Inv-loop s k i₀ i = (i ≤ k) × SameFrom eavt k s 0 i
+Inv-loop s k by i₀ i = (i ≤ k) × ((h : List ℕ) → SameFrom (orderIn by h) k s 0 i)
 
 abbrev μ-loop : tie.MeasureT-loop
-μ-loop s k i₀ i = k - i
+μ-loop s k by i₀ i = k - i
 
 loop-holds : tie.Need-loop-holds Inv-loop μ-loop
-loop-holds c = (search needs, (refl, refl))
+loop-holds c = (search needs, λ h. (refl, refl))
 
 add-loop : tie.Need-add-loop Inv-loop μ-loop
 add-loop c = search needs
@@ -49,9 +50,12 @@ loop-less c = search needs
 loop-again : tie.Need-loop-again Inv-loop μ-loop
 loop-again c =
     let a = c .before .before .before .before .before .before .before .args in
-    let l = c .before .before .before .before .before .loop in
-    let s = four-on eavt eavt-plain (a .k) (a .s .now) (l .i) (omega arith) (c .before .before .before .four-rise .ensures (not-false _ (c .before .before .if1 .left))) (c .before .four-integers .ensures (not-false _ (c .if2 .left))) in
-    (omega arith, (l .inv .1 .0 ∙ s .0, l .inv .1 .1 ∙ s .1))
+    let l = c .before .before .before .before .before .loop in (
+      omega arith,
+      λ h.
+          let s = four-on (orderIn (a .by) h) (order-plain (a .by) h) (a .k) (a .s .now) (l .i) (omega arith) (c .before .before .before .four-rise .ensures (not-false _ (c .before .before .if1 .left)) h) (c .before .four-integers .ensures (not-false _ (c .if2 .left))) in
+          (l .inv .1 h .0 ∙ s .0, l .inv .1 h .1 ∙ s .1),
+    )
 
 returns-3 : tie.Need-returns-3 Inv-loop μ-loop
 returns-3 c = c .before .loop .inv

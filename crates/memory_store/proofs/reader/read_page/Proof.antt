@@ -1,6 +1,7 @@
 -- `read_page` meets its contract: one law for each way through. Assumes nothing.
 use mathlib.Core.Path.{sym, _∙_}
 use borrow.Author.Tests.{not-true, not-false}
+use Rattle.index.specs.Order.{orderIn}
 use Rattle.memory_store.specs.Reading.{said}
 use Rattle.memory_store.specs.Ways.{way-level, way-count, way-form, way-order, way-on}
 use borrow.Author.Needs.{needs}
@@ -28,19 +29,19 @@ all-stored-requires : tie.Need-all-stored-requires
 all-stored-requires c κs = search needs
 
 returns-3 : tie.Need-returns-3
-unfolding said
+unfolding said orderIn
 returns-3 c =
     let head = c .before .before .before in
     way-form _ _ _ _ _ (head .before .before .before .level-of .ensures) _ (head .before .before .count-of .ensures) (head .before .if1 .left) (head .if2 .left)
-    (c .before .before .plain-front .ensures .1 .0 ∙ sym (c .before .all-stored .ensures) ∙ not-true _ (c .if3 .taken))
+    (c .before .before .plain-front .ensures .1 _ .0 ∙ sym (c .before .all-stored .ensures) ∙ not-true _ (c .if3 .taken))
 
 all-rising-requires : tie.Need-all-rising-requires
 all-rising-requires c κs = search needs
 
 returns-4 : tie.Need-returns-4
-unfolding said
+unfolding said orderIn
 returns-4 c =
-    let same = c .before .before .before .before .plain-front .ensures .1 in
+    let same = c .before .before .before .before .plain-front .ensures .1 _ in
     let head = c .before .before .before .before .before in
     way-order _ _ _ _ _ (head .before .before .before .level-of .ensures) _ (head .before .before .count-of .ensures) (head .before .if1 .left) (head .if2 .left)
     (same .0 ∙ sym (c .before .before .before .all-stored .ensures) ∙ not-false _ (c .before .before .if3 .left))
@@ -50,8 +51,9 @@ read-children-requires : tie.Need-read-children-requires
 read-children-requires c κs = search needs
 
 returns-5 : tie.Need-returns-5
+unfolding orderIn
 returns-5 c =
-    let same = c .before .before .before .before .before .plain-front .ensures .1 in
+    let same = c .before .before .before .before .before .plain-front .ensures .1 _ in
     let head = c .before .before .before .before .before .before in
     c .read-children .ensures
     ∙ way-on _ _ _ _ _ (head .before .before .before .level-of .ensures) _ (head .before .before .count-of .ensures) (head .before .if1 .left) (head .if2 .left)

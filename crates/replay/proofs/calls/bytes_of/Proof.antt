@@ -12,10 +12,10 @@ returns-2 : tie.Need-returns-2
 returns-2 c = search needs
 
 mul-result : tie.Need-mul-result
-mul-result c = omega (arith, mul-le-mul-right (c .before .before .before .before .args .extent .size) (c .before .if2 .left), c .before .before .if1 .left)
+mul-result c = omega (arith, mul-le-mul-right (c .before .before .args .size) (c .if2 .left), c .before .if1 .left)
 
 returns-3 : tie.Need-returns-3
-returns-3 c = omega (arith, mul-le-mul-right (c .before .before .before .before .args .extent .size) (c .before .if2 .left), c .before .before .if1 .left)
+returns-3 c = omega (arith, mul-le-mul-right (c .before .before .args .size) (c .if2 .left), c .before .if1 .left)
 
 pub bytes-of-spec : {M : Type 1} → statement M
 bytes-of-spec = tie.close (tie.spec returns returns-2 mul-result returns-3)

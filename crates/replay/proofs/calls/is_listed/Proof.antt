@@ -5,10 +5,10 @@ use Rattle.replay.proofs.calls.is_listed.Statement.{statement}
 use Rattle.replay.proofs.calls.is_listed.Tie as tie
 
 abbrev Inv-loop : tie.InvT-loop
-Inv-loop store extent cursor₀ recorded n datom₀ h₀ i₀ cursor datom h i = i ≤ n
+Inv-loop store heap stored cursor₀ recorded n datom₀ h₀ i₀ cursor datom h i = i ≤ n
 
 abbrev μ-loop : tie.MeasureT-loop
-μ-loop store extent cursor₀ recorded n datom₀ h₀ i₀ cursor datom h i = n - i
+μ-loop store heap stored cursor₀ recorded n datom₀ h₀ i₀ cursor datom h i = n - i
 
 loop-holds : tie.Need-loop-holds Inv-loop μ-loop
 loop-holds c = search needs

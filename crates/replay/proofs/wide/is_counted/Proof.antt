@@ -13,11 +13,8 @@ abbrev μ-loop : tie.MeasureT-loop
 loop-holds : tie.Need-loop-holds Inv-loop μ-loop
 loop-holds c = search needs
 
-extent-requires : tie.Need-extent-requires Inv-loop μ-loop
-extent-requires c κs = search needs
-
-next-datom-requires : tie.Need-next-datom-requires Inv-loop μ-loop
-next-datom-requires c κs = search needs
+next-of-requires : tie.Need-next-of-requires Inv-loop μ-loop
+next-of-requires c κs = search needs
 
 returns : tie.Need-returns Inv-loop μ-loop
 returns c = search needs
@@ -37,11 +34,8 @@ loop-less c = search needs
 loop-again : tie.Need-loop-again Inv-loop μ-loop
 loop-again c = search needs
 
-extent-requires-2 : tie.Need-extent-requires-2 Inv-loop μ-loop
-extent-requires-2 c κs = search needs
-
-next-datom-requires-2 : tie.Need-next-datom-requires-2 Inv-loop μ-loop
-next-datom-requires-2 c κs = search needs
+next-of-requires-2 : tie.Need-next-of-requires-2 Inv-loop μ-loop
+next-of-requires-2 c κs = search needs
 
 returns-3 : tie.Need-returns-3 Inv-loop μ-loop
 returns-3 c = search needs
@@ -53,14 +47,12 @@ is-counted-spec =
     Inv-loop
     μ-loop
     loop-holds
-    extent-requires
-    next-datom-requires
+    next-of-requires
     returns
     is-datom-requires
     returns-2
     add-i
     loop-less
     loop-again
-    extent-requires-2
-    next-datom-requires-2
+    next-of-requires-2
     returns-3)

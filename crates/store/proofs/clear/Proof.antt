@@ -5,10 +5,10 @@ use native.Mathlib.Omega.{arith}
 use mathlib.Core.List.{List}
 use mathlib.Core.Path.{_≡_, refl, ap, _∙_}
 use lib.ListN.{length, set, length-set}
 use Rattle.store.specs.Words.{zeros, patch}
-use Rattle.memory_store.specs.WriterLaws.{cleared-none, cleared}
-use Rattle.memory_store.proofs.writer.clear.Statement.{statement}
-use Rattle.memory_store.proofs.writer.clear.Tie as tie
+use Rattle.store.specs.Padding.{cleared-none, cleared}
+use Rattle.store.proofs.clear.Statement.{statement}
+use Rattle.store.proofs.clear.Tie as tie
 
 abbrev Inv-loop : tie.InvT-loop
 Inv-loop s₀ at end i₀ s i = (at ≤ i) × (i ≤ end) × (length s ≡ length s₀) × (s ≡ patch s₀ at (zeros (i - at)))

@@ -2,9 +2,9 @@
 use borrow.Author.Needs.{needs}
 use native.Mathlib.Omega.{arith}
 use mathlib.Core.Path.{_∙_}
-use Rattle.memory_store.specs.WriterLaws.{padded}
-use Rattle.memory_store.proofs.writer.put_padded.Statement.{statement}
-use Rattle.memory_store.proofs.writer.put_padded.Tie as tie
+use Rattle.store.specs.Padding.{padded}
+use Rattle.store.proofs.put_padded.Statement.{statement}
+use Rattle.store.proofs.put_padded.Tie as tie
 
 put-requires : tie.Need-put-requires
 put-requires c κs = search needs

@@ -1,4 +1,4 @@
-//! What is fed to every tree: batches that rise, of datoms with ascending or random entities, or of fills.
+//! What is fed to every tree: batches that rise, of datoms with ascending or random entities, of fills, or of long values on a heap.
 
 pub type Datom = [u64; 4];
 
@@ -8,55 +8,122 @@ pub enum Keys {
     Random,
     /// Ascending entities of five datoms each, one for each attribute of a fill.
     Fills,
+    /// Ascending entities with a text each: no comparison comes to the texts.
+    Texts,
+    /// One entity and attribute, and texts that ascend: every comparison comes to them.
+    ByText,
+    /// The same with random texts.
+    RandomTexts,
 }
 
 impl Keys {
-    pub const ALL: [Keys; 3] = [Keys::Ascending, Keys::Fills, Keys::Random];
+    pub const ALL: [Keys; 6] = [Keys::Ascending, Keys::Fills, Keys::Random, Keys::Texts, Keys::ByText, Keys::RandomTexts];
 
     pub fn name(self) -> &'static str {
         match self {
             Keys::Ascending => "ascending",
             Keys::Random => "random",
             Keys::Fills => "fills",
+            Keys::Texts => "texts",
+            Keys::ByText => "by text",
+            Keys::RandomTexts => "random texts",
         }
+    }
+
+    pub fn has_texts(self) -> bool {
+        matches!(self, Keys::Texts | Keys::ByText | Keys::RandomTexts)
+    }
+
+    /// Whether batches go in anywhere in the tree, not behind all that it holds.
+    pub fn is_scattered(self) -> bool {
+        matches!(self, Keys::Random | Keys::RandomTexts)
     }
 }
 
 /// How many datoms tell of one fill.
 const ATTRIBUTES: u64 = 5;
 
-/// An endless feed without repeats.
+/// A text begins with its eight digits, and so many bytes more follow at most: 8 to 40 in all.
+const TAIL: u64 = 32;
+
+/// The top bits of a word that names a byte string on the heap.
+const NAMES_BYTES: u64 = 0b11 << 62;
+
+/// What a value stands for, in the order of values.
+#[derive(PartialEq, Eq, PartialOrd, Ord)]
+enum Content {
+    Number(u64),
+    Text(Vec<u8>),
+}
+
+/// An endless feed without repeats, and the heap that its values lie on.
 pub struct Feed {
     keys: Keys,
     next: u64,
     state: u64,
+    pub heap: Vec<u8>,
 }
 
 impl Feed {
     pub fn new(keys: Keys, seed: u64) -> Feed {
-        Feed { keys, next: 0, state: seed }
+        Feed { keys, next: 0, state: seed, heap: Vec::new() }
     }
 
-    /// The same feed from here on, but for the random entities.
+    /// The same feed from here on, but for what is random.
     pub fn branch(&self, seed: u64) -> Feed {
-        Feed { keys: self.keys, next: self.next, state: seed }
+        Feed { keys: self.keys, next: self.next, state: seed, heap: self.heap.clone() }
     }
 
     pub fn batch(&mut self, size: usize) -> Vec<Datom> {
-        let mut batch: Vec<Datom> = (0..size).map(|_| self.datom()).collect();
-        batch.sort();
-        batch
+        let mut facts: Vec<(u64, u64, Content)> = (0..size).map(|_| self.fact()).collect();
+        facts.sort();
+        facts.into_iter().map(|(entity, attribute, content)| [entity, attribute, self.value(content), 3]).collect()
     }
 
-    fn datom(&mut self) -> Datom {
+    /// Texts of this feed that lie on no heap yet.
+    pub fn texts(&mut self, size: usize) -> Vec<Vec<u8>> {
+        (0..size as u64).map(|number| self.text(self.next + number)).collect()
+    }
+
+    fn fact(&mut self) -> (u64, u64, Content) {
         let number = self.next;
         self.next += 1;
-        let (entity, attribute) = match self.keys {
-            Keys::Ascending => (number, 1),
-            Keys::Random => (self.word() >> 1, 1),
-            Keys::Fills => (number / ATTRIBUTES, 1 + number % ATTRIBUTES),
+        match self.keys {
+            Keys::Ascending => (number, 1, Content::Number(number)),
+            Keys::Random => (self.word() >> 1, 1, Content::Number(number)),
+            Keys::Fills => (number / ATTRIBUTES, 1 + number % ATTRIBUTES, Content::Number(number)),
+            Keys::Texts => (number, 1, Content::Text(self.text(number))),
+            Keys::ByText | Keys::RandomTexts => (1, 1, Content::Text(self.text(number))),
+        }
+    }
+
+    /// Eight digits that ascend or eight random letters, of which there are more than enough for no two to be the same, and a tail.
+    fn text(&mut self, number: u64) -> Vec<u8> {
+        let mut text = match self.keys {
+            Keys::RandomTexts => self.letters(8),
+            _ => format!("{:08}", number).into_bytes(),
         };
-        [entity, attribute, number, 3]
+        let length = self.word() % (TAIL + 1);
+        text.extend(self.letters(length));
+        text
+    }
+
+    fn letters(&mut self, length: u64) -> Vec<u8> {
+        (0..length).map(|_| b'0' + (self.word() % 64) as u8).collect()
+    }
+
+    /// The word of a value; a text goes onto the heap as its length, its bytes and zeros.
+    fn value(&mut self, content: Content) -> u64 {
+        match content {
+            Content::Number(number) => number,
+            Content::Text(text) => {
+                let word = NAMES_BYTES | self.heap.len() as u64;
+                self.heap.extend((text.len() as u64).to_le_bytes());
+                self.heap.extend(&text);
+                self.heap.resize(self.heap.len().next_multiple_of(8), 0);
+                word
+            }
+        }
     }
 
     /// The generator splitmix64.

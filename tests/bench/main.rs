@@ -13,6 +13,7 @@ use feed::{bytes_of, Datom, Feed, Keys};
 use florinwick::Florinwick;
 use lmdb::Lmdb;
 use noblit::{fact, Noblit};
+use noblit_patched::memory_store::MemoryHeap;
 use slab::Slab;
 use sqlite::Sqlite;
 
@@ -22,6 +23,10 @@ const NONE: u64 = u64::MAX;
 /// A round is so many batches at the same tree, one after the other; then the tree is taken back to where it was.
 const BATCHES_A_ROUND: usize = 32;
 const SINGLES_A_ROUND: usize = 2048;
+
+/// A round of a feed with texts appends so many to an empty heap, with room for so many bytes of each.
+const TEXTS_A_ROUND: usize = 4096;
+const ROOM_A_TEXT: usize = 48;
 
 /// The store has room for so many pages past the tree that a round starts with.
 const MORE_PAGES: usize = 16384;
@@ -71,25 +76,31 @@ impl Bench {
     fn tree(&mut self, case: Case) {
         let mut feed = Feed::new(case.keys, 1);
         let mut ours = grown(&mut feed, case);
-        let mut theirs = Noblit { slab: Slab::copy_of(&ours.slab, MORE_PAGES), root: ours.root };
+        let mut theirs = Noblit { slab: Slab::copy_of(&ours.slab, MORE_PAGES), root: ours.root, heap: MemoryHeap::new() };
         eprintln!("{:?}, {} datoms: {} pages of {} bytes", case.keys, case.tree, ours.slab.count, case.page_size);
         for round in 0..self.rounds {
             let mut branch = feed.branch(2 + round as u64);
             let batches: Vec<Vec<Datom>> = (0..BATCHES_A_ROUND).map(|_| branch.batch(BATCH)).collect();
-            self.inserts("insert of 128", case, round, &batches, &mut ours, &mut theirs);
-            self.receipts("receipt for 128", case, &batches, &mut ours);
             let singles: Vec<Vec<Datom>> = (0..SINGLES_A_ROUND).map(|_| branch.batch(1)).collect();
-            self.inserts("insert of 1", case, round, &singles, &mut ours, &mut theirs);
-            self.receipts("receipt for 1", case, &singles, &mut ours);
+            let heap = &branch.heap;
+            theirs.heap = MemoryHeap::from_vec(heap.clone());
+            self.inserts("insert of 128", case, round, heap, &batches, &mut ours, &mut theirs);
+            self.receipts("receipt for 128", case, heap, &batches, &mut ours);
+            self.inserts("insert of 1", case, round, heap, &singles, &mut ours, &mut theirs);
+            self.receipts("receipt for 1", case, heap, &singles, &mut ours);
+            if case.keys.has_texts() {
+                self.appends(case, round, &branch.texts(TEXTS_A_ROUND));
+            }
         }
         for round in 0..readings(self.rounds, case.tree) {
-            self.reads(case, round, &ours, &theirs);
+            self.reads(case, round, &feed.heap, &ours, &theirs);
         }
     }
 
     /// The same batches on both sides, which take turns at being first; both must write the same bytes.
     fn inserts(
-        &mut self, what: &'static str, case: Case, round: usize, batches: &[Vec<Datom>], ours: &mut Florinwick, theirs: &mut Noblit,
+        &mut self, what: &'static str, case: Case, round: usize, heap: &[u8], batches: &[Vec<Datom>], ours: &mut Florinwick,
+        theirs: &mut Noblit,
     ) {
         let bytes: Vec<Vec<u8>> = batches.iter().map(|batch| bytes_of(batch)).collect();
         let facts: Vec<Vec<_>> = batches.iter().map(|batch| batch.iter().map(fact).collect()).collect();
@@ -97,7 +108,7 @@ impl Bench {
         for turn in 0..2 {
             if (round + turn) % 2 == 0 {
                 ours.slab.rewind(count);
-                let time = timed(|| bytes.iter().for_each(|batch| ours.insert(batch)));
+                let time = timed(|| bytes.iter().for_each(|batch| ours.insert(heap, batch)));
                 self.note(what, case, "Florinwick", time / batches.len() as f64);
             } else {
                 theirs.slab.rewind(count);
@@ -112,28 +123,48 @@ impl Bench {
     }
 
     /// Each batch again, at the root that it led to.
-    fn receipts(&mut self, what: &'static str, case: Case, batches: &[Vec<Datom>], ours: &mut Florinwick) {
+    fn receipts(&mut self, what: &'static str, case: Case, heap: &[u8], batches: &[Vec<Datom>], ours: &mut Florinwick) {
         let (count, root) = (ours.slab.count, ours.root);
         let mut sent = Vec::new();
         for batch in batches {
             let bytes = bytes_of(batch);
-            ours.insert(&bytes);
+            ours.insert(heap, &bytes);
             sent.push((bytes, ours.root));
         }
-        let time = timed(|| sent.iter().for_each(|(batch, root)| ours.resend(batch, *root)));
+        let time = timed(|| sent.iter().for_each(|(batch, root)| ours.resend(heap, batch, *root)));
         self.note(what, case, "Florinwick", time / batches.len() as f64);
         ours.root = root;
         ours.slab.rewind(count);
     }
 
-    fn reads(&mut self, case: Case, round: usize, ours: &Florinwick, theirs: &Noblit) {
+    /// The same texts onto an empty heap on both sides, each with room for all of them; both must lay the same bytes.
+    fn appends(&mut self, case: Case, round: usize, texts: &[Vec<u8>]) {
+        let room = texts.len() * ROOM_A_TEXT;
+        let mut ours = vec![1; room];
+        let mut touched = ours.clone();
+        touched.clear();
+        let mut theirs = MemoryHeap::from_vec(touched);
+        let (mut used, mut by_rust) = (0, 0);
+        for turn in 0..2 {
+            if (round + turn) % 2 == 0 {
+                let time = timed(|| used = florinwick::append(&mut ours, texts));
+                self.note("append of a text", case, "Florinwick", time / texts.len() as f64);
+            } else {
+                let time = timed(|| by_rust = noblit::append(&mut theirs, texts));
+                self.note("append of a text", case, "Rust", time / texts.len() as f64);
+            }
+        }
+        assert!(used == by_rust && ours[..used] == noblit::bytes_of(&theirs), "both lay the same constants");
+    }
+
+    fn reads(&mut self, case: Case, round: usize, heap: &[u8], ours: &Florinwick, theirs: &Noblit) {
         let (mut listed, mut by_rust) = ((0, 0), (0, 0));
         let tree = case.tree;
         for turn in 0..2 {
             if (round + turn) % 2 == 0 {
-                let time = timed(|| listed = ours.list());
+                let time = timed(|| listed = ours.list(heap));
                 self.note("listed datom", case, "Florinwick", time / tree as f64);
-                let time = timed(|| ours.check());
+                let time = timed(|| ours.check(heap));
                 self.note("checked datom", case, "Florinwick", time / tree as f64);
             } else {
                 let time = timed(|| by_rust = theirs.list());
@@ -224,12 +255,13 @@ fn twice(batches: &[Vec<Datom>], mut insert: impl FnMut(&[Datom]) -> bool) -> (f
 
 /// A tree of so many datoms, by batches of 128, and room past it.
 fn grown(feed: &mut Feed, case: Case) -> Florinwick {
-    let pages = if case.keys == Keys::Random { case.tree } else { case.tree / 16 };
+    let pages = if case.keys.is_scattered() { case.tree } else { case.tree / 16 };
     let mut tree = Florinwick::new(Slab::new(case.page_size, pages + MORE_PAGES), NONE);
     let mut left = case.tree;
     while left > 0 {
         let size = left.min(BATCH);
-        tree.insert(&bytes_of(&feed.batch(size)));
+        let batch = bytes_of(&feed.batch(size));
+        tree.insert(&feed.heap, &batch);
         left -= size;
     }
     tree
@@ -246,7 +278,7 @@ fn main() {
             for tree in [10_000, 100_000, 1_000_000].into_iter().filter(|&tree| tree <= number(2)) {
                 let case = Case { keys, tree, page_size };
                 bench.tree(case);
-                if page_size == FIRST {
+                if page_size == FIRST && !keys.has_texts() {
                     bench.others(case);
                 }
             }

@@ -5,6 +5,7 @@ use std::marker::PhantomData;
 use std::ops::{Deref, DerefMut};
 
 use noblit_patched::datom::{Aid, Datom as Fact, Eid, Operation, Tid, Value};
+use noblit_patched::heap::{HeapMut, SizedHeap};
 use noblit_patched::htree::HTree;
 use noblit_patched::index::Eavt;
 use noblit_patched::memory_store::MemoryHeap;
@@ -53,6 +54,7 @@ pub fn fact(datom: &Datom) -> Fact {
 pub struct Noblit {
     pub slab: Slab,
     pub root: u64,
+    pub heap: MemoryHeap,
 }
 
 impl Noblit {
@@ -69,16 +71,16 @@ impl Noblit {
     }
 
     fn insert_at<Size: PageSize>(&mut self, batch: &[Fact]) {
-        let mut tree = HTree::new(PageId(self.root), Eavt, Lent::<_, Size>(&mut self.slab, PhantomData), MemoryHeap::new());
+        let mut tree = HTree::new(PageId(self.root), Eavt, Lent::<_, Size>(&mut self.slab, PhantomData), &self.heap);
         self.root = tree.insert(batch).expect("a store in memory").0;
     }
 
     fn list_at<Size: PageSize>(&self) -> (u64, u64) {
-        let (store, heap) = (Lent::<_, Size>(&self.slab, PhantomData), MemoryHeap::new());
+        let store = Lent::<_, Size>(&self.slab, PhantomData);
         let (lower, upper) = (Fact::new(Eid(0), Aid(0), Value(0), Tid(0), Operation::Retract), Fact::new(
             Eid(u64::MAX), Aid(u64::MAX), Value(u64::MAX), Tid(u64::MAX - 1), Operation::Assert,
         ));
-        let tree = HTree::new(PageId(self.root), Eavt, &store, &heap);
+        let tree = HTree::new(PageId(self.root), Eavt, &store, &self.heap);
         let (mut listed, mut sum) = (0, 0u64);
         for found in tree.into_iter(&lower, &upper) {
             listed += 1;
@@ -89,6 +91,20 @@ impl Noblit {
 
     fn check_at<Size: PageSize>(&self) {
         let store = Lent::<_, Size>(&self.slab, PhantomData);
-        HTree::new(PageId(self.root), Eavt, store, MemoryHeap::new()).check_invariants().expect("a store in memory");
+        HTree::new(PageId(self.root), Eavt, store, &self.heap).check_invariants().expect("a store in memory");
     }
+}
+
+/// Texts one behind the other on a heap that begins empty and has room for them: its bytes in use afterwards.
+pub fn append(heap: &mut MemoryHeap, texts: &[Vec<u8>]) -> usize {
+    for text in texts {
+        heap.append_bytes(text).expect("a heap in memory");
+    }
+    heap.len() as usize
+}
+
+pub fn bytes_of(heap: &MemoryHeap) -> Vec<u8> {
+    let mut bytes = Vec::new();
+    heap.dump(&mut bytes).expect("a heap in memory");
+    bytes
 }

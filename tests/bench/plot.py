@@ -25,7 +25,7 @@ LEFT, PANEL, GAP, ROW, HEAD, TOP = 200, 260, 110, 21, 32, 92
 
 def read(path):
     with open(path, newline="") as file:
-        rows = [row for row in csv.DictReader(file, delimiter="\t") if row["page size"] == "4096"]
+        rows = [row for row in csv.DictReader(file, delimiter="\t") if row["page size"] == "4096" and row["keys"] in dict(COLUMNS)]
     times = {}
     for row in rows:
         key = (row["what"], row["keys"], int(row["datoms"]), row["side"])

@@ -26,6 +26,7 @@ awk -F '\t' '
             is_receipt = insert != what
             print "\n| " what " | Florinwick | the Rust | " (is_receipt ? "of its insert" : "ratio") " | LMDB | SQLite |\n|---|---|---|---|---|---|"
             for (j = 1; j <= m; j++) {
+                if (!((what, rows[j], "Florinwick") in median)) continue
                 split(rows[j], parts, "\t")
                 ours = median[what, rows[j], "Florinwick"]
                 under = is_receipt ? median[insert, rows[j], "Florinwick"] : median[what, rows[j], "Rust"]

@@ -275,6 +275,7 @@ impl<'a> History<'a> {
         self.compare_whole()?;
         self.written.push((entry, datoms.to_vec()));
         self.tally.batches += 1;
+        self.tally.with_long += u64::from(batch.iter().any(|&i| self.supply.is_long(i)));
         self.tally.datoms += datoms.len() as u64;
         self.tally.pages += count;
         if root != NONE {

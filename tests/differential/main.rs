@@ -98,8 +98,8 @@ fn numbers(tallies: &[Tally], batches: u64) -> Result<String, String> {
     let sum = |of: &dyn Fn(&Tally) -> u64| tallies.iter().map(of).sum::<u64>();
     let numbers: Vec<u64> = (1..NUMBERS).map(|number| sum(&|tally| tally.answers[number])).collect();
     let mut never: Vec<String> = (1..NUMBERS).filter(|&i| i != TOO_TALL && numbers[i - 1] == 0).map(|i| format!("number {}", i)).collect();
-    let counts: [(&str, u64); 4] = [
-        ("constants", sum(&|tally| tally.appended)), ("other words", sum(&|tally| tally.other_words)),
+    let counts: [(&str, u64); 5] = [
+        ("batches with long values", sum(&|tally| tally.with_long)), ("constants", sum(&|tally| tally.appended)), ("other words", sum(&|tally| tally.other_words)),
         ("spoiled constants", sum(&|tally| tally.spoiled)), ("other heap lengths", sum(&|tally| tally.other_lengths)),
     ];
     never.extend(counts.iter().filter(|(_, count)| *count == 0).map(|(name, _)| name.to_string()));

@@ -59,6 +59,8 @@ pub struct Tally {
     pub lost_while_writing: u64,
     pub equal_while_writing: u64,
     pub pages_before_damage: u64,
+    /// Batches that went in with a value that names a constant.
+    pub with_long: u64,
     /// Constants that were appended, and datoms that were sent or asked for by another word of equal content.
     pub appended: u64,
     pub other_words: u64,
@@ -98,8 +100,8 @@ impl Tally {
             self.pages_before_damage, self.lost_while_writing, self.equal_while_writing,
         )?;
         writeln!(
-            out, "  constants: {} appended, {} sent or asked for by another word, {} spoiled; {} other heap lengths",
-            self.appended, self.other_words, self.spoiled, self.other_lengths,
+            out, "  long values in {} batches; constants: {} appended, {} sent or asked for by another word, {} spoiled; {} other heap lengths",
+            self.with_long, self.appended, self.other_words, self.spoiled, self.other_lengths,
         )
     }
 }

@@ -466,7 +466,7 @@ void put_values() {
     EXPECT(heap.kind_of(Value::max()) == Kind::Max && heap.kind_of(Value{0x8100000000000161u}) == Kind::Malformed);
     EXPECT(HeapView().kind_of(text.value) == Kind::BadConstant && HeapView(tree.heap, 24).kind_of(integer.value) == Kind::BadConstant);
     EXPECT(HeapView(tree.heap, 49).length() == 0 && heap.constant_of(text.value).size() == 24 && heap.constant_of(Value{5}).empty());
-    for (std::uint64_t offset : {1, 4, 8, 16, 32}) EXPECT(heap.kind_of(Value{std::uint64_t{3} << 62 | offset}) == Kind::BadConstant);
+    for (std::uint64_t offset : {1u, 4u, 8u, 16u, 32u}) EXPECT(heap.kind_of(Value{std::uint64_t{3} << 62 | offset}) == Kind::BadConstant);
 
     // No room: nothing has changed, and with more of it the same goes in.
     const Put refused = tree.store.put("another order text");

@@ -12,6 +12,10 @@ turned v =
     + v / 1099511627776 % 256 * 256
     + v / 281474976710656 % 256
 
+-- all eight bytes, the first of them highest
+abbrev pub swapped : ℕ → ℕ
+swapped v = turned v * 256 + v / 72057594037927936
+
 -- an integer as it is; a byte string above all of them, by its bytes and then its length; max, and what is malformed, above these
 unfoldable pub key : Value → ℕ
 key v = cond (isInt v) (v .0) (cond (isStr v) (2 ^ 62 + (turned (v .0) * 8 + strLen v)) (2 ^ 63))

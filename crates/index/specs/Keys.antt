@@ -10,7 +10,7 @@ use borrow.Author.Tests.{ltb-true}
 use Rattle.store.specs.Words.{bytesOf}
 use Rattle.datom.specs.declared.Value.{Value}
 use Rattle.datom.specs.Value.{isInt, isStr, strLen, isExternal, inlineContent}
-use Rattle.datom.specs.Content.{content-near}
+use Rattle.datom.specs.Content.{content-near, content-int}
 use Rattle.datom.specs.Laws.{Str, str-form}
 use Rattle.index.specs.Order.{andThen, cmpBytes, cmpContent, cmpValue}
 use Rattle.index.specs.Key.{key, turned}
@@ -63,7 +63,7 @@ tall : ℕ → ℕ → ℕ
 tall zero v = 0
 tall (suc m) v = v % 256 * weight m + tall m (v / 256)
 
-power : ℕ → ℕ
+unfoldable pub power : ℕ → ℕ
 power zero = 1
 power (suc m) = power m * 256
 
@@ -144,6 +144,11 @@ by-key v w false false false false e f e′ f′ = simp (e, f, e′, f′) (sym 
 pub keyed : (h : List ℕ) (v w : Value) → isExternal v ≡ false → isExternal w ≡ false → cmpValue h v w ≡ compare (key v) (key w)
 unfolding cmpValue
 keyed h v w p q = rw (content-near h v p, content-near h w q) (by-key v w (isInt v) (isStr v) (isInt w) (isStr w) refl refl refl refl)
+
+-- integers that stand in their words are their own keys
+pub by-integer : (h : List ℕ) (v w : Value) → isInt v ≡ true → isInt w ≡ true → cmpValue h v w ≡ compare (v .0) (w .0)
+unfolding cmpValue cmpContent
+by-integer h v w p q = rw (content-int h v p, content-int h w q)
 
 -- what a byte swap gives fits in a word
 swapped : (a b c d e f g h : ℕ) → a < 256 → b < 256 → c < 256 → d < 256 → e < 256 → f < 256 → g < 256 → h < 256

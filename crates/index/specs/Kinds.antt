@@ -103,6 +103,10 @@ module _ (h : List ℕ) (v : Value) where
     unfolding kindOf namedStr
     kind-lost-str e = rw (far, e)
 
+    pub text-there : bytesThere h (offsetOf v) ≡ true → content h v ≡ str (bytesAt h (offsetOf v))
+    unfolding namedStr
+    text-there e = rw (far, e)
+
   -- an integer that does not stand in the word is the constant
   pub integer-far : kindOf (content h v) ≡ 0 → isInt v ≡ false → content h v ≡ int (integerAt h (offsetOf v))
   unfolding content inlineContent namedInt namedStr kindOf
@@ -169,6 +173,11 @@ laid s m n v e p =
 pub texts : {x : Content} {a : List ℕ} (b : List ℕ) → x ≡ str a → named (cmpBytes a b) ≡ named (cmpContent x (str b))
 unfolding cmpContent
 texts b e = rw e
+
+-- two byte strings
+pub both-texts : {x y : Content} {a b : List ℕ} → x ≡ str a → y ≡ str b → named (cmpBytes a b) ≡ named (cmpContent x y)
+unfolding cmpContent
+both-texts e f = rw (e, f)
 
 -- two integers
 pub integers : {x y : Content} {a b : ℕ} → x ≡ int a → y ≡ int b → named (compare a b) ≡ named (cmpContent x y)

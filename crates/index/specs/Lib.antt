@@ -9,5 +9,6 @@ pub mod Named
 pub mod Ways
 pub mod Form
 pub mod Strings
+pub mod Eight
 pub mod Kinds
 pub mod Agree

@@ -1,7 +1,7 @@
 -- What the code's name of an ordering says of it.
 use Prim.Native.Nat.{Ordering, Ordering·lt, Ordering·eq, Ordering·gt}
 use mathlib.Core.Bool.{true, false}
-use mathlib.Core.Path.{_≡_, refl}
+use mathlib.Core.Path.{_≡_, refl, sym}
 use Rattle.store.specs.Laws.{apart}
 use Rattle.index.specs.declared.Order.the-variants.{Less, Equal, Greater}
 use Rattle.index.specs.Order.{isLess, isSame, named}
@@ -36,3 +36,10 @@ equal-named o e = rw (is-eq o e) (refl, refl)
 pub greater-named : (o : Ordering) → named o ≡ Greater → (isLess o ≡ false) × (isSame o ≡ false)
 unfolding isLess isSame
 greater-named o e = rw (is-gt o e) (refl, refl)
+
+-- orderings of one name are alike
+pub named-tells : (o p : Ordering) → named o ≡ named p → isLess o ≡ isLess p
+unfolding named isLess
+named-tells Ordering·lt p e = sym (less-named p (sym e) .0)
+named-tells Ordering·eq p e = sym (equal-named p (sym e) .0)
+named-tells Ordering·gt p e = sym (greater-named p (sym e) .0)

@@ -1,19 +1,15 @@
 -- The ways through a comparison of two datoms.
 use Prim.Native.Nat.{ℕ, _<_, compare, Ordering, Ordering·lt, Ordering·eq, Ordering·gt}
-use mathlib.Core.Bool.{false}
 use mathlib.Core.List.{List}
 use mathlib.Core.Path.{_≡_, refl}
 use Rattle.store.specs.Laws.{apart}
 use Rattle.datom.specs.declared.Datom.{Datom}
 use Rattle.datom.specs.declared.Value.{Value}
-use Rattle.datom.specs.Value.{isExternal}
 use Rattle.index.specs.declared.Index.{Index}
 use Rattle.index.specs.declared.Index.the-variants.{Eavt}
 use Rattle.index.specs.declared.Order.the-variants.{Less, Equal, Greater}
 use Rattle.index.specs.Order.{andThen, cmpValue, cmpPart, cmpParts, partsOf, orderIn, named}
-use Rattle.index.specs.Key.{key}
 use Rattle.index.specs.Compare.{cmp-lt, cmp-gt, cmp-eq}
-use Rattle.index.specs.Keys.{keyed}
 
 module _ (h : List ℕ) (a b : Datom) where
   pub less-entity : a .entity .0 < b .entity .0 → Less ≡ named (orderIn Eavt h .cmp a b)
@@ -82,18 +78,19 @@ equal-first Ordering·lt u e = absurd (apart (cc))
 equal-first Ordering·eq u e = refl
 equal-first Ordering·gt u e = absurd (apart (cc))
 
-module _ (h : List ℕ) (v w : Value) (near : isExternal v ≡ false) (also : isExternal w ≡ false) (s t : ℕ) where
-  pub less-value : key v < key w → Less ≡ named (andThen (cmpValue h v w) (compare s t))
+-- by a number for each value, then by the last words
+module _ (h : List ℕ) (v w : Value) (x y : ℕ) (by : cmpValue h v w ≡ compare x y) (s t : ℕ) where
+  pub less-value : x < y → Less ≡ named (andThen (cmpValue h v w) (compare s t))
   unfolding andThen named
-  less-value p = simp (keyed h v w near also, cmp-lt _ _ p)
+  less-value p = simp (by, cmp-lt _ _ p)
 
-  pub greater-value : key w < key v → Greater ≡ named (andThen (cmpValue h v w) (compare s t))
+  pub greater-value : y < x → Greater ≡ named (andThen (cmpValue h v w) (compare s t))
   unfolding andThen named
-  greater-value p = simp (keyed h v w near also, cmp-gt _ _ p)
+  greater-value p = simp (by, cmp-gt _ _ p)
 
-  pub same-value : key v ≡ key w → named (compare s t) ≡ named (andThen (cmpValue h v w) (compare s t))
+  pub same-value : x ≡ y → named (compare s t) ≡ named (andThen (cmpValue h v w) (compare s t))
   unfolding andThen
-  same-value p = simp (keyed h v w near also, cmp-eq _ _ p)
+  same-value p = simp (by, cmp-eq _ _ p)
 
 -- there is one order
 pub only-eavt : (i : Index) → i ≡ Eavt

@@ -1,9 +1,18 @@
 // Values by what they stand for: integers before byte strings, these before max. Only here does a comparison read the heap.
+use crate::Index;
 use crate::Order;
+use datom::Datom;
+use datom::TidOp;
 use datom::Value;
 ghost use mathlib.Core.Path.{_≡_};
-ghost use Rattle.datom.specs.Value.{content, int, str};
-ghost use Rattle.index.specs.Order.{cmpBytes, cmpContent, cmpValue, named};
+ghost use Prim.Native.Nat.{_≤_, compare};
+ghost use lib.ListN.{length, drop};
+ghost use mathlib.Core.Bool.{true};
+ghost use Rattle.heap.specs.Constant.{bytesAt};
+ghost use Rattle.datom.specs.Value.{content, int, str, offsetOf};
+ghost use Rattle.index.specs.declared.Index.the-variants.{Eavt};
+ghost use Rattle.index.specs.declared.Order.the-variants.{Less};
+ghost use Rattle.index.specs.Order.{andThen, cmpBytes, cmpContent, cmpValue, isLess, named, orderIn};
 ghost use Rattle.index.specs.Kinds.{kindOf};
 
 // The kinds of content, in their order.
@@ -51,13 +60,14 @@ fn integer_of(v: Value, heap: &[u8]) -> u64
     heap::get_u64(heap, v.offset())
 }
 
-// By unsigned bytes, a proper prefix first.
-fn order_of_bytes(a: &[u8], b: &[u8]) -> Order
-    ensures { λ r. ⌜ r ≡ named (cmpBytes (now (a .entry)) (now (b .entry))) ⌝ }
+// By unsigned bytes from index `from` on, a proper prefix first.
+fn order_of_bytes_from(a: &[u8], b: &[u8], from: usize) -> Order
+    requires { ⌜ (from ≤ length (now a)) × (from ≤ length (now b)) ⌝ }
+    ensures { λ r. ⌜ r ≡ named (cmpBytes (drop from (now (a .entry))) (drop from (now (b .entry)))) ⌝ }
 {
     let n = a.len();
     let m = b.len();
-    let mut i = 0;
+    let mut i = from;
     while i < n {
         if m <= i {
             return Order::Greater;
@@ -72,10 +82,52 @@ fn order_of_bytes(a: &[u8], b: &[u8]) -> Order
         }
         i += 1;
     }
-    if i < m {
-        return Order::Less;
+    crate::order_of_numbers(n as u64, m as u64)
+}
+
+// How many bytes both have.
+fn common_length(a: &[u8], b: &[u8]) -> usize
+    ensures { λ r. ⌜ (r ≤ length (now (a .entry))) × (r ≤ length (now (b .entry))) ⌝ }
+{
+    let n = a.len();
+    let m = b.len();
+    if n < m {
+        return n;
     }
-    Order::Equal
+    m
+}
+
+// By unsigned bytes, a proper prefix first: eight at a time as one number, the first of them highest, and what is left one by one.
+fn order_of_bytes(a: &[u8], b: &[u8]) -> Order
+    ensures { λ r. ⌜ r ≡ named (cmpBytes (now (a .entry)) (now (b .entry))) ⌝ }
+{
+    let end = common_length(a, b);
+    let mut i = 0;
+    while 8 <= end - i {
+        let x = crate::swap(store::word(a, i));
+        let y = crate::swap(store::word(b, i));
+        if x < y {
+            return Order::Less;
+        }
+        if y < x {
+            return Order::Greater;
+        }
+        i += 8;
+    }
+    order_of_bytes_from(a, b, i)
+}
+
+// Whether both have eight bytes, of which those of the first are below.
+fn first_rises(a: &[u8], b: &[u8]) -> bool
+    ensures { λ r. ⌜ (r ≡ true → Less ≡ named (cmpBytes (now (a .entry)) (now (b .entry)))) ⌝ }
+{
+    if a.len() < 8 {
+        return false;
+    }
+    if b.len() < 8 {
+        return false;
+    }
+    crate::swap(store::word(a, 0)) < crate::swap(store::word(b, 0))
 }
 
 // A byte string that a value stands for against bytes. One that stands in the word itself is laid out first.
@@ -106,8 +158,8 @@ fn order_of_texts(a: Value, b: Value, heap: &[u8]) -> Order
     order_of_text(a, &word[0..n], heap)
 }
 
-// Two values, by what they stand for.
-pub fn order_of_contents(a: Value, b: Value, heap: &[u8]) -> Order
+// Two values, by the kinds of what they stand for and then by that.
+fn order_of_kinds(a: Value, b: Value, heap: &[u8]) -> Order
     ensures { λ r. ⌜ r ≡ named (cmpValue (now (heap .entry)) a b) ⌝ }
 {
     let v = kind_of(a, heap);
@@ -125,4 +177,98 @@ pub fn order_of_contents(a: Value, b: Value, heap: &[u8]) -> Order
         return order_of_texts(a, b, heap);
     }
     Order::Equal
+}
+
+// Whether a value names a byte string that is there: if so it stands for its bytes.
+fn names_text(v: Value, heap: &[u8]) -> bool
+    ensures { λ r. ⌜ (r ≡ true → content (now (heap .entry)) v ≡ str (bytesAt (now (heap .entry)) (offsetOf v))) ⌝ }
+{
+    if v.0 < Value::TAG_MASK {
+        return false;
+    }
+    if v.is_max() {
+        return false;
+    }
+    heap::has_bytes(heap, v.offset())
+}
+
+// Two values, by what they stand for. Most that come here name two byte strings, which are compared where they lie.
+pub fn order_of_contents(a: Value, b: Value, heap: &[u8]) -> Order
+    ensures { λ r. ⌜ r ≡ named (cmpValue (now (heap .entry)) a b) ⌝ }
+{
+    if !names_text(a, heap) {
+        return order_of_kinds(a, b, heap);
+    }
+    if !names_text(b, heap) {
+        return order_of_kinds(a, b, heap);
+    }
+    order_of_bytes(
+        heap::get_bytes(heap, a.offset()),
+        heap::get_bytes(heap, b.offset()),
+    )
+}
+
+// Whether two values name byte strings of which the first is below by its first eight bytes: so of most that rise, and of no others.
+fn texts_rise(a: Value, b: Value, heap: &[u8]) -> bool
+    ensures { λ r. ⌜ (r ≡ true → Less ≡ named (cmpValue (now (heap .entry)) a b)) ⌝ }
+{
+    if !names_text(a, heap) {
+        return false;
+    }
+    if !names_text(b, heap) {
+        return false;
+    }
+    first_rises(
+        heap::get_bytes(heap, a.offset()),
+        heap::get_bytes(heap, b.offset()),
+    )
+}
+
+// Whether value, then last word, of a datom are below those of another. Where long texts rise, as they do all along a page, their first
+// bytes tell.
+fn is_below_rest(a: Value, b: Value, s: TidOp, t: TidOp, heap: &[u8]) -> bool
+    ensures { λ r. ⌜ r ≡ isLess (andThen (cmpValue (now (heap .entry)) a b) (compare (s .0) (t .0))) ⌝ }
+{
+    if texts_rise(a, b, heap) {
+        return true;
+    }
+    match crate::order_of_rest(a, b, s, t, heap) {
+        Order::Less => true,
+        Order::Equal => false,
+        Order::Greater => false,
+    }
+}
+
+// By entity, attribute, value, last word.
+fn is_below_eavt(a: Datom, b: Datom, heap: &[u8]) -> bool
+    ensures { λ r. ⌜ r ≡ isLess (orderIn Eavt (now (heap .entry)) .cmp a b) ⌝ }
+{
+    if a.entity.0 < b.entity.0 {
+        return true;
+    }
+    if b.entity.0 < a.entity.0 {
+        return false;
+    }
+    if a.attribute.0 < b.attribute.0 {
+        return true;
+    }
+    if b.attribute.0 < a.attribute.0 {
+        return false;
+    }
+    is_below_rest(
+        a.value,
+        b.value,
+        a.transaction_operation,
+        b.transaction_operation,
+        heap,
+    )
+}
+
+// Whether a datom is below another in a tree's order, by the constants of the heap in use.
+pub fn is_below(a: Datom, b: Datom, by: Index, heap: &[u8]) -> bool
+    ensures { λ r. ⌜ r ≡ isLess (orderIn by (now (heap .entry)) .cmp a b) ⌝ }
+{
+    match by {
+        Index::Eavt => is_below_eavt(a, b, heap),
+    }
 }

@@ -5,12 +5,12 @@ use datom::Datom;
 use datom::TidOp;
 use datom::Value;
 ghost use mathlib.Core.Path.{_≡_};
-ghost use Prim.Native.Nat.{_+_, _*_, _/_, compare};
+ghost use Prim.Native.Nat.{compare};
 ghost use mathlib.Core.Bool.{false};
 ghost use Rattle.datom.specs.Value.{isExternal};
 ghost use Rattle.index.specs.declared.Index.the-variants.{Eavt};
 ghost use Rattle.index.specs.Order.{andThen, cmpValue, orderIn, named};
-ghost use Rattle.index.specs.Key.{key, turned};
+ghost use Rattle.index.specs.Key.{key, turned, swapped};
 
 // Which order a tree is in.
 pub enum Index {
@@ -26,7 +26,7 @@ pub enum Order {
 
 // All eight bytes, the first of them highest: one byte swap to the compiler.
 fn swap(v: u64) -> u64
-    ensures { λ r. ⌜ r ≡ turned v * 256 + v / 72057594037927936 ⌝ }
+    ensures { λ r. ⌜ r ≡ swapped v ⌝ }
 {
     v % 256 * 72057594037927936
         + v / 256 % 256 * 281474976710656
@@ -102,17 +102,36 @@ fn order_of_far(a: Value, b: Value, s: TidOp, t: TidOp, heap: &[u8]) -> Order
     }
 }
 
-// Value, then last word. No value that stands in the word itself has the bit that marks the others.
+// Value, then last word, of any values. No value that stands in the word itself has the bit that marks the others.
+fn order_of_any(a: Value, b: Value, s: TidOp, t: TidOp, heap: &[u8]) -> Order
+    ensures { λ r. ⌜ r ≡ named (andThen (cmpValue (now (heap .entry)) a b) (compare (s .0) (t .0))) ⌝ }
+{
+    if !a.is_external() {
+        if !b.is_external() {
+            return order_of_near(a, b, s, t, heap);
+        }
+    }
+    order_of_far(a, b, s, t, heap)
+}
+
+// Value, then last word. Two integers that stand in their words are compared here and all others elsewhere, so that what the compiler
+// puts into every caller of a comparison stays short.
 fn order_of_rest(a: Value, b: Value, s: TidOp, t: TidOp, heap: &[u8]) -> Order
     ensures { λ r. ⌜ r ≡ named (andThen (cmpValue (now (heap .entry)) a b) (compare (s .0) (t .0))) ⌝ }
 {
-    if a.is_external() {
-        return order_of_far(a, b, s, t, heap);
+    if !a.is_u64() {
+        return order_of_any(a, b, s, t, heap);
     }
-    if b.is_external() {
-        return order_of_far(a, b, s, t, heap);
+    if !b.is_u64() {
+        return order_of_any(a, b, s, t, heap);
     }
-    order_of_near(a, b, s, t, heap)
+    if a.0 < b.0 {
+        return Order::Less;
+    }
+    if b.0 < a.0 {
+        return Order::Greater;
+    }
+    order_of_numbers(s.0, t.0)
 }
 
 // Entity, attribute, value, last word: the first difference decides.

@@ -1,6 +1,7 @@
 -- `index::order_of_near` meets its contract: keys are in the values' order. Assumes nothing.
 use native.Mathlib.Omega.{arith}
 use mathlib.Core.Path.{_∙_}
+use Rattle.index.specs.Keys.{keyed}
 use Rattle.index.specs.Ways.{less-value, greater-value, same-value}
 use borrow.Author.Needs.{needs}
 use Rattle.index.proofs.order_of_near.Statement.{statement}
@@ -13,16 +14,16 @@ key-of-requires-2 : tie.Need-key-of-requires-2
 key-of-requires-2 c κs = search needs
 
 returns : tie.Need-returns
-returns c = less-value _ _ _ (c .before .before .before .before .pre .0) (c .before .before .before .before .pre .1) _ _ (omega arith)
+returns c = less-value _ _ _ _ _ (keyed _ _ _ (c .before .before .before .before .pre .0) (c .before .before .before .before .pre .1)) _ _ (omega arith)
 
 returns-2 : tie.Need-returns-2
-returns-2 c = greater-value _ _ _ (c .before .before .before .before .before .pre .0) (c .before .before .before .before .before .pre .1) _ _ (omega arith)
+returns-2 c = greater-value _ _ _ _ _ (keyed _ _ _ (c .before .before .before .before .before .pre .0) (c .before .before .before .before .before .pre .1)) _ _ (omega arith)
 
 order-of-numbers-requires : tie.Need-order-of-numbers-requires
 order-of-numbers-requires c κs = search needs
 
 returns-3 : tie.Need-returns-3
-returns-3 c = c .order-of-numbers .ensures ∙ same-value _ _ _ (c .before .before .before .before .before .before .pre .0) (c .before .before .before .before .before .before .pre .1) _ _ (omega arith)
+returns-3 c = c .order-of-numbers .ensures ∙ same-value _ _ _ _ _ (keyed _ _ _ (c .before .before .before .before .before .before .pre .0) (c .before .before .before .before .before .before .pre .1)) _ _ (omega arith)
 
 pub order-of-near-spec : {M : Type 1} → statement M
 order-of-near-spec =

@@ -1,46 +1,60 @@
 -- `content::order_of_bytes` meets its contract: the rests compare as the whole does. Assumes nothing.
 use Prim.Native.Nat.{_+_, _-_, _≤_}
 use native.Mathlib.Omega.{arith}
-use mathlib.Core.Path.{_≡_, refl, _∙_, ap}
+use mathlib.Core.Path.{_≡_, refl, sym, _∙_, ap}
 use lib.ListN.{length, drop}
+use Rattle.store.specs.Words.{wordAt}
 use Rattle.index.specs.Order.{cmpBytes, named}
-use Rattle.index.specs.Strings.{bytes-less, bytes-greater, bytes-on, bytes-prefix, bytes-longer, bytes-end}
+use Rattle.index.specs.Key.{swapped}
+use Rattle.index.specs.Eight.{words-less, words-greater, words-on}
 use borrow.Author.Needs.{needs}
 use Rattle.index.proofs.content.order_of_bytes.Statement.{statement}
 use Rattle.index.proofs.content.order_of_bytes.Tie as tie
 
 abbrev Inv-loop : tie.InvT-loop
-Inv-loop a b n m i₀ i = (i ≤ length a) × (i ≤ length b) × (cmpBytes (drop i a) (drop i b) ≡ cmpBytes a b)
+Inv-loop a b end i₀ i = (i ≤ end) × (cmpBytes (drop i a) (drop i b) ≡ cmpBytes a b)
 
 abbrev μ-loop : tie.MeasureT-loop
-μ-loop a b n m i₀ i = length a - i
+μ-loop a b end i₀ i = end - i
+
+common-length-requires : tie.Need-common-length-requires Inv-loop μ-loop
+common-length-requires c κs = search needs
 
 loop-holds : tie.Need-loop-holds Inv-loop μ-loop
-loop-holds c = (omega arith, omega arith, refl)
+loop-holds c = (omega arith, refl)
+
+sub-loop : tie.Need-sub-loop Inv-loop μ-loop
+sub-loop c = search needs
+
+word-requires : tie.Need-word-requires Inv-loop μ-loop
+word-requires c κs = omega (arith, c .before .before .common-length .ensures)
+
+swap-requires : tie.Need-swap-requires Inv-loop μ-loop
+swap-requires c κs = search needs
+
+word-requires-2 : tie.Need-word-requires-2 Inv-loop μ-loop
+word-requires-2 c κs = omega arith
+
+swap-requires-2 : tie.Need-swap-requires-2 Inv-loop μ-loop
+swap-requires-2 c κs = search needs
 
 returns : tie.Need-returns Inv-loop μ-loop
 returns c =
-    let a = c .before .before .before .args in
-    let l = c .before .before .loop in
-    bytes-longer (a .a .now) (a .b .now) (l .i) (omega arith) (omega arith) ∙ ap named (l .inv .2)
-
-shared-slice-read-x : tie.Need-shared-slice-read-x Inv-loop μ-loop
-shared-slice-read-x c = search needs
-
-shared-slice-read-y : tie.Need-shared-slice-read-y Inv-loop μ-loop
-shared-slice-read-y c = search needs
+    let a = c .before .before .before .before .before .before .before .before .before .before .args in
+    let l = c .before .before .before .before .before .before .loop in
+    words-less (a .a .now) (a .b .now) (l .i) (λ i. c .before .before .before .before .before .before .before .before .before .shared-slice-known .given i .fits) (λ i. c .before .before .before .before .before .before .before .before .shared-slice-known2 .given i .fits)
+    (omega arith) (omega arith)
+    (omega (arith, c .before .before .before .swap .ensures ∙ ap swapped (c .before .before .before .before .word .ensures), c .before .swap2 .ensures ∙ ap swapped (c .before .before .word2 .ensures), c .if1 .taken))
+    ∙ ap named (l .inv .1)
 
 returns-2 : tie.Need-returns-2 Inv-loop μ-loop
 returns-2 c =
-    let a = c .before .before .before .before .before .before .args in
-    let l = c .before .before .before .before .before .loop in
-    bytes-less (a .a .now) (a .b .now) (l .i) (omega arith) (omega arith) (omega (arith, c .if2 .taken)) ∙ ap named (l .inv .2)
-
-returns-3 : tie.Need-returns-3 Inv-loop μ-loop
-returns-3 c =
-    let a = c .before .before .before .before .before .before .before .args in
-    let l = c .before .before .before .before .before .before .loop in
-    bytes-greater (a .a .now) (a .b .now) (l .i) (omega arith) (omega arith) (omega (arith, c .if3 .taken)) ∙ ap named (l .inv .2)
+    let a = c .before .before .before .before .before .before .before .before .before .before .before .args in
+    let l = c .before .before .before .before .before .before .before .loop in
+    words-greater (a .a .now) (a .b .now) (l .i) (λ i. c .before .before .before .before .before .before .before .before .before .before .shared-slice-known .given i .fits) (λ i. c .before .before .before .before .before .before .before .before .before .shared-slice-known2 .given i .fits)
+    (omega arith) (omega arith)
+    (omega (arith, c .before .before .before .before .swap .ensures ∙ ap swapped (c .before .before .before .before .before .word .ensures), c .before .before .swap2 .ensures ∙ ap swapped (c .before .before .before .word2 .ensures), c .if2 .taken))
+    ∙ ap named (l .inv .1)
 
 add-i : tie.Need-add-i Inv-loop μ-loop
 add-i c = omega arith
@@ -50,21 +64,20 @@ loop-less c = omega arith
 
 loop-again : tie.Need-loop-again Inv-loop μ-loop
 loop-again c =
-    let a = c .before .before .before .before .before .before .before .args in
-    let l = c .before .before .before .before .before .before .loop in
-    (omega arith, omega arith, bytes-on (a .a .now) (a .b .now) (l .i) (omega arith) (omega arith) (omega arith) ∙ l .inv .2)
+    let a = c .before .before .before .before .before .before .before .before .before .before .before .args in
+    let l = c .before .before .before .before .before .before .before .loop in (
+      omega arith,
+      words-on (a .a .now) (a .b .now) (l .i) (λ i. c .before .before .before .before .before .before .before .before .before .before .shared-slice-known .given i .fits) (λ i. c .before .before .before .before .before .before .before .before .before .shared-slice-known2 .given i .fits)
+          (omega arith) (omega arith)
+          (omega (arith, c .before .before .before .before .swap .ensures ∙ ap swapped (c .before .before .before .before .before .word .ensures), c .before .before .swap2 .ensures ∙ ap swapped (c .before .before .before .word2 .ensures), c .before .if1 .left, c .if2 .left))
+          ∙ l .inv .1,
+    )
 
-returns-4 : tie.Need-returns-4 Inv-loop μ-loop
-returns-4 c =
-    let a = c .before .before .before .args in
-    let l = c .before .before .loop in
-    bytes-prefix (a .a .now) (a .b .now) (l .i) (omega arith) (omega arith) ∙ ap named (l .inv .2)
+order-of-bytes-from-requires : tie.Need-order-of-bytes-from-requires Inv-loop μ-loop
+order-of-bytes-from-requires c κs = search needs
 
-returns-5 : tie.Need-returns-5 Inv-loop μ-loop
-returns-5 c =
-    let a = c .before .before .before .args in
-    let l = c .before .before .loop in
-    bytes-end (a .a .now) (a .b .now) (l .i) (omega arith) (omega arith) ∙ ap named (l .inv .2)
+returns-3 : tie.Need-returns-3 Inv-loop μ-loop
+returns-3 c = c .order-of-bytes-from .ensures ∙ ap named (c .before .before .loop .inv .1)
 
 pub order-of-bytes-spec : {M : Type 1} → statement M
 order-of-bytes-spec =
@@ -72,14 +85,17 @@ order-of-bytes-spec =
     (tie.spec
     Inv-loop
     μ-loop
+    common-length-requires
     loop-holds
+    sub-loop
+    word-requires
+    swap-requires
+    word-requires-2
+    swap-requires-2
     returns
-    shared-slice-read-x
-    shared-slice-read-y
     returns-2
-    returns-3
     add-i
     loop-less
     loop-again
-    returns-4
-    returns-5)
+    order-of-bytes-from-requires
+    returns-3)

@@ -2,12 +2,12 @@
 use borrow.Author.Needs.{needs}
 use Prim.Native.Nat.{_+_, _*_, _-_, _≤_}
 use native.Mathlib.Omega.{arith}
+use mathlib.Core.Bool.{Bool, true, false}
 use mathlib.Core.Path.{_≡_, refl, sym, _∙_}
+use borrow.Author.Tests.{not-true, not-false}
 use lib.ListN.{drop}
 use Rattle.datom.specs.Datom.{datomAt, datomsOf}
-use Rattle.index.specs.declared.Order.the-variants.{Less, Equal, Greater}
-use Rattle.index.specs.Order.{orderIn, named}
-use Rattle.index.specs.Named.{less-named, equal-named, greater-named}
+use Rattle.index.specs.Order.{orderIn, isLess}
 use Rattle.rules.specs.Page.{rising}
 use Rattle.memory_store.specs.Steps.{rising-on, rising-stop, rising-end}
 use Rattle.memory_store.proofs.reader.all_rising.Statement.{statement}
@@ -40,11 +40,15 @@ add-datom-at c = search needs
 datom-at-requires-2 : tie.Need-datom-at-requires-2 Inv-loop μ-loop
 datom-at-requires-2 c κs = search needs
 
-order-of-requires : tie.Need-order-of-requires Inv-loop μ-loop
-order-of-requires c κs = search needs
+is-below-requires : tie.Need-is-below-requires Inv-loop μ-loop
+is-below-requires c κs = search needs
 
-enum-told : tie.Need-enum-told Inv-loop μ-loop
-enum-told c = search needs
+returns : tie.Need-returns Inv-loop μ-loop
+returns c =
+    let a = c .before .before .before .before .before .before .before .before .args in
+    let l = c .before .before .before .before .before .loop in
+    let e : isLess (orderIn (a .by) (a .heap .now) .cmp (datomAt (a .s .now) (32 * l .i)) (datomAt (a .s .now) (32 * l .i + 32))) ≡ false = cc (c .before .is-below .ensures, not-true (c .before .is-below .result) (c .if1 .taken)) in
+    sym (rising-stop (orderIn (a .by) (a .heap .now) .cmp) (a .k) (l .i) (a .s .now) (omega arith) e) ∙ l .inv .1
 
 add-i : tie.Need-add-i Inv-loop μ-loop
 add-i c = search needs
@@ -54,33 +58,13 @@ loop-less c = search needs
 
 loop-again : tie.Need-loop-again Inv-loop μ-loop
 loop-again c =
-    let a = c .before .before .before .before .before .before .before .before .before .args in
-    let l = c .before .before .before .before .before .before .loop in
-    let e : named (orderIn (a .by) (a .heap .now) .cmp (datomAt (a .s .now) (32 * l .i)) (datomAt (a .s .now) (32 * l .i + 32))) ≡ Less = cc (c .enum-told .given .1) in
-    (omega arith, sym (rising-on (orderIn (a .by) (a .heap .now) .cmp) (a .k) (l .i) (a .s .now) (omega arith) (less-named _ e .0)) ∙ l .inv .1)
-
-enum-told-2 : tie.Need-enum-told-2 Inv-loop μ-loop
-enum-told-2 c = search needs
-
-returns : tie.Need-returns Inv-loop μ-loop
-returns c =
-    let a = c .before .before .before .before .before .before .before .before .before .args in
-    let l = c .before .before .before .before .before .before .loop in
-    let e : named (orderIn (a .by) (a .heap .now) .cmp (datomAt (a .s .now) (32 * l .i)) (datomAt (a .s .now) (32 * l .i + 32))) ≡ Equal = cc (c .enum-told2 .given .1) in
-    sym (rising-stop (orderIn (a .by) (a .heap .now) .cmp) (a .k) (l .i) (a .s .now) (omega arith) (equal-named _ e .0)) ∙ l .inv .1
-
-enum-told-3 : tie.Need-enum-told-3 Inv-loop μ-loop
-enum-told-3 c = search needs
+    let a = c .before .before .before .before .before .before .before .before .args in
+    let l = c .before .before .before .before .before .loop in
+    let e : isLess (orderIn (a .by) (a .heap .now) .cmp (datomAt (a .s .now) (32 * l .i)) (datomAt (a .s .now) (32 * l .i + 32))) ≡ true = cc (c .before .is-below .ensures, not-false (c .before .is-below .result) (c .if1 .left)) in
+    (omega arith, sym (rising-on (orderIn (a .by) (a .heap .now) .cmp) (a .k) (l .i) (a .s .now) (omega arith) e) ∙ l .inv .1)
 
 returns-2 : tie.Need-returns-2 Inv-loop μ-loop
-returns-2 c =
-    let a = c .before .before .before .before .before .before .before .before .before .args in
-    let l = c .before .before .before .before .before .before .loop in
-    let e : named (orderIn (a .by) (a .heap .now) .cmp (datomAt (a .s .now) (32 * l .i)) (datomAt (a .s .now) (32 * l .i + 32))) ≡ Greater = cc (c .enum-told3 .given .1) in
-    sym (rising-stop (orderIn (a .by) (a .heap .now) .cmp) (a .k) (l .i) (a .s .now) (omega arith) (greater-named _ e .0)) ∙ l .inv .1
-
-returns-3 : tie.Need-returns-3 Inv-loop μ-loop
-returns-3 c = let l = c .before .loop in sym (rising-end (orderIn _ _ .cmp) _ (l .i) _ (omega arith)) ∙ l .inv .1
+returns-2 c = let l = c .before .loop in sym (rising-end (orderIn _ _ .cmp) _ (l .i) _ (omega arith)) ∙ l .inv .1
 
 pub all-rising-spec : {M : Type 1} → statement M
 all-rising-spec =
@@ -95,13 +79,9 @@ all-rising-spec =
     mul-datom-at-2
     add-datom-at
     datom-at-requires-2
-    order-of-requires
-    enum-told
+    is-below-requires
+    returns
     add-i
     loop-less
     loop-again
-    enum-told-2
-    returns
-    enum-told-3
-    returns-2
-    returns-3)
+    returns-2)

@@ -69,41 +69,25 @@ module _ (t : DatomOrd) (s : List ℕ) (at : ℕ) where
       let k : at + 32 + 8 ≡ at + 40 = omega arith in
       less-named _ (sym (by (datomAt s at) (datomAt s (at + 32)) e (rw k h))) .0
 
--- the rule of order, further on in a list of k datoms
-module _ (t : DatomOrd) (k : ℕ) (s : List ℕ) where
-  -- one datom further, which lies at byte a
-  risen-on :
-      (i j a : ℕ) → j ≡ i + 1 → a ≡ 32 * i → j < k → Rises t s a →
-      rising (t .cmp) (drop i (datomsOf k s)) ≡ rising (t .cmp) (drop j (datomsOf k s))
-  risen-on i j a e ea h l = rw e (rising-on (t .cmp) k i s (omega arith) (rw ea at l))
-
-  -- four datoms further
-  pub four-risen :
-      (i : ℕ) → i + 4 < k → FourRise t s (32 * i) → rising (t .cmp) (drop i (datomsOf k s)) ≡ rising (t .cmp) (drop (i + 4) (datomsOf k s))
-  four-risen i h u =
-      risen-on i (i + 1) _ (omega arith) (omega arith) (omega arith) (u .0)
-      ∙ risen-on (i + 1) (i + 2) _ (omega arith) (omega arith) (omega arith) (u .1)
-      ∙ risen-on (i + 2) (i + 3) _ (omega arith) (omega arith) (omega arith) (u .2)
-      ∙ risen-on (i + 3) (i + 4) _ (omega arith) (omega arith) (omega arith) (u .3)
-
 -- of an order that lets every inline integer be stored
 module _ (t : DatomOrd) (plain : (d : Datom) → d .value .0 < 2 ^ 62 → t .stored d ≡ true) (k : ℕ) (s : List ℕ) where
-  -- the rule of form, one datom further, whose value lies at byte v
-  plain-on :
-      (i j v : ℕ) → j ≡ i + 1 → v ≡ 32 * i + 16 → j < k → wordAt s v < 2 ^ 62 →
-      all (t .stored) (drop i (datomsOf k s)) ≡ all (t .stored) (drop j (datomsOf k s))
+  -- one datom further: it lies at byte a, its value at byte v
+  plain-on : (i j a v : ℕ) → j ≡ i + 1 → a ≡ 32 * i → v ≡ 32 * i + 16 → j < k → Rises t s a → wordAt s v < 2 ^ 62 → SameFrom t k s i j
   unfolding datomAt
-  plain-on i j v e ev h f = rw e (all-on (t .stored) (datoms-from k i s (omega arith)) (plain (datomAt s (32 * i)) (rw ev at f)))
+  plain-on i j a v e ea ev h l f =
+      rw e (
+        all-on (t .stored) (datoms-from k i s (omega arith)) (plain (datomAt s (32 * i)) (rw ev at f)),
+        rising-on (t .cmp) k i s (omega arith) (rw ea at l),
+      )
 
   -- four datoms further
   pub four-on : (i : ℕ) → i + 4 < k → FourRise t s (32 * i) → FourIntegers s (32 * i) → SameFrom t k s i (i + 4)
-  four-on i h u v = (
-    plain-on i (i + 1) _ (omega arith) (omega arith) (omega arith) (v .0)
-        ∙ plain-on (i + 1) (i + 2) _ (omega arith) (omega arith) (omega arith) (v .1)
-        ∙ plain-on (i + 2) (i + 3) _ (omega arith) (omega arith) (omega arith) (v .2)
-        ∙ plain-on (i + 3) (i + 4) _ (omega arith) (omega arith) (omega arith) (v .3),
-    four-risen t k s i h u,
-  )
+  four-on i h u v =
+      let p = plain-on i (i + 1) _ _ (omega arith) (omega arith) (omega arith) (omega arith) (u .0) (v .0) in
+      let q = plain-on (i + 1) (i + 2) _ _ (omega arith) (omega arith) (omega arith) (omega arith) (u .1) (v .1) in
+      let r = plain-on (i + 2) (i + 3) _ _ (omega arith) (omega arith) (omega arith) (omega arith) (u .2) (v .2) in
+      let w = plain-on (i + 3) (i + 4) _ _ (omega arith) (omega arith) (omega arith) (omega arith) (u .3) (v .3) in
+      (p .0 ∙ q .0 ∙ r .0 ∙ w .0, p .1 ∙ q .1 ∙ r .1 ∙ w .1)
 
 module _ (id : PageId) (n at : ℕ) (s : List ℕ) where
   older-next :

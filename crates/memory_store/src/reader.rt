@@ -101,22 +101,6 @@ fn all_stored(s: &[u8], from: usize, k: usize, heap: &[u8]) -> bool
     true
 }
 
-// From which index on it is still to be asked whether the k datoms from `from` on rise: past those that do so by entity and attribute, four
-// at a time. Pages of long values are rising so as well, though their form is tested one by one.
-fn risen_front(s: &[u8], from: usize, k: usize, by: Index) -> usize
-    requires { ⌜ (from ≤ k) × (32 * k ≤ length (now s)) ⌝ }
-    ensures { λ r. ⌜ (r ≤ k) × ((h : List ℕ) → rising (orderIn by h .cmp) (drop from (datomsOf k (now (s .entry)))) ≡ rising (orderIn by h .cmp) (drop r (datomsOf k (now (s .entry))))) ⌝ }
-{
-    let mut i = from;
-    while i + 4 < k {
-        if !four_rise(s, 32 * i, by) {
-            return i;
-        }
-        i += 4;
-    }
-    i
-}
-
 // The k datoms from index `from` on rise. Each is compared with the next where they lie, so that nothing is carried from turn to turn.
 fn all_rising(s: &[u8], from: usize, k: usize, by: Index, heap: &[u8]) -> bool
     requires { ⌜ (from ≤ k) × (32 * k ≤ length (now s)) ⌝ }
@@ -227,8 +211,7 @@ pub fn read_page(s: &[u8], c: usize, id: PageId, by: Index, heap: &[u8]) -> Read
     if !all_stored(s, plain, k, heap) {
         return Reading::Broken(Rule::Form);
     }
-    let risen = risen_front(s, plain, k, by);
-    if !all_rising(s, risen, k, by, heap) {
+    if !all_rising(s, plain, k, by, heap) {
         return Reading::Broken(Rule::Order);
     }
     read_children(s, c, id, level, k)

@@ -35,20 +35,17 @@ returns-3 c =
     way-form _ _ _ _ _ (head .before .before .before .level-of .ensures) _ (head .before .before .count-of .ensures) (head .before .if1 .left) (head .if2 .left)
     (c .before .before .plain-front .ensures .1 _ .0 ∙ sym (c .before .all-stored .ensures) ∙ not-true _ (c .if3 .taken))
 
-risen-front-requires : tie.Need-risen-front-requires
-risen-front-requires c κs = search needs
-
 all-rising-requires : tie.Need-all-rising-requires
 all-rising-requires c κs = search needs
 
 returns-4 : tie.Need-returns-4
 unfolding said orderIn
 returns-4 c =
-    let same = c .before .before .before .before .before .plain-front .ensures .1 _ in
-    let head = c .before .before .before .before .before .before in
+    let same = c .before .before .before .before .plain-front .ensures .1 _ in
+    let head = c .before .before .before .before .before in
     way-order _ _ _ _ _ (head .before .before .before .level-of .ensures) _ (head .before .before .count-of .ensures) (head .before .if1 .left) (head .if2 .left)
-    (same .0 ∙ sym (c .before .before .before .before .all-stored .ensures) ∙ not-false _ (c .before .before .before .if3 .left))
-    (same .1 ∙ c .before .before .risen-front .ensures .1 _ ∙ sym (c .before .all-rising .ensures) ∙ not-true _ (c .if4 .taken))
+    (same .0 ∙ sym (c .before .before .before .all-stored .ensures) ∙ not-false _ (c .before .before .if3 .left))
+    (same .1 ∙ sym (c .before .all-rising .ensures) ∙ not-true _ (c .if4 .taken))
 
 read-children-requires : tie.Need-read-children-requires
 read-children-requires c κs = search needs
@@ -56,12 +53,12 @@ read-children-requires c κs = search needs
 returns-5 : tie.Need-returns-5
 unfolding orderIn
 returns-5 c =
-    let same = c .before .before .before .before .before .before .plain-front .ensures .1 _ in
-    let head = c .before .before .before .before .before .before .before in
+    let same = c .before .before .before .before .before .plain-front .ensures .1 _ in
+    let head = c .before .before .before .before .before .before in
     c .read-children .ensures
     ∙ way-on _ _ _ _ _ (head .before .before .before .level-of .ensures) _ (head .before .before .count-of .ensures) (head .before .if1 .left) (head .if2 .left)
-    (same .0 ∙ sym (c .before .before .before .before .before .all-stored .ensures) ∙ not-false _ (c .before .before .before .before .if3 .left))
-    (same .1 ∙ c .before .before .before .risen-front .ensures .1 _ ∙ sym (c .before .before .all-rising .ensures) ∙ not-false _ (c .before .if4 .left))
+    (same .0 ∙ sym (c .before .before .before .before .all-stored .ensures) ∙ not-false _ (c .before .before .before .if3 .left))
+    (same .1 ∙ sym (c .before .before .all-rising .ensures) ∙ not-false _ (c .before .if4 .left))
 
 pub read-page-spec : {M : Type 1} → statement M
 read-page-spec =
@@ -74,7 +71,6 @@ read-page-spec =
     plain-front-requires
     all-stored-requires
     returns-3
-    risen-front-requires
     all-rising-requires
     returns-4
     read-children-requires

@@ -43,7 +43,7 @@ while IFS='|' read -r file name script; do
     esac
     rustc --edition 2021 --crate-name differential --cap-lints allow -o "$out/program" "${flags[@]}" -L "$out" --extern harness -L target/staticlib -l static=florinwick \
         "$out/differential/main.rs"
-    if "$out/program" 2000 1 > "$out/found" 2>&1; then
+    if "$out/program" 10000 1 > "$out/found" 2>&1; then
         missed=$((missed + 1))
         echo "MISSED  $name"
     elif grep -q '^DIFFERENCE: ' "$out/found"; then

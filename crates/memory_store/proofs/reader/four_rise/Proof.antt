@@ -1,55 +1,82 @@
--- `four_rise` meets its contract: one test for each. Assumes nothing.
-use borrow.Author.Tests.{not-false}
-use Rattle.memory_store.specs.Fours.{never}
+-- `four_rise` meets its contract: one law for each order. Assumes nothing.
+use native.Mathlib.Omega.{arith}
+use Rattle.memory_store.specs.Fours.{never, four-eavt, four-aevt, four-avet}
 use borrow.Author.Needs.{needs}
 use Rattle.memory_store.proofs.reader.four_rise.Statement.{statement}
 use Rattle.memory_store.proofs.reader.four_rise.Tie as tie
 
-pair-rises-requires : tie.Need-pair-rises-requires
-pair-rises-requires c κs = search needs
+enum-told : tie.Need-enum-told
+enum-told c = search needs
+
+add-four-words-rise : tie.Need-add-four-words-rise
+add-four-words-rise c = search needs
+
+four-words-rise-requires : tie.Need-four-words-rise-requires
+four-words-rise-requires c κs = search needs
+
+enum-told-2 : tie.Need-enum-told-2
+enum-told-2 c = search needs
+
+add-four-words-rise-2 : tie.Need-add-four-words-rise-2
+add-four-words-rise-2 c = search needs
+
+four-words-rise-requires-2 : tie.Need-four-words-rise-requires-2
+four-words-rise-requires-2 c κs = search needs
+
+enum-told-3 : tie.Need-enum-told-3
+enum-told-3 c = search needs
+
+add-word : tie.Need-add-word
+add-word c = search needs
+
+word-requires : tie.Need-word-requires
+word-requires c κs = search needs
 
 returns : tie.Need-returns
 returns c e h = never e
 
-add-pair-rises : tie.Need-add-pair-rises
-add-pair-rises c = search needs
+add-four-words-rise-3 : tie.Need-add-four-words-rise-3
+add-four-words-rise-3 c = search needs
 
-pair-rises-requires-2 : tie.Need-pair-rises-requires-2
-pair-rises-requires-2 c κs = search needs
+add-four-words-rise-4 : tie.Need-add-four-words-rise-4
+add-four-words-rise-4 c = search needs
+
+four-words-rise-requires-3 : tie.Need-four-words-rise-requires-3
+four-words-rise-requires-3 c κs = search needs
 
 returns-2 : tie.Need-returns-2
-returns-2 c e h = never e
-
-add-pair-rises-2 : tie.Need-add-pair-rises-2
-add-pair-rises-2 c = search needs
-
-pair-rises-requires-3 : tie.Need-pair-rises-requires-3
-pair-rises-requires-3 c κs = search needs
+returns-2 c e h =
+    let a = c .before .before .before .before .args in
+    rw (c .before .enum-told .given .1) (four-eavt h (a .s .now) (a .at) (c .four-words-rise .ensures e))
 
 returns-3 : tie.Need-returns-3
-returns-3 c e h = never e
-
-add-pair-rises-3 : tie.Need-add-pair-rises-3
-add-pair-rises-3 c = search needs
-
-pair-rises-requires-4 : tie.Need-pair-rises-requires-4
-pair-rises-requires-4 c κs = search needs
+returns-3 c e h =
+    let a = c .before .before .before .before .args in
+    rw (c .before .enum-told2 .given .1) (four-aevt h (a .s .now) (a .at) (c .four-words-rise2 .ensures e))
 
 returns-4 : tie.Need-returns-4
-returns-4 c e h = (c .before .before .before .before .before .before .pair-rises .ensures (not-false _ (c .before .before .before .before .before .if1 .left)) h, c .before .before .before .before .pair-rises2 .ensures (not-false _ (c .before .before .before .if2 .left)) h, c .before .before .pair-rises3 .ensures (not-false _ (c .before .if3 .left)) h, c .pair-rises4 .ensures e h)
+returns-4 c e h =
+    let a = c .before .before .before .before .before .before .args in
+    rw (c .before .before .before .enum-told3 .given .1)
+    (four-avet h (a .s .now) (a .at) (c .before .before .before .before .before .before .pre .1) (omega (arith, c .before .before .word .ensures, c .before .if1 .left)) (c .four-words-rise3 .ensures e))
 
 pub four-rise-spec : {M : Type 1} → statement M
 four-rise-spec =
     tie.close
     (tie.spec
-    pair-rises-requires
+    enum-told
+    add-four-words-rise
+    four-words-rise-requires
+    enum-told-2
+    add-four-words-rise-2
+    four-words-rise-requires-2
+    enum-told-3
+    add-word
+    word-requires
     returns
-    add-pair-rises
-    pair-rises-requires-2
+    add-four-words-rise-3
+    add-four-words-rise-4
+    four-words-rise-requires-3
     returns-2
-    add-pair-rises-2
-    pair-rises-requires-3
     returns-3
-    add-pair-rises-3
-    pair-rises-requires-4
     returns-4)

@@ -23,20 +23,20 @@ loop-holds c = (search needs, λ h. (refl, refl))
 add-loop : tie.Need-add-loop Inv-loop μ-loop
 add-loop c = search needs
 
-mul-four-rise : tie.Need-mul-four-rise Inv-loop μ-loop
-mul-four-rise c = search needs
-
-four-rise-requires : tie.Need-four-rise-requires Inv-loop μ-loop
-four-rise-requires c κs = search needs
-
-returns : tie.Need-returns Inv-loop μ-loop
-returns c = c .before .before .before .loop .inv
-
 mul-four-integers : tie.Need-mul-four-integers Inv-loop μ-loop
 mul-four-integers c = search needs
 
 four-integers-requires : tie.Need-four-integers-requires Inv-loop μ-loop
 four-integers-requires c κs = search needs
+
+returns : tie.Need-returns Inv-loop μ-loop
+returns c = c .before .before .before .loop .inv
+
+mul-four-rise : tie.Need-mul-four-rise Inv-loop μ-loop
+mul-four-rise c = search needs
+
+four-rise-requires : tie.Need-four-rise-requires Inv-loop μ-loop
+four-rise-requires c κs = (search needs, c .before .four-integers .ensures (not-false _ (c .if1 .left)))
 
 returns-2 : tie.Need-returns-2 Inv-loop μ-loop
 returns-2 c = c .before .before .before .before .before .loop .inv
@@ -53,7 +53,7 @@ loop-again c =
     let l = c .before .before .before .before .before .loop in (
       omega arith,
       λ h.
-          let s = four-on (orderIn (a .by) h) (order-plain (a .by) h) (a .k) (a .s .now) (l .i) (omega arith) (c .before .before .before .four-rise .ensures (not-false _ (c .before .before .if1 .left)) h) (c .before .four-integers .ensures (not-false _ (c .if2 .left))) in
+          let s = four-on (orderIn (a .by) h) (order-plain (a .by) h) (a .k) (a .s .now) (l .i) (omega arith) (c .before .four-rise .ensures (not-false _ (c .if2 .left)) h) (c .before .before .before .four-integers .ensures (not-false _ (c .before .before .if1 .left))) in
           (l .inv .1 h .0 ∙ s .0, l .inv .1 h .1 ∙ s .1),
     )
 
@@ -68,11 +68,11 @@ plain-front-spec =
     μ-loop
     loop-holds
     add-loop
-    mul-four-rise
-    four-rise-requires
-    returns
     mul-four-integers
     four-integers-requires
+    returns
+    mul-four-rise
+    four-rise-requires
     returns-2
     add-i
     loop-less

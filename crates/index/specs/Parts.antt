@@ -50,16 +50,11 @@ parts-of Eavt = refl
 parts-of Aevt = refl
 parts-of Avet = refl
 
--- the number that stands before the values, behind the first part, and the one behind them; 0 where there is none
+-- the number that stands before the values, behind the first part; 0 where there is none
 abbrev pub numberBefore : Index → Datom → ℕ
 numberBefore Eavt d = d .attribute .0
 numberBefore Aevt d = d .entity .0
 numberBefore Avet d = 0
-
-abbrev pub numberBehind : Index → Datom → ℕ
-numberBehind Eavt d = 0
-numberBehind Aevt d = 0
-numberBehind Avet d = d .entity .0
 
 -- nothing that comes before the values is different
 abbrev pub ValueNext : Index → Datom → Datom → Type 0

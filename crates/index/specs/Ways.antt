@@ -1,15 +1,19 @@
 -- The ways through a comparison of two datoms.
 use Prim.Native.Nat.{ℕ, _<_, compare, Ordering, Ordering·lt, Ordering·eq, Ordering·gt}
+use native.Mathlib.Omega.{arith}
 use mathlib.Core.List.{List, [], _∷_}
-use mathlib.Core.Path.{_≡_, refl, sym, ap, _∙_}
+use mathlib.Core.Bool.{true}
+use mathlib.Core.Logic.{_⊎_, inl, inr}
+use mathlib.Core.Path.{_≡_, refl, sym, _∙_}
 use Rattle.store.specs.Laws.{apart}
 use Rattle.datom.specs.declared.Datom.{Datom}
 use Rattle.index.specs.declared.Index.{Index}
 use Rattle.index.specs.declared.Index.the-variants.{Eavt, Aevt, Avet}
 use Rattle.index.specs.declared.Order.the-variants.{Less, Equal, Greater}
-use Rattle.index.specs.Order.{andThen, cmpValue, Part, theLast, cmpPart, cmpParts, orderIn, named}
-use Rattle.index.specs.Compare.{cmp-lt, cmp-gt, cmp-eq, cmp-same}
-use Rattle.index.specs.Parts.{wordIn, first, second, third, later, parts-of, numberBefore, numberBehind, ValueNext, SecondTells, first-number, second-number}
+use Rattle.index.specs.Order.{andThen, cmpValue, Part, theLast, cmpPart, cmpParts, partsOf, orderIn, named}
+use Rattle.index.specs.Compare.{cmp-lt, cmp-gt, cmp-eq}
+use Rattle.index.specs.Front.{byValue}
+use Rattle.index.specs.Parts.{wordIn, first, second, third, later, parts-of, numberBefore, ValueNext, SecondTells, first-number, second-number}
 
 -- nothing behind it
 then-nothing : (o : Ordering) → andThen o Ordering·eq ≡ o
@@ -90,7 +94,7 @@ module _ (i : Index) (h : List ℕ) (a b : Datom) where
       Greater ≡ named (orderIn i h .cmp a b)
   greater-two t e l = greater-part h (second i) (third i ∷ theLast ∷ []) a b _ _ (second-number h a b i t) l ∙ on-to-later e
 
--- behind it, of any values: a number, the values, a number, the last words
+-- the values, where nothing before them is different
 module _ (h : List ℕ) (a b : Datom) where
   abbrev pub values : Ordering
   values = cmpValue h (a .value) (b .value)
@@ -98,37 +102,32 @@ module _ (h : List ℕ) (a b : Datom) where
   abbrev pub last : Ordering
   last = compare (a .«transaction_operation» .0) (b .«transaction_operation» .0)
 
-  later-far :
-      (i : Index) →
-      andThen (compare (numberBefore i a) (numberBefore i b)) (andThen values (andThen (compare (numberBehind i a) (numberBehind i b)) last))
-      ≡ cmpParts h (later i) a b
-  unfolding cmpParts cmpPart andThen
-  later-far Eavt = rw (cmp-same 0, then-nothing last)
-  later-far Aevt = rw (cmp-same 0, then-nothing last)
-  later-far Avet = rw (cmp-same 0, then-nothing last)
+  -- then the entity, which is the same where it came before
+  pub behind-attribute :
+      (i : Index) → a .attribute .0 ≡ b .attribute .0 → (byValue i ≡ true) ⊎ (a .entity .0 ≡ b .entity .0) →
+      named (andThen values (andThen (compare (a .entity .0) (b .entity .0)) last)) ≡ named (orderIn i h .cmp a b)
+  unfolding orderIn partsOf cmpParts cmpPart andThen
+  behind-attribute Eavt f (inl v) = absurd (apart (cc))
+  behind-attribute Eavt f (inr e) = simp (cmp-eq _ _ e, cmp-eq _ _ f, then-nothing last)
+  behind-attribute Aevt f (inl v) = absurd (apart (cc))
+  behind-attribute Aevt f (inr e) = simp (cmp-eq _ _ e, cmp-eq _ _ f, then-nothing last)
+  behind-attribute Avet f t = simp (cmp-eq _ _ f, then-nothing last)
 
-  module _ (i : Index) where
-    pub less-before : numberBefore i a < numberBefore i b → Less ≡ named (cmpParts h (later i) a b)
-    less-before l = rw (← later-far i) (less-front _ _ (sym (less-number _ _ l)))
+  pub behind-next :
+      (i : Index) → ValueNext i a b → named (andThen values (andThen (compare (a .entity .0) (b .entity .0)) last)) ≡ named (orderIn i h .cmp a b)
+  behind-next Eavt e = behind-attribute Eavt (e .1) (inr (e .0))
+  behind-next Aevt e = behind-attribute Aevt (e .0) (inr (e .1))
+  behind-next Avet e = behind-attribute Avet (e .0) (inl refl)
 
-    pub greater-before : numberBefore i b < numberBefore i a → Greater ≡ named (cmpParts h (later i) a b)
-    greater-before l = rw (← later-far i) (greater-front _ _ (sym (greater-number _ _ l)))
+  -- the number before the values
+  pub less-before :
+      (i : Index) → wordIn (first i) a ≡ wordIn (first i) b → numberBefore i a < numberBefore i b → Less ≡ named (orderIn i h .cmp a b)
+  less-before Eavt e l = less-two Eavt h a b tt e l
+  less-before Aevt e l = less-two Aevt h a b tt e l
+  less-before Avet e l = absurd (omega arith)
 
-    -- where the values come next they decide, or what stands behind them
-    module _ (e : numberBefore i a ≡ numberBefore i b) where
-      on-to-values : named (andThen values (andThen (compare (numberBehind i a) (numberBehind i b)) last)) ≡ named (cmpParts h (later i) a b)
-      on-to-values = rw (← later-far i) (equal-front _ _ (sym (same-number _ _ e)))
-
-      pub less-next : named values ≡ Less → Less ≡ named (cmpParts h (later i) a b)
-      less-next l = less-front _ _ l ∙ on-to-values
-
-      pub greater-next : named values ≡ Greater → Greater ≡ named (cmpParts h (later i) a b)
-      greater-next l = greater-front _ _ l ∙ on-to-values
-
-      pub on-to-behind :
-          named values ≡ Equal → named (andThen (compare (numberBehind i a) (numberBehind i b)) last) ≡ named (cmpParts h (later i) a b)
-      on-to-behind l = equal-front _ _ l ∙ on-to-values
-
-  -- a lower value, where nothing before it is different
-  pub less-value : (i : Index) → ValueNext i a b → named values ≡ Less → Less ≡ named (orderIn i h .cmp a b)
-  less-value i e l = less-next i (e .1) l ∙ on-to-later i h a b (e .0)
+  pub greater-before :
+      (i : Index) → wordIn (first i) a ≡ wordIn (first i) b → numberBefore i b < numberBefore i a → Greater ≡ named (orderIn i h .cmp a b)
+  greater-before Eavt e l = greater-two Eavt h a b tt e l
+  greater-before Aevt e l = greater-two Aevt h a b tt e l
+  greater-before Avet e l = absurd (omega arith)

@@ -4,13 +4,13 @@ use crate::Order;
 use datom::Datom;
 use datom::Value;
 ghost use mathlib.Core.Path.{_≡_};
-ghost use Prim.Native.Nat.{_≤_};
+ghost use Prim.Native.Nat.{_≤_, compare};
 ghost use lib.ListN.{length, drop};
 ghost use mathlib.Core.Bool.{true};
 ghost use Rattle.heap.specs.Constant.{bytesAt};
 ghost use Rattle.datom.specs.Value.{content, int, str, offsetOf};
 ghost use Rattle.index.specs.declared.Order.the-variants.{Less};
-ghost use Rattle.index.specs.Order.{cmpBytes, cmpContent, cmpValue, isLess, named, orderIn};
+ghost use Rattle.index.specs.Order.{andThen, cmpBytes, cmpContent, cmpValue, isLess, named, orderIn};
 ghost use Rattle.index.specs.Kinds.{kindOf};
 
 // The kinds of content, in their order.
@@ -222,19 +222,22 @@ fn texts_rise(a: Value, b: Value, heap: &[u8]) -> bool
     )
 }
 
-// Whether a datom is below another by all parts.
-fn is_below_whole(a: Datom, b: Datom, by: Index, heap: &[u8]) -> bool
-    ensures { λ r. ⌜ r ≡ isLess (orderIn by (now (heap .entry)) .cmp a b) ⌝ }
+// Whether value, entity, last word of a datom are below those of another. Where long texts rise, as they do all along a page, their first
+// bytes tell.
+fn is_below_behind(a: Value, b: Value, x: u64, y: u64, s: u64, t: u64, heap: &[u8]) -> bool
+    ensures { λ r. ⌜ r ≡ isLess (andThen (cmpValue (now (heap .entry)) a b) (andThen (compare x y) (compare s t))) ⌝ }
 {
-    match crate::order_of_far(a, b, by, heap) {
+    if texts_rise(a, b, heap) {
+        return true;
+    }
+    match crate::order_of_behind(a, b, x, y, s, t, heap) {
         Order::Less => true,
         Order::Equal => false,
         Order::Greater => false,
     }
 }
 
-// Whether a datom is below another in a tree's order, by the constants of the heap in use. Where nothing before the values is different and
-// long texts rise, as they do all along a page, their first bytes tell.
+// Whether a datom is below another in a tree's order, by the constants of the heap in use.
 pub fn is_below(a: Datom, b: Datom, by: Index, heap: &[u8]) -> bool
     ensures { λ r. ⌜ r ≡ isLess (orderIn by (now (heap .entry)) .cmp a b) ⌝ }
 {
@@ -246,10 +249,21 @@ pub fn is_below(a: Datom, b: Datom, by: Index, heap: &[u8]) -> bool
     if y < x {
         return false;
     }
-    if crate::number_before(a, by) == crate::number_before(b, by) {
-        if texts_rise(a.value, b.value, heap) {
-            return true;
-        }
+    let u = crate::number_before(a, by);
+    let w = crate::number_before(b, by);
+    if u < w {
+        return true;
     }
-    is_below_whole(a, b, by, heap)
+    if w < u {
+        return false;
+    }
+    is_below_behind(
+        a.value,
+        b.value,
+        a.entity.0,
+        b.entity.0,
+        a.transaction_operation.0,
+        b.transaction_operation.0,
+        heap,
+    )
 }

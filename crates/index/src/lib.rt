@@ -5,8 +5,8 @@ use datom::Datom;
 use datom::Value;
 ghost use mathlib.Core.Path.{_≡_};
 ghost use Prim.Native.Nat.{compare};
-ghost use Rattle.index.specs.Order.{andThen, cmpValue, cmpParts, indexOf, orderIn, named};
-ghost use Rattle.index.specs.Parts.{wordIn, first, later, numberBefore, numberBehind};
+ghost use Rattle.index.specs.Order.{andThen, cmpValue, indexOf, orderIn, named};
+ghost use Rattle.index.specs.Parts.{wordIn, first, numberBefore};
 ghost use Rattle.index.specs.Front.{bothIntegers, byEntity, byValue};
 ghost use Rattle.index.specs.Key.{key, turned, swapped};
 
@@ -46,7 +46,7 @@ fn first_of(d: Datom, by: Index) -> u64
     }
 }
 
-// The number that an order asks of behind the first part and before the values, and the one behind them: 0 where it asks of none there.
+// The number that an order asks of behind the first part and before the values; 0 where it asks of none there.
 fn number_before(d: Datom, by: Index) -> u64
     ensures { λ r. ⌜ r ≡ numberBefore by d ⌝ }
 {
@@ -54,16 +54,6 @@ fn number_before(d: Datom, by: Index) -> u64
         Index::Eavt => d.attribute.0,
         Index::Aevt => d.entity.0,
         Index::Avet => 0,
-    }
-}
-
-fn number_behind(d: Datom, by: Index) -> u64
-    ensures { λ r. ⌜ r ≡ numberBehind by d ⌝ }
-{
-    match by {
-        Index::Eavt => 0,
-        Index::Aevt => 0,
-        Index::Avet => d.entity.0,
     }
 }
 
@@ -178,50 +168,16 @@ fn is_by_value(by: Index) -> bool
     }
 }
 
-// By the parts behind the first, of any values: what stands before the values, the values, and what stands behind them.
-fn order_of_later(a: Datom, b: Datom, by: Index, heap: &[u8]) -> Order
-    ensures { λ r. ⌜ r ≡ named (cmpParts (now (heap .entry)) (later by) a b) ⌝ }
+// Value, entity, last word: what an order asks of behind the attribute, where the entity does not tell before. It takes words and no datoms,
+// which would have to be put into memory for the call.
+fn order_of_behind(a: Value, b: Value, x: u64, y: u64, s: u64, t: u64, heap: &[u8]) -> Order
+    ensures { λ r. ⌜ r ≡ named (andThen (cmpValue (now (heap .entry)) a b) (andThen (compare x y) (compare s t))) ⌝ }
 {
-    let x = number_before(a, by);
-    let y = number_before(b, by);
-    if x < y {
-        return Order::Less;
-    }
-    if y < x {
-        return Order::Greater;
-    }
-    match order_of_values(a.value, b.value, heap) {
+    match order_of_values(a, b, heap) {
         Order::Less => Order::Less,
-        Order::Equal => order_of_pairs(
-            number_behind(a, by),
-            number_behind(b, by),
-            a.transaction_operation.0,
-            b.transaction_operation.0,
-        ),
+        Order::Equal => order_of_pairs(x, y, s, t),
         Order::Greater => Order::Greater,
     }
-}
-
-// By all parts, of any values.
-fn order_of_far(a: Datom, b: Datom, by: Index, heap: &[u8]) -> Order
-    ensures { λ r. ⌜ r ≡ named (orderIn by (now (heap .entry)) .cmp a b) ⌝ }
-{
-    let x = first_of(a, by);
-    let y = first_of(b, by);
-    if x < y {
-        return Order::Less;
-    }
-    if y < x {
-        return Order::Greater;
-    }
-    order_of_later(a, b, by, heap)
-}
-
-// What the first two words leave open. A function of its own, so that the datoms are put into memory for the call only where it is made.
-fn order_of_open(a: Datom, b: Datom, by: Index, heap: &[u8]) -> Order
-    ensures { λ r. ⌜ r ≡ named (orderIn by (now (heap .entry)) .cmp a b) ⌝ }
-{
-    order_of_far(a, b, by, heap)
 }
 
 // How two datoms stand to each other in a tree's order, by the constants of the heap in use: the first difference decides. The first two
@@ -237,36 +193,37 @@ pub fn order_of(a: Datom, b: Datom, by: Index, heap: &[u8]) -> Order
         if b.entity.0 < a.entity.0 {
             return Order::Greater;
         }
-        if a.attribute.0 < b.attribute.0 {
-            return Order::Less;
-        }
-        if b.attribute.0 < a.attribute.0 {
-            return Order::Greater;
-        }
-    } else {
-        if a.attribute.0 < b.attribute.0 {
-            return Order::Less;
-        }
-        if b.attribute.0 < a.attribute.0 {
-            return Order::Greater;
-        }
-        if is_by_value(by) {
-            if are_integers(a.value, b.value) {
-                if a.value.0 < b.value.0 {
-                    return Order::Less;
-                }
-                if b.value.0 < a.value.0 {
-                    return Order::Greater;
-                }
-            }
-        } else {
-            if a.entity.0 < b.entity.0 {
+    }
+    if a.attribute.0 < b.attribute.0 {
+        return Order::Less;
+    }
+    if b.attribute.0 < a.attribute.0 {
+        return Order::Greater;
+    }
+    if is_by_value(by) {
+        if are_integers(a.value, b.value) {
+            if a.value.0 < b.value.0 {
                 return Order::Less;
             }
-            if b.entity.0 < a.entity.0 {
+            if b.value.0 < a.value.0 {
                 return Order::Greater;
             }
         }
+    } else {
+        if a.entity.0 < b.entity.0 {
+            return Order::Less;
+        }
+        if b.entity.0 < a.entity.0 {
+            return Order::Greater;
+        }
     }
-    order_of_open(a, b, by, heap)
+    order_of_behind(
+        a.value,
+        b.value,
+        a.entity.0,
+        b.entity.0,
+        a.transaction_operation.0,
+        b.transaction_operation.0,
+        heap,
+    )
 }

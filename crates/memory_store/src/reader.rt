@@ -12,10 +12,11 @@ ghost use Rattle.store.specs.Words.{wordAt, cells};
 ghost use Rattle.store.specs.Page.{page, pageOf};
 ghost use mathlib.Core.List.{List};
 ghost use Rattle.datom.specs.Datom.{datomsOf, storedDatom};
+ghost use Rattle.index.specs.declared.Index.the-variants.{Eavt, Aevt, Avet};
 ghost use Rattle.index.specs.Order.{orderIn};
 ghost use Rattle.rules.specs.Page.{nodeOf, all, rising, older, childRules, readPage};
 ghost use Rattle.memory_store.specs.Reading.{said};
-ghost use Rattle.memory_store.specs.Fours.{FourRise, FourIntegers, WordsRise, FourWordsRise, FourOlder, SameFrom};
+ghost use Rattle.memory_store.specs.Fours.{FourIntegers, WordsRise, FourWordsRise, FourOlder, SameFrom};
 
 // A page is unreadable by a rule, or it has a level and a count.
 pub enum Reading {
@@ -66,41 +67,74 @@ fn four_words_rise(s: &[u8], p: usize, q: usize) -> bool
     words_rise(s, p + 96, q + 96)
 }
 
-// Whether four datoms from byte `at` on and the one behind them rise by the first two words of the order, so whatever the heap holds. The
-// four have integers; by value the one behind them must have one, too.
-fn four_rise(s: &[u8], at: usize, by: Index) -> bool
-    requires { ⌜ (at + 152 ≤ length (now s)) × FourIntegers (now s) at ⌝ }
-    ensures { λ r. ⌜ (r ≡ true → (h : List ℕ) → FourRise (orderIn by h) (now (s .entry)) at) ⌝ }
-{
-    match by {
-        Index::Eavt => four_words_rise(s, at, at + 8),
-        Index::Aevt => four_words_rise(s, at + 8, at),
-        Index::Avet => {
-            if Value::TAG_EXTERNAL <= store::word(s, at + 144) {
-                return false;
-            }
-            four_words_rise(s, at + 8, at + 16)
-        }
-    }
-}
-
 // How many of the k datoms need no further look: four at a time, for as long as they are integers and rise by the first two words of the
-// order. Of most pages that leaves four datoms at most.
-fn plain_front(s: &[u8], k: usize, by: Index) -> usize
+// order, so whatever the heap holds. Of most pages that leaves four datoms at most. A loop for each order, so that none asks in its turns
+// which it is.
+fn plain_front_eavt(s: &[u8], k: usize) -> usize
     requires { ⌜ 32 * k ≤ length (now s) ⌝ }
-    ensures { λ r. ⌜ (r ≤ k) × ((h : List ℕ) → SameFrom (orderIn by h) k (now (s .entry)) 0 r) ⌝ }
+    ensures { λ r. ⌜ (r ≤ k) × ((h : List ℕ) → SameFrom (orderIn Eavt h) k (now (s .entry)) 0 r) ⌝ }
 {
     let mut i = 0;
     while i + 4 < k {
         if !four_integers(s, 32 * i) {
             return i;
         }
-        if !four_rise(s, 32 * i, by) {
+        if !four_words_rise(s, 32 * i, 32 * i + 8) {
             return i;
         }
         i += 4;
     }
     i
+}
+
+fn plain_front_aevt(s: &[u8], k: usize) -> usize
+    requires { ⌜ 32 * k ≤ length (now s) ⌝ }
+    ensures { λ r. ⌜ (r ≤ k) × ((h : List ℕ) → SameFrom (orderIn Aevt h) k (now (s .entry)) 0 r) ⌝ }
+{
+    let mut i = 0;
+    while i + 4 < k {
+        if !four_integers(s, 32 * i) {
+            return i;
+        }
+        if !four_words_rise(s, 32 * i + 8, 32 * i) {
+            return i;
+        }
+        i += 4;
+    }
+    i
+}
+
+// By value the datom behind the four must have an integer, too: a constant may have any content.
+fn plain_front_avet(s: &[u8], k: usize) -> usize
+    requires { ⌜ 32 * k ≤ length (now s) ⌝ }
+    ensures { λ r. ⌜ (r ≤ k) × ((h : List ℕ) → SameFrom (orderIn Avet h) k (now (s .entry)) 0 r) ⌝ }
+{
+    let mut i = 0;
+    while i + 4 < k {
+        if !four_integers(s, 32 * i) {
+            return i;
+        }
+        if Value::TAG_EXTERNAL <= store::word(s, 32 * i + 144) {
+            return i;
+        }
+        if !four_words_rise(s, 32 * i + 8, 32 * i + 16) {
+            return i;
+        }
+        i += 4;
+    }
+    i
+}
+
+// The same in a tree's order.
+fn plain_front(s: &[u8], k: usize, by: Index) -> usize
+    requires { ⌜ 32 * k ≤ length (now s) ⌝ }
+    ensures { λ r. ⌜ (r ≤ k) × ((h : List ℕ) → SameFrom (orderIn by h) k (now (s .entry)) 0 r) ⌝ }
+{
+    match by {
+        Index::Eavt => plain_front_eavt(s, k),
+        Index::Aevt => plain_front_aevt(s, k),
+        Index::Avet => plain_front_avet(s, k),
+    }
 }
 
 // Every one of the k datoms from index `from` on may be stored: only their values are looked at.

@@ -1,8 +1,8 @@
--- `content::is_below` meets its contract: the first word, the first bytes of the texts, or all parts. Assumes nothing.
+-- `content::is_below` meets its contract: the first word, the number behind it, or the values. Assumes nothing.
 use native.Mathlib.Omega.{arith}
 use mathlib.Core.Path.{sym, _∙_}
-use Rattle.index.specs.Ways.{less-first, greater-first, less-value}
-use Rattle.index.specs.Named.{less-named, greater-named}
+use Rattle.index.specs.Ways.{less-first, greater-first, less-before, greater-before, behind-next}
+use Rattle.index.specs.Named.{less-named, greater-named, named-tells}
 use borrow.Author.Needs.{needs}
 use Rattle.index.proofs.content.is_below.Statement.{statement}
 use Rattle.index.proofs.content.is_below.Tie as tie
@@ -25,20 +25,19 @@ number-before-requires c κs = search needs
 number-before-requires-2 : tie.Need-number-before-requires-2
 number-before-requires-2 c κs = search needs
 
-texts-rise-requires : tie.Need-texts-rise-requires
-texts-rise-requires c κs = search needs
-
 returns-3 : tie.Need-returns-3
-returns-3 c =
-    let a = c .before .before .before .before .before .before .before .before .before .before .args in
-    let below = less-value (a .heap .now) (a .a) (a .b) (a .by) (omega arith, omega arith) (sym (c .before .texts-rise .ensures (c .if4 .taken))) in
-    sym (less-named _ (sym below) .0)
-
-is-below-whole-requires : tie.Need-is-below-whole-requires
-is-below-whole-requires c κs = search needs
+returns-3 c = let a = c .before .before .before .before .before .before .before .before .args in sym (less-named _ (sym (less-before (a .heap .now) (a .a) (a .b) (a .by) (omega arith) (omega arith))) .0)
 
 returns-4 : tie.Need-returns-4
-returns-4 c = search needs
+returns-4 c = let a = c .before .before .before .before .before .before .before .before .before .args in sym (greater-named _ (sym (greater-before (a .heap .now) (a .a) (a .b) (a .by) (omega arith) (omega arith))) .0)
+
+is-below-behind-requires : tie.Need-is-below-behind-requires
+is-below-behind-requires c κs = search needs
+
+returns-5 : tie.Need-returns-5
+returns-5 c =
+    let a = c .before .before .before .before .before .before .before .before .before .before .args in
+    c .is-below-behind .ensures ∙ named-tells _ _ (behind-next (a .heap .now) (a .a) (a .b) (a .by) (omega arith, omega arith))
 
 pub is-below-spec : {M : Type 1} → statement M
 is-below-spec =
@@ -50,7 +49,7 @@ is-below-spec =
     returns-2
     number-before-requires
     number-before-requires-2
-    texts-rise-requires
     returns-3
-    is-below-whole-requires
-    returns-4)
+    returns-4
+    is-below-behind-requires
+    returns-5)

@@ -77,7 +77,6 @@ pub enum Refusal {
     BadBound,
     BadConstant(usize),
     HeapFull,
-    BadOrder,
     NotHeld(usize),
 }
 
@@ -98,7 +97,6 @@ impl Refusal {
             Refusal::BadBound => 10,
             Refusal::BadConstant(_) => 11,
             Refusal::HeapFull => 12,
-            Refusal::BadOrder => 13,
             Refusal::NotHeld(_) => 16,
         }
     }
@@ -121,7 +119,6 @@ impl Refusal {
             Refusal::NoRoom => 0,
             Refusal::BadBound => 0,
             Refusal::HeapFull => 0,
-            Refusal::BadOrder => 0,
         }
     }
 
@@ -142,7 +139,6 @@ impl Refusal {
             Refusal::BadBound => 0,
             Refusal::BadConstant(_) => 0,
             Refusal::HeapFull => 0,
-            Refusal::BadOrder => 0,
             Refusal::NotHeld(_) => 0,
         }
     }

@@ -31,7 +31,6 @@ fn send(store: &mut [u8], heap: &[u8], scratch: &mut [u8], stand: Stand, batch: 
                     size: stored.size,
                     count: std::num::wrapping_add_u64(stored.count, pages),
                     heap: stored.heap,
-                    order: stored.order,
                 },
                 root,
             }
@@ -89,7 +88,6 @@ fn with_heap(stand: Stand, used: u64) -> Stand {
             size: stored.size,
             count: stored.count,
             heap: used,
-            order: stored.order,
         },
         root,
     }
@@ -138,7 +136,6 @@ fn main() {
             size: 256,
             count: 0,
             heap: 0,
-            order: 0,
         },
         root: PageId::max(),
     };

@@ -43,4 +43,3 @@ pub mod Base
 pub mod Example
 pub mod Wide
 pub mod Long
-pub mod Orders

@@ -19,7 +19,6 @@ use answer::Stepped;
 use datom::Datom;
 use index::Index;
 use memory_store::access;
-use ordered::Ordered;
 use store::Extent;
 use store::PageId;
 use store::StoreRecord;
@@ -180,13 +179,9 @@ pub fn step_in(store: &[u8], extent: Extent, cursor: Cursor, by: Index, heap: &[
 pub fn step(store: &[u8], recorded: StoreRecord, cursor: Cursor, heap: &[u8]) -> Stepped
     ensures { λ r. ⌜ r ≡ stepCall recorded (now (store .entry)) (now (heap .entry)) cursor ⌝ }
 {
-    let extent = recorded.extent();
-    let bad = memory_store::is_bad(store, extent);
-    match ordered::order_in(recorded, bad, heap) {
-        Ordered::Refused(refusal) => refused(cursor, refusal),
-        Ordered::By(by) => {
-            let used = heap::used_of(heap, recorded.heap);
-            step_in(store, extent, cursor, by, used)
-        }
+    if heap::is_bad(heap, recorded.heap) {
+        return refused(cursor, Refusal::BadStore);
     }
+    let used = heap::used_of(heap, recorded.heap);
+    step_in(store, recorded.extent(), cursor, Index::Eavt, used)
 }

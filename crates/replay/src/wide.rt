@@ -21,7 +21,6 @@ fn stored(tree: Tree) -> StoreRecord {
         size: SIZE,
         count: tree.pages,
         heap: 0,
-        order: 0,
     }
 }
 

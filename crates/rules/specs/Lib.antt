@@ -11,7 +11,6 @@ pub mod Check
 pub mod Held
 pub mod Append
 pub mod Calls
-pub mod Recorded
 pub mod Table
 pub mod Open
 pub mod Starred

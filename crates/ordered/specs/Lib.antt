@@ -1,2 +1,0 @@
--- The order that a record names, against the rules.
-pub mod Ways

@@ -14,7 +14,14 @@
 //     const florinwick::Put text = store.put("an order text");  // of any length: inline where it fits; HeapFull: lend more, and put again
 //     if (text) .. *Datom::asserted(7001, 4, text.value, 2) ..
 //     const auto read = store.heap().text_of(datom.value);      // nothing if that is no text
-// They are compared by content, so a batch of them is sorted by ByContent{store.heap()}.
+// They are compared by content, so a batch of them is sorted by store.by_content().
+//
+// A store has one order, which is given with its page size and kept in its record: by entity, attribute, value and transaction, or
+//     florinwick::Store by_attribute({bytes, length}, 4096, florinwick::Order::Aevt, {scratch, scratch_length});
+//     florinwick::Store by_value({bytes, length}, {heap, heap_length}, StoreRecord::of(4096, Order::Avet), {scratch, scratch_length});
+// Batches rise in it, listings go by it, and bounds, which are datoms in every order, are compared in it: in these two all of attribute a
+// lies from {0, a} to {0, a + 1}, in the second with values from v to below w from {0, a, v} to {0, a, w}. No root says in which order it
+// was written: who keeps roots and bytes keeps the order with them.
 //
 // Repeated says that the tree holds one datom of the batch, the first of them at the index; it does not say that it holds the others.
 // `Reader::held` says that.
@@ -40,11 +47,35 @@
 
 namespace florinwick {
 
-// Of this header and florinwick.h, as "0.5.0". The archive is of the same one if both come from one install.
+// Of this header and florinwick.h, as "0.6.0". The archive is of the same one if both come from one install.
 inline constexpr std::string_view version = FLORINWICK_VERSION;
 
 // The sizes that a page may have, in bytes; all pages of a store have one. scratch_need is 0 for any other.
 inline constexpr std::uint64_t page_sizes[] = {256, 568, 4096, 8192};
+
+// In which order a store has its datoms: the first letters of entity, attribute, value and transaction_operation. In all of them values are
+// compared by content.
+enum class Order : std::uint64_t {
+    Eavt = FLORINWICK_EAVT,
+    Aevt = FLORINWICK_AEVT,
+    Avet = FLORINWICK_AVET,
+};
+inline constexpr Order orders[] = {Order::Eavt, Order::Aevt, Order::Avet};
+
+// Nothing for a number that no order has. A record with such a one is answered BadOrder.
+[[nodiscard]] constexpr std::optional<Order> order_of(std::uint64_t number) {
+    if (number > FLORINWICK_AVET) return std::nullopt;
+    return static_cast<Order>(number);
+}
+
+constexpr std::string_view name(Order order) {
+    switch (order) {
+        case Order::Eavt: return "eavt";
+        case Order::Aevt: return "aevt";
+        case Order::Avet: return "avet";
+    }
+    return "unknown";
+}
 
 template <class T>
 class Span;
@@ -144,6 +175,9 @@ T *lent(Span<T> slice) {
     return slice.data() != nullptr ? slice.data() : &nothing;
 }
 
+// Below 0, 0 or above 0, as `a` is below, equal to or above `b`.
+constexpr int sign_of(std::uint64_t a, std::uint64_t b) { return a < b ? -1 : a > b ? 1 : 0; }
+
 }  // namespace detail
 
 inline std::uint64_t get_word(const std::uint8_t *at) {
@@ -239,7 +273,7 @@ struct Value {
     // Of the words. Two constants of equal content are not equal so: HeapView::compare.
     friend constexpr bool operator==(Value a, Value b) { return a.word == b.word; }
     friend constexpr bool operator!=(Value a, Value b) { return a.word != b.word; }
-    // The tree's order of values that name no constant: integers, then strings by their bytes, a prefix first, then max. A word that is no
+    // As every order has values that name no constant: integers, then strings by their bytes, a prefix first, then max. A word that is no
     // value, which no tree and no bound may have, comes behind the strings; so does one that names a constant: ByContent has its place.
     friend constexpr bool operator<(Value a, Value b) {
         const int of_a = a.kind(), of_b = b.kind();
@@ -281,7 +315,7 @@ struct Datom {
         if (transaction & 1) return std::nullopt;
         return Datom{entity, attribute, value, transaction};
     }
-    // Bounds with nothing below and nothing above them.
+    // Bounds with nothing below and nothing above them, in every order.
     static constexpr Datom min() { return {}; }
     static constexpr Datom max() { return {FLORINWICK_MAX, FLORINWICK_MAX, Value::max(), FLORINWICK_MAX}; }
 
@@ -300,16 +334,32 @@ struct Datom {
                a.transaction_operation == b.transaction_operation;
     }
     friend constexpr bool operator!=(const Datom &a, const Datom &b) { return !(a == b); }
-    // The tree's order, in which a batch rises and a listing goes, where no value names a constant: else ByContent.
-    friend constexpr bool operator<(const Datom &a, const Datom &b) {
-        if (a.entity != b.entity) return a.entity < b.entity;
-        if (a.attribute != b.attribute) return a.attribute < b.attribute;
-        if (a.value != b.value) return a.value < b.value;
-        return a.transaction_operation < b.transaction_operation;
-    }
+    // The order Eavt, where no value names a constant: else ByContent. InOrder has the other two.
+    friend constexpr bool operator<(const Datom &a, const Datom &b) { return compare(a, b, Order::Eavt, compare_words) < 0; }
     friend constexpr bool operator>(const Datom &a, const Datom &b) { return b < a; }
     friend constexpr bool operator<=(const Datom &a, const Datom &b) { return !(b < a); }
     friend constexpr bool operator>=(const Datom &a, const Datom &b) { return !(a < b); }
+
+    // Below 0 if `a` comes before `b` in the order, 0 if they are equal in it, else above 0. Their values are compared so by
+    // `compare_values`, and only where that decides.
+    template <class CompareValues>
+    static constexpr int compare(const Datom &a, const Datom &b, Order order, const CompareValues &compare_values) {
+        const int entities = detail::sign_of(a.entity, b.entity), attributes = detail::sign_of(a.attribute, b.attribute);
+        const int first = order == Order::Eavt ? entities : attributes, other = order == Order::Eavt ? attributes : entities;
+        if (first != 0) return first;
+        if (order != Order::Avet && other != 0) return other;
+        if (const int values = compare_values(a.value, b.value)) return values;
+        return other != 0 ? other : detail::sign_of(a.transaction_operation, b.transaction_operation);
+    }
+    // Of values that name no constant.
+    static constexpr int compare_words(Value a, Value b) { return a < b ? -1 : b < a ? 1 : 0; }
+};
+
+// The order of a store whose values name no constants, for std::sort and the like: else ByContent.
+struct InOrder {
+    Order order = Order::Eavt;
+
+    constexpr bool operator()(const Datom &a, const Datom &b) const { return Datom::compare(a, b, order, Datom::compare_words) < 0; }
 };
 
 // The record of a datom in florinwick.h, for callers that have it.
@@ -367,21 +417,17 @@ public:
     int compare(Value a, Value b) const {
         const int of_a = rank_of(a), of_b = rank_of(b);
         if (of_a != of_b) return of_a < of_b ? -1 : 1;
-        if (of_a == 0) return sign_of(*integer_of(a), *integer_of(b));
-        if (of_a == 2) return sign_of(a.word, b.word);
+        if (of_a == 0) return detail::sign_of(*integer_of(a), *integer_of(b));
+        if (of_a == 2) return detail::sign_of(a.word, b.word);
         const Text text_a = *text_of(a), text_b = *text_of(b);
         return text_a.view().compare(text_b.view());
     }
-    // The tree's order.
-    int compare(const Datom &a, const Datom &b) const {
-        if (a.entity != b.entity) return sign_of(a.entity, b.entity);
-        if (a.attribute != b.attribute) return sign_of(a.attribute, b.attribute);
-        if (const int values = compare(a.value, b.value)) return values;
-        return sign_of(a.transaction_operation, b.transaction_operation);
+    // In the order of a store, so with its datoms. Which are equal is the same in every order.
+    int compare(const Datom &a, const Datom &b, Order order = Order::Eavt) const {
+        return Datom::compare(a, b, order, [this](Value of_a, Value of_b) { return compare(of_a, of_b); });
     }
 
 private:
-    static constexpr int sign_of(std::uint64_t a, std::uint64_t b) { return a < b ? -1 : a > b ? 1 : 0; }
     static constexpr std::uint64_t padded(std::uint64_t size) { return (size + 7) / 8 * 8; }
     int rank_of(Value value) const {
         const Kind kind = kind_of(value);
@@ -403,11 +449,12 @@ private:
     ByteView bytes_;
 };
 
-// The tree's order where values may name constants, for std::sort and the like. Equal is who comes before the other neither way.
+// The order of a store where values may name constants, for std::sort and the like. Equal is who comes before the other neither way.
 struct ByContent {
     HeapView heap;
+    Order order = Order::Eavt;
 
-    bool operator()(const Datom &a, const Datom &b) const { return heap.compare(a, b) < 0; }
+    bool operator()(const Datom &a, const Datom &b) const { return heap.compare(a, b, order) < 0; }
     bool operator()(Value a, Value b) const { return heap.compare(a, b) < 0; }
 };
 
@@ -416,6 +463,10 @@ struct StoreRecord {
     std::uint64_t page_size = 0;
     std::uint64_t page_count = 0;
     std::uint64_t heap_length = 0;   // bytes of the heap in use
+    Order order = Order::Eavt;       // of its datoms, from its first batch on
+
+    // That of a new store.
+    static constexpr StoreRecord of(std::uint64_t page_size, Order order = Order::Eavt) { return {page_size, 0, 0, order}; }
 
     static constexpr std::size_t size = FLORINWICK_RECORD_BYTES;
 };
@@ -464,6 +515,7 @@ public:
         put_word(bytes_, record.page_size);
         put_word(bytes_ + 8, record.page_count);
         put_word(bytes_ + 16, record.heap_length);
+        put_word(bytes_ + 24, static_cast<std::uint64_t>(record.order));
     }
     const std::uint8_t *data() const { return bytes_; }
     static constexpr std::size_t size() { return StoreRecord::size; }
@@ -554,6 +606,7 @@ enum class Number : std::uint64_t {
     BadBound = FLORINWICK_BAD_BOUND,
     BadConstant = FLORINWICK_BAD_CONSTANT,
     HeapFull = FLORINWICK_HEAP_FULL,
+    BadOrder = FLORINWICK_BAD_ORDER,
     NotHeld = FLORINWICK_NOT_HELD,
     Ended = FLORINWICK_ENDED,
     Unsound = FLORINWICK_UNSOUND,
@@ -574,6 +627,7 @@ constexpr const char *name_of(Number number) {
         case Number::BadBound: return "BadBound";
         case Number::BadConstant: return "BadConstant";
         case Number::HeapFull: return "HeapFull";
+        case Number::BadOrder: return "BadOrder";
         case Number::NotHeld: return "NotHeld";
         case Number::Ended: return "Ended";
         case Number::Unsound: return "Unsound";
@@ -700,10 +754,10 @@ struct [[nodiscard]] Put {
 // The record that the next call is handed: the one place where it is made. A batch that is Done brings more pages, a constant a longer heap,
 // and whatever is refused nothing.
 [[nodiscard]] constexpr StoreRecord record_after(const StoreRecord &record, const Answer &answer) {
-    return {record.page_size, record.page_count + (answer.done() ? answer.pages : 0), record.heap_length};
+    return {record.page_size, record.page_count + (answer.done() ? answer.pages : 0), record.heap_length, record.order};
 }
 [[nodiscard]] constexpr StoreRecord record_after(const StoreRecord &record, const Put &put) {
-    return {record.page_size, record.page_count, record.heap_length + (put.done() ? put.bytes : 0)};
+    return {record.page_size, record.page_count, record.heap_length + (put.done() ? put.bytes : 0), record.order};
 }
 
 // A text of any length as a value: inline where it fits, else appended to the lent heap, and the record has moved on. It does not look for
@@ -828,13 +882,17 @@ class Reader {
 public:
     Reader(ByteView store, ByteView heap, const StoreRecord &record) : store_(store), heap_(heap), record_(record) {}
     // Of a store without long values.
-    Reader(ByteView store, std::uint64_t page_size, std::uint64_t page_count) : Reader(store, ByteView(), {page_size, page_count, 0}) {}
+    Reader(ByteView store, std::uint64_t page_size, std::uint64_t page_count, Order order = Order::Eavt)
+        : Reader(store, ByteView(), {page_size, page_count, 0, order}) {}
 
     const StoreRecord &record() const { return record_; }
     std::uint64_t page_size() const { return record_.page_size; }
     std::uint64_t page_count() const { return record_.page_count; }
+    Order order() const { return record_.order; }
     // To read the values that it lists.
     HeapView heap() const { return {heap_, record_.heap_length}; }
+    // As it lists: what sorts a batch to be asked for.
+    ByContent by_content() const { return {heap(), order()}; }
 
     // Why a page cannot be fetched.
     Answer refusal(std::uint64_t page) const {
@@ -865,8 +923,8 @@ public:
                         detail::lent(bytes), bytes.size(), words, sizeof words);
         return Answer::read(words);
     }
-    // From the first datom not below `lower` up to the last below `upper`. A refused start is seen after the loop, as a refused step is. A
-    // long value has to be put before it can be a bound.
+    // From the first datom not below `lower` up to the last below `upper`, all in the store's order. A refused start is seen after the loop,
+    // as a refused step is. A long value has to be put before it can be a bound.
     Listing list(std::uint64_t root, const Datom &lower = Datom::min(), const Datom &upper = Datom::max()) const {
         Listing listing(store_, heap_, record_);
         listing.start(root, lower, upper);
@@ -881,12 +939,14 @@ private:
 // A store that is written to: the lent bytes of pages and heap, and the record and the root, which move on with every batch that is Done.
 class Store {
 public:
-    // Scratch is at least scratch_need(page_size) bytes. The record of a new store is {page_size}.
+    // Scratch is at least scratch_need(page_size) bytes. The record of a new store is {page_size}, or StoreRecord::of(page_size, order).
     Store(ByteArea bytes, ByteArea heap, const StoreRecord &record, ByteArea scratch, std::uint64_t root = none)
         : bytes_(bytes), heap_(heap), scratch_(scratch), record_(record), root_(root) {}
     // One without long values.
+    Store(ByteArea bytes, std::uint64_t page_size, Order order, ByteArea scratch, std::uint64_t page_count = 0, std::uint64_t root = none)
+        : Store(bytes, ByteArea(), {page_size, page_count, 0, order}, scratch, root) {}
     Store(ByteArea bytes, std::uint64_t page_size, ByteArea scratch, std::uint64_t page_count = 0, std::uint64_t root = none)
-        : Store(bytes, ByteArea(), {page_size, page_count, 0}, scratch, root) {}
+        : Store(bytes, page_size, Order::Eavt, scratch, page_count, root) {}
 
     static std::uint64_t scratch_need(std::uint64_t page_size) { return florinwick_scratch_need(page_size); }
 
@@ -894,7 +954,10 @@ public:
     std::uint64_t page_size() const { return record_.page_size; }
     std::uint64_t page_count() const { return record_.page_count; }
     std::uint64_t root() const { return root_; }
+    Order order() const { return record_.order; }
     HeapView heap() const { return {heap_, record_.heap_length}; }
+    // What sorts a batch for this store, with the constants that have been put so far.
+    ByContent by_content() const { return {heap(), order()}; }
     Reader reader() const { return Reader(bytes_, heap_, record_); }
 
     // A text of any length, or an integer of any size, as a value for this store's datoms and bounds: `put` above.

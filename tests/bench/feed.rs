@@ -1,6 +1,38 @@
-//! What is fed to every tree: batches that rise, of datoms with ascending or random entities, of fills, or of long values on a heap.
+//! What is fed to every tree: batches that rise in its order, of datoms with ascending or random entities, of fills, or of long values on a heap.
+
+use std::cmp::Ordering;
 
 pub type Datom = [u64; 4];
+
+/// Which words decide before which, with the number that the library has for it.
+#[derive(Clone, Copy, Debug, PartialEq)]
+pub enum Order {
+    Eavt = 0,
+    Aevt = 1,
+    Avet = 2,
+}
+
+impl Order {
+    pub const ALL: [Order; 3] = [Order::Eavt, Order::Aevt, Order::Avet];
+
+    pub fn name(self) -> &'static str {
+        match self {
+            Order::Eavt => "eavt",
+            Order::Aevt => "aevt",
+            Order::Avet => "avet",
+        }
+    }
+
+    /// Facts of one last word.
+    fn compare(self, left: &Fact, right: &Fact) -> Ordering {
+        let (entity, attribute, value) = (left.0.cmp(&right.0), left.1.cmp(&right.1), || left.2.cmp(&right.2));
+        match self {
+            Order::Eavt => entity.then(attribute).then_with(value),
+            Order::Aevt => attribute.then(entity).then_with(value),
+            Order::Avet => attribute.then_with(value).then(entity),
+        }
+    }
+}
 
 #[derive(Clone, Copy, Debug, PartialEq)]
 pub enum Keys {
@@ -34,9 +66,14 @@ impl Keys {
         matches!(self, Keys::Texts | Keys::ByText | Keys::RandomTexts)
     }
 
-    /// Whether batches go in anywhere in the tree, not behind all that it holds.
-    pub fn is_scattered(self) -> bool {
-        matches!(self, Keys::Random | Keys::RandomTexts)
+    /// At how many places of a tree a batch goes in, each time behind what is there; nothing where it goes in anywhere. The values of random
+    /// entities ascend, and fills have so many attributes.
+    pub fn places(self, order: Order) -> Option<u64> {
+        match (self, order) {
+            (Keys::Random, Order::Eavt | Order::Aevt) | (Keys::RandomTexts, _) => None,
+            (Keys::Fills, Order::Aevt | Order::Avet) => Some(ATTRIBUTES),
+            _ => Some(1),
+        }
     }
 }
 
@@ -49,6 +86,9 @@ const TAIL: u64 = 32;
 /// The top bits of a word that names a byte string on the heap.
 const NAMES_BYTES: u64 = 0b11 << 62;
 
+/// Entity, attribute and value of a datom.
+type Fact = (u64, u64, Content);
+
 /// What a value stands for, in the order of values.
 #[derive(PartialEq, Eq, PartialOrd, Ord)]
 enum Content {
@@ -59,24 +99,25 @@ enum Content {
 /// An endless feed without repeats, and the heap that its values lie on.
 pub struct Feed {
     keys: Keys,
+    order: Order,
     next: u64,
     state: u64,
     pub heap: Vec<u8>,
 }
 
 impl Feed {
-    pub fn new(keys: Keys, seed: u64) -> Feed {
-        Feed { keys, next: 0, state: seed, heap: Vec::new() }
+    pub fn new(keys: Keys, order: Order, seed: u64) -> Feed {
+        Feed { keys, order, next: 0, state: seed, heap: Vec::new() }
     }
 
     /// The same feed from here on, but for what is random.
     pub fn branch(&self, seed: u64) -> Feed {
-        Feed { keys: self.keys, next: self.next, state: seed, heap: self.heap.clone() }
+        Feed { keys: self.keys, order: self.order, next: self.next, state: seed, heap: self.heap.clone() }
     }
 
     pub fn batch(&mut self, size: usize) -> Vec<Datom> {
-        let mut facts: Vec<(u64, u64, Content)> = (0..size).map(|_| self.fact()).collect();
-        facts.sort();
+        let mut facts: Vec<Fact> = (0..size).map(|_| self.fact()).collect();
+        facts.sort_by(|left, right| self.order.compare(left, right));
         facts.into_iter().map(|(entity, attribute, content)| [entity, attribute, self.value(content), 3]).collect()
     }
 
@@ -85,7 +126,7 @@ impl Feed {
         (0..size as u64).map(|number| self.text(self.next + number)).collect()
     }
 
-    fn fact(&mut self) -> (u64, u64, Content) {
+    fn fact(&mut self) -> Fact {
         let number = self.next;
         self.next += 1;
         match self.keys {

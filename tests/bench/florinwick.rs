@@ -1,5 +1,6 @@
 //! The library, over its C interface.
 
+use crate::feed::Order;
 use crate::slab::Slab;
 
 #[path = "../archive.rs"]
@@ -7,21 +8,25 @@ mod archive;
 
 const REPEATED: u64 = 6;
 
+/// The bytes of the store's record.
+const RECORD: usize = 32;
+
 pub struct Florinwick {
     pub slab: Slab,
     pub root: u64,
+    order: Order,
     scratch: Vec<u8>,
 }
 
 impl Florinwick {
-    pub fn new(slab: Slab, root: u64) -> Florinwick {
+    pub fn new(slab: Slab, order: Order, root: u64) -> Florinwick {
         let need = unsafe { archive::florinwick_scratch_need(slab.page_size as u64) };
-        Florinwick { slab, root, scratch: vec![0; need as usize] }
+        Florinwick { slab, root, order, scratch: vec![0; need as usize] }
     }
 
-    /// The store's record: page size, page count, heap length. All of a heap that is lent is in use.
-    fn record(&self, heap: &[u8]) -> [u64; 3] {
-        [self.slab.page_size as u64, self.slab.count, heap.len() as u64]
+    /// The store's record: page size, page count, heap length, order. All of a heap that is lent is in use.
+    fn record(&self, heap: &[u8]) -> [u64; RECORD / 8] {
+        [self.slab.page_size as u64, self.slab.count, heap.len() as u64, self.order as u64]
     }
 
     fn send(&mut self, heap: &[u8], root: u64, batch: &[u8]) -> [u64; 4] {
@@ -30,8 +35,8 @@ impl Florinwick {
         let store = self.slab.bytes_mut();
         unsafe {
             archive::florinwick_insert(
-                store.as_mut_ptr(), store.len(), heap.as_ptr(), heap.len(), record.as_ptr() as *const u8, 24, root, batch.as_ptr(), batch.len(),
-                self.scratch.as_mut_ptr(), self.scratch.len(), answer.as_mut_ptr() as *mut u8, 32,
+                store.as_mut_ptr(), store.len(), heap.as_ptr(), heap.len(), record.as_ptr() as *const u8, RECORD, root,
+                batch.as_ptr(), batch.len(), self.scratch.as_mut_ptr(), self.scratch.len(), answer.as_mut_ptr() as *mut u8, 32,
             );
         }
         answer
@@ -59,11 +64,12 @@ impl Florinwick {
         let (mut listed, mut sum) = (0, 0u64);
         unsafe {
             archive::florinwick_list_start(
-                store.as_ptr(), store.len(), heap.as_ptr(), heap.len(), record, 24, self.root,
+                store.as_ptr(), store.len(), heap.as_ptr(), heap.len(), record, RECORD, self.root,
                 lower.as_ptr() as *const u8, 32, upper.as_ptr() as *const u8, 32, cursor, 264, answer, 32,
             );
             while archive::florinwick_list_step(
-                store.as_ptr(), store.len(), heap.as_ptr(), heap.len(), record, 24, cursor, 264, datom.as_mut_ptr() as *mut u8, 32, answer, 32,
+                store.as_ptr(), store.len(), heap.as_ptr(), heap.len(), record, RECORD, cursor, 264, datom.as_mut_ptr() as *mut u8, 32,
+                answer, 32,
             ) == 0
             {
                 listed += 1;
@@ -78,7 +84,7 @@ impl Florinwick {
         let (store, record) = (self.slab.bytes(), self.record(heap));
         let number = unsafe {
             archive::florinwick_check(
-                store.as_ptr(), store.len(), heap.as_ptr(), heap.len(), record.as_ptr() as *const u8, 24, self.root,
+                store.as_ptr(), store.len(), heap.as_ptr(), heap.len(), record.as_ptr() as *const u8, RECORD, self.root,
                 answer.as_mut_ptr() as *mut u8, 32,
             )
         };

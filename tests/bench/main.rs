@@ -9,7 +9,7 @@ mod sqlite;
 
 use std::{env, fs};
 
-use feed::{bytes_of, Datom, Feed, Keys};
+use feed::{bytes_of, Datom, Feed, Keys, Order};
 use florinwick::Florinwick;
 use lmdb::Lmdb;
 use noblit::{fact, Noblit};
@@ -35,12 +35,28 @@ const MORE_PAGES: usize = 16384;
 const FIRST: usize = 4096;
 const PAGE_SIZES: [usize; 2] = [FIRST, 8192];
 
-/// What a tree is grown of, how large, in pages of which size.
+/// What a tree is grown of, in which order, how large, in pages of which size.
 #[derive(Clone, Copy, PartialEq)]
 struct Case {
     keys: Keys,
+    order: Order,
     tree: usize,
     page_size: usize,
+}
+
+impl Case {
+    /// The keys, with the order where it is not the first.
+    fn name(&self) -> String {
+        match self.order {
+            Order::Eavt => self.keys.name().to_string(),
+            order => format!("{}, {}", self.keys.name(), order.name()),
+        }
+    }
+
+    /// How many pages a tree takes that is grown by batches of 128.
+    fn pages(&self) -> usize {
+        self.keys.places(self.order).map_or(self.tree, |places| self.tree / 16 * places as usize)
+    }
 }
 
 /// The times of one operation in every round, in nanoseconds.
@@ -74,10 +90,10 @@ impl Bench {
     }
 
     fn tree(&mut self, case: Case) {
-        let mut feed = Feed::new(case.keys, 1);
+        let mut feed = Feed::new(case.keys, case.order, 1);
         let mut ours = grown(&mut feed, case);
-        let mut theirs = Noblit { slab: Slab::copy_of(&ours.slab, MORE_PAGES), root: ours.root, heap: MemoryHeap::new() };
-        eprintln!("{:?}, {} datoms: {} pages of {} bytes", case.keys, case.tree, ours.slab.count, case.page_size);
+        let mut theirs = Noblit { slab: Slab::copy_of(&ours.slab, MORE_PAGES), root: ours.root, order: case.order, heap: MemoryHeap::new() };
+        eprintln!("{}, {} datoms: {} pages of {} bytes", case.name(), case.tree, ours.slab.count, case.page_size);
         for round in 0..self.rounds {
             let mut branch = feed.branch(2 + round as u64);
             let batches: Vec<Vec<Datom>> = (0..BATCHES_A_ROUND).map(|_| branch.batch(BATCH)).collect();
@@ -179,7 +195,7 @@ impl Bench {
     /// LMDB and SQLite grow while they are timed.
     fn others(&mut self, case: Case) {
         let (mut lmdb, mut sqlite) = (Lmdb::new(), Sqlite::new());
-        let mut feed = Feed::new(case.keys, 1);
+        let mut feed = Feed::new(case.keys, case.order, 1);
         let tree = case.tree;
         for _ in 0..tree / BATCH {
             let batch = feed.batch(BATCH);
@@ -214,17 +230,17 @@ impl Bench {
         let mut text = "what\tkeys\tdatoms\tpage size\tside\tmedian\tquarter\tthree quarters\n".to_string();
         for times in &self.times {
             let [low, median, high] = [1, 2, 3].map(|quarter| times.quartile(quarter));
-            let Case { keys, tree, page_size } = times.case;
-            let which = format!("{}\t{}\t{}\t{}\t{}", times.what, keys.name(), tree, page_size, times.side);
+            let Case { tree, page_size, .. } = times.case;
+            let which = format!("{}\t{}\t{}\t{}\t{}", times.what, times.case.name(), tree, page_size, times.side);
             text += &format!("{}\t{:.1}\t{:.1}\t{:.1}\n", which, median, low, high);
         }
         text
     }
 }
 
-/// How often a tree is read as a whole.
+/// How often a tree is read as a whole: three times or more, but in no more rounds than there are.
 fn readings(rounds: usize, tree: usize) -> usize {
-    (rounds * 10_000 / tree).clamp(3, rounds)
+    (rounds * 10_000 / tree).max(3).min(rounds)
 }
 
 extern "C" {
@@ -255,8 +271,7 @@ fn twice(batches: &[Vec<Datom>], mut insert: impl FnMut(&[Datom]) -> bool) -> (f
 
 /// A tree of so many datoms, by batches of 128, and room past it.
 fn grown(feed: &mut Feed, case: Case) -> Florinwick {
-    let pages = if case.keys.is_scattered() { case.tree } else { case.tree / 16 };
-    let mut tree = Florinwick::new(Slab::new(case.page_size, pages + MORE_PAGES), NONE);
+    let mut tree = Florinwick::new(Slab::new(case.page_size, case.pages() + MORE_PAGES), case.order, NONE);
     let mut left = case.tree;
     while left > 0 {
         let size = left.min(BATCH);
@@ -267,22 +282,31 @@ fn grown(feed: &mut Feed, case: Case) -> Florinwick {
     tree
 }
 
+/// The orders that go by a name; by default all of them for integers, and the first for texts, which take longer.
+fn orders(name: &str, keys: Keys) -> Vec<Order> {
+    match name {
+        "default" if keys.has_texts() => vec![Order::Eavt],
+        "default" | "all" => Order::ALL.to_vec(),
+        _ => vec![Order::ALL.into_iter().find(|order| order.name() == name).unwrap_or_else(|| panic!("{} is no order", name))],
+    }
+}
+
 fn main() {
-    let word = |i: usize| env::args().nth(i).unwrap_or_else(|| panic!("usage: bench ROUNDS LARGEST FILE [PAGE_SIZE..]"));
+    let word = |i: usize| env::args().nth(i).unwrap_or_else(|| panic!("usage: bench ORDER ROUNDS LARGEST FILE [PAGE_SIZE..]"));
     let number = |i: usize| word(i).parse::<usize>().unwrap_or_else(|_| panic!("{} is no number", word(i)));
-    let said: Vec<usize> = (4..env::args().count()).map(number).collect();
+    let said: Vec<usize> = (5..env::args().count()).map(number).collect();
     let page_sizes = if said.is_empty() { PAGE_SIZES.to_vec() } else { said };
-    let mut bench = Bench { rounds: number(1), times: Vec::new() };
+    let mut bench = Bench { rounds: number(2), times: Vec::new() };
     for page_size in page_sizes {
-        for keys in Keys::ALL {
-            for tree in [10_000, 100_000, 1_000_000].into_iter().filter(|&tree| tree <= number(2)) {
-                let case = Case { keys, tree, page_size };
+        for (keys, order) in Keys::ALL.into_iter().flat_map(|keys| orders(&word(1), keys).into_iter().map(move |order| (keys, order))) {
+            for tree in [10_000, 100_000, 1_000_000].into_iter().filter(|&tree| tree <= number(3)) {
+                let case = Case { keys, order, tree, page_size };
                 bench.tree(case);
-                if page_size == FIRST && !keys.has_texts() {
+                if page_size == FIRST && order == Order::Eavt && !keys.has_texts() {
                     bench.others(case);
                 }
             }
         }
     }
-    fs::write(word(3), bench.report()).unwrap_or_else(|error| panic!("{}: {}", word(3), error));
+    fs::write(word(4), bench.report()).unwrap_or_else(|error| panic!("{}: {}", word(4), error));
 }

@@ -7,22 +7,33 @@ use std::ops::{Deref, DerefMut};
 use noblit_patched::datom::{Aid, Datom as Fact, Eid, Operation, Tid, Value};
 use noblit_patched::heap::{HeapMut, SizedHeap};
 use noblit_patched::htree::HTree;
-use noblit_patched::index::Eavt;
+use noblit_patched::index::{Aevt, Avet, DatomOrd, Eavt};
 use noblit_patched::memory_store::MemoryHeap;
 use noblit_patched::store::{PageId, PageSize, PageSize4096, Store, StoreMut};
 
-use crate::feed::Datom;
+use crate::feed::{Datom, Order};
 use crate::slab::Slab;
 
 include!("../oracle/harness/page_size_8192.rs");
 
-/// Calls a method below with the page size as a type.
+/// Calls a method below with a comparator, and with the page size as a type.
 macro_rules! at_size {
     ($self:ident.$operation:ident($($argument:expr),*)) => {
         match $self.slab.page_size {
-            4096 => $self.$operation::<PageSize4096>($($argument),*),
-            8192 => $self.$operation::<PageSize8192>($($argument),*),
+            4096 => $self.$operation::<_, PageSize4096>($($argument),*),
+            8192 => $self.$operation::<_, PageSize8192>($($argument),*),
             size => panic!("no page size {} here", size),
+        }
+    };
+}
+
+/// Calls a method below with noblit's own comparator and the page size as types.
+macro_rules! at_order_and_size {
+    ($self:ident.$operation:ident($($argument:expr),*)) => {
+        match $self.order {
+            Order::Eavt => at_size!($self.$operation(Eavt $(, $argument)*)),
+            Order::Aevt => at_size!($self.$operation(Aevt $(, $argument)*)),
+            Order::Avet => at_size!($self.$operation(Avet $(, $argument)*)),
         }
     };
 }
@@ -54,33 +65,34 @@ pub fn fact(datom: &Datom) -> Fact {
 pub struct Noblit {
     pub slab: Slab,
     pub root: u64,
+    pub order: Order,
     pub heap: MemoryHeap,
 }
 
 impl Noblit {
     pub fn insert(&mut self, batch: &[Fact]) {
-        at_size!(self.insert_at(batch))
+        at_order_and_size!(self.insert_at(batch))
     }
 
     pub fn list(&self) -> (u64, u64) {
-        at_size!(self.list_at())
+        at_order_and_size!(self.list_at())
     }
 
     pub fn check(&self) {
-        at_size!(self.check_at())
+        at_order_and_size!(self.check_at())
     }
 
-    fn insert_at<Size: PageSize>(&mut self, batch: &[Fact]) {
-        let mut tree = HTree::new(PageId(self.root), Eavt, Lent::<_, Size>(&mut self.slab, PhantomData), &self.heap);
+    fn insert_at<Cmp: DatomOrd, Size: PageSize>(&mut self, order: Cmp, batch: &[Fact]) {
+        let mut tree = HTree::new(PageId(self.root), order, Lent::<_, Size>(&mut self.slab, PhantomData), &self.heap);
         self.root = tree.insert(batch).expect("a store in memory").0;
     }
 
-    fn list_at<Size: PageSize>(&self) -> (u64, u64) {
+    fn list_at<Cmp: DatomOrd, Size: PageSize>(&self, order: Cmp) -> (u64, u64) {
         let store = Lent::<_, Size>(&self.slab, PhantomData);
         let (lower, upper) = (Fact::new(Eid(0), Aid(0), Value(0), Tid(0), Operation::Retract), Fact::new(
             Eid(u64::MAX), Aid(u64::MAX), Value(u64::MAX), Tid(u64::MAX - 1), Operation::Assert,
         ));
-        let tree = HTree::new(PageId(self.root), Eavt, &store, &self.heap);
+        let tree = HTree::new(PageId(self.root), order, &store, &self.heap);
         let (mut listed, mut sum) = (0, 0u64);
         for found in tree.into_iter(&lower, &upper) {
             listed += 1;
@@ -89,9 +101,9 @@ impl Noblit {
         (listed, sum)
     }
 
-    fn check_at<Size: PageSize>(&self) {
+    fn check_at<Cmp: DatomOrd, Size: PageSize>(&self, order: Cmp) {
         let store = Lent::<_, Size>(&self.slab, PhantomData);
-        HTree::new(PageId(self.root), Eavt, store, &self.heap).check_invariants().expect("a store in memory");
+        HTree::new(PageId(self.root), order, store, &self.heap).check_invariants().expect("a store in memory");
     }
 }
 

@@ -1,6 +1,6 @@
 //! Document 01's examples k and l, the one of 8192-byte pages beside them, the scratch need, and the bytes of two constants, by number.
 
-use harness::{Answer, Constant, Datom, Node, Random};
+use harness::{Answer, Constant, Datom, Node, Order, Random};
 
 use crate::library::{append, bytes_of, call, scratch_need, Beside, Call, Entry, Lent};
 
@@ -26,9 +26,15 @@ pub fn run(random: &mut Random) -> Result<String, String> {
     constants(random)?;
     let examples = examples();
     for example in &examples {
-        example.run(random).map_err(|fault| format!("batches up to {:?} with page size {}: {}", example.ends, example.page_size, fault))?;
+        // Their datoms rise in every order alike.
+        for order in Order::ALL {
+            let told = |fault| format!("batches up to {:?} with page size {}, {}: {}", example.ends, example.page_size, order.name(), fault);
+            example.run(order, random).map_err(told)?;
+        }
     }
-    Ok(format!("document 01's examples k and l, the one of 8192 bytes and two constants: {} as written there", examples.len() + 2))
+    Ok(format!(
+        "document 01's examples k and l, the one of 8192 bytes and two constants: {} as written there, in every order", examples.len() + 2,
+    ))
 }
 
 /// "In example j, 2^62 then names offset 0." Behind it nine bytes: their length, themselves, and zeros to a multiple of 8.
@@ -65,7 +71,7 @@ fn examples() -> Vec<Example> {
 }
 
 impl Example {
-    fn run(&self, random: &mut Random) -> Result<(), String> {
+    fn run(&self, order: Order, random: &mut Random) -> Result<(), String> {
         let mut store = vec![0xaa; 32 * self.page_size];
         let need = scratch_need(self.page_size);
         let mut scratch = Lent::of_length(need, random);
@@ -73,7 +79,7 @@ impl Example {
         for &end in self.ends {
             let batch: Vec<Datom> = (from..end).map(d).collect();
             let entry = if from == 0 { Entry::Initialise } else { Entry::Insert(answer.root) };
-            let beside = Beside::no_heap(&[0x55; 16], self.page_size as u64, count);
+            let beside = Beside::no_heap(&[0x55; 16], self.page_size as u64, count, order);
             let given = Call { entry, beside, batch: &bytes_of(&batch), scratch: need, area: 32 };
             answer = call(&mut store, &given, &mut scratch, random)?;
             (from, count) = (end, count + answer.pages);

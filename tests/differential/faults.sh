@@ -22,8 +22,8 @@ fi
 # The file of a fault, in its copy.
 file_of() {
     case $1 in
-        history | library | store | model | reader | names) echo "$out/differential/$1.rs" ;;
-        damage | wrong | breaking | laying) echo "$out/differential/history/$1.rs" ;;
+        history | library | store | model | reader | names | orders | main) echo "$out/differential/$1.rs" ;;
+        damage | wrong | breaking | laying | reading) echo "$out/differential/history/$1.rs" ;;
         node) echo "$out/harness/node.rs" ;;
         *) rust_file "$1" ;;
     esac

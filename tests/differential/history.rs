@@ -7,17 +7,17 @@ mod reading;
 mod wrong;
 
 use harness::{
-    bad_constant, Answer, Datom, Held, Kind, Node, Oracle, Order, Pages, Panic, Plan, Random, Supply, Which, MALFORMED, MAX_VALUE, NONE,
+    bad_constant, Answer, By, Datom, Held, Kind, Node, Oracle, Order, Pages, Panic, Plan, Random, Supply, Which, MALFORMED, MAX_VALUE, NONE,
 };
 
 use crate::library::{bytes_of, call, call_named, datoms_of, scratch_need, Beside, Call, Entry, Lent, RECORD_BYTES};
 use crate::names::{Damaged, Naming};
 use crate::reader::{same, Difference};
 use crate::store::Store;
-use crate::tally::Tally;
+use crate::tally::{Asking, Tally};
 use damage::Damage;
 use reading::Reading;
-use wrong::some_heap_length;
+use wrong::{some_heap_length, some_order, RECORDS};
 
 /// Among how many batches one is sought on which both builds of the Rust agree.
 const CANDIDATES: usize = 30;
@@ -34,6 +34,8 @@ pub struct Shape {
     pub kind: Kind,
     pub plan: Plan,
     pub order: Order,
+    /// Whose comparator the Rust is given.
+    pub by: By,
     pub supply: usize,
     /// How many batches of 128 come first, with nothing between them: wide pages need so many for a third level.
     pub planted: usize,
@@ -90,8 +92,8 @@ pub struct History<'a> {
 struct Last {
     entry: Entry,
     batch: Vec<u8>,
-    /// Page size, page count, heap length, bytes of the record, pages and bytes of room, scratch, area.
-    beside: [u64; 8],
+    /// Page size, page count, heap length, order, bytes of the record, pages and bytes of room, scratch, area.
+    beside: [u64; 9],
 }
 
 /// What a call that writes is told of the store and the heap, and how many bytes of the heap it is lent behind its length.
@@ -100,12 +102,14 @@ struct Lending {
     page_size: u64,
     page_count: u64,
     heap_length: u64,
+    order: u64,
     record: usize,
     heap_behind: usize,
 }
 
 /// What a call that writes answered, and what the entry that names answered to the same insert, if it was made beside it.
 struct Told {
+    asking: Asking,
     answer: Answer,
     named: Option<Answer>,
 }
@@ -113,7 +117,7 @@ struct Told {
 impl<'a> History<'a> {
     pub fn new(shape: Shape, seed: u64, tally: &'a mut Tally) -> History<'a> {
         let mut random = Random::new(seed);
-        let supply = Supply::new(shape.kind, shape.supply, &mut random);
+        let supply = Supply::new(shape.kind, shape.supply, shape.order, &mut random);
         let need = scratch_need(shape.page_size);
         History {
             shape,
@@ -123,8 +127,8 @@ impl<'a> History<'a> {
             laid: 0,
             scratch: Lent::of_length(need + 64, &mut random),
             need,
-            patched: Pages::new(shape.page_size),
-            plain: Some(Pages::new(shape.page_size)),
+            patched: Pages::new(shape.page_size, shape.order),
+            plain: Some(Pages::new(shape.page_size, shape.order)),
             trees: Vec::new(),
             tally,
             written: Vec::new(),
@@ -157,7 +161,7 @@ impl<'a> History<'a> {
 
     /// What shows a difference, as commands of the oracle's driver: the calls that wrote, and the last one.
     pub fn transcript(&self) -> String {
-        let mut text = format!("size {}\n", self.shape.page_size);
+        let mut text = format!("order {}\nsize {}\n", self.shape.order.name(), self.shape.page_size);
         text.push_str(&self.appends());
         for (entry, batch) in &self.written {
             text.push_str(&command(*entry, batch));
@@ -166,15 +170,18 @@ impl<'a> History<'a> {
             text.push_str(&damage.commands());
         }
         text.push_str(self.spoiled.as_deref().unwrap_or(""));
+        if self.patched.order() != self.shape.order {
+            text.push_str(&format!("order {}\n", self.patched.order().name()));
+        }
         if let Some(reading) = &self.reading {
             text.push_str(&reading.command());
         } else if let Some(last) = &self.last {
-            let [size, count, heap, record, more, rest, scratch, area] = last.beside;
+            let [size, count, heap, order, record, more, rest, scratch, area] = last.beside;
             text.push_str(&command(last.entry, &datoms_of(&last.batch)));
             text.push_str(&format!(
-                "# the last with page size {}, count {}, heap length {}, a record of {} bytes, room for {} pages and {} bytes more, \
+                "# the last with page size {}, count {}, heap length {}, order {}, a record of {} bytes, room for {} pages and {} bytes more, \
                  {} bytes of batch, {} of scratch, {} of area\n",
-                size, count, heap, record, more, rest, last.batch.len(), scratch, area,
+                size, count, heap, order, record, more, rest, last.batch.len(), scratch, area,
             ));
         }
         text
@@ -252,7 +259,7 @@ impl<'a> History<'a> {
         &mut self, entry: Entry, datoms: &[Datom], parent: Option<usize>, batch: Vec<usize>, mut held: Held, may_differ: bool,
     ) -> Result<bool, Difference> {
         let before = self.patched.count();
-        let patched = Oracle { which: Which::Patched, order: self.shape.order };
+        let patched = Oracle { which: Which::Patched, by: self.shape.by };
         let root = ask(patched, &mut self.patched, entry, datoms)
             .map_err(|panic| format!("the patched Rust panics: {}: {}", panic.message, command(entry, datoms)))?;
         for &i in &batch {
@@ -275,6 +282,7 @@ impl<'a> History<'a> {
         self.compare_whole()?;
         self.written.push((entry, datoms.to_vec()));
         self.tally.batches += 1;
+        self.tally.orders[self.shape.order as usize] += 1;
         self.tally.with_long += u64::from(batch.iter().any(|&i| self.supply.is_long(i)));
         self.tally.datoms += datoms.len() as u64;
         self.tally.pages += count;
@@ -293,7 +301,7 @@ impl<'a> History<'a> {
         let Some(plain) = &mut self.plain else {
             return Ok(true);
         };
-        let oracle = Oracle { which: Which::Plain, order: self.shape.order };
+        let oracle = Oracle { which: Which::Plain, by: self.shape.by };
         let answer = ask(oracle, plain, entry, datoms);
         if answer == Ok(root) && plain.bytes_from(before) == self.patched.bytes_from(before) {
             self.tally.by_plain += 1;
@@ -338,7 +346,8 @@ impl<'a> History<'a> {
             return Ok(());
         }
         self.store.make_room(64, &mut self.random);
-        match self.random.below(10) {
+        match self.random.below(11) {
+            10 => self.bad_order(),
             0 | 1 => self.resend_there(),
             2 | 3 => self.resend_later(),
             4 | 5 => self.share(),
@@ -451,7 +460,9 @@ impl<'a> History<'a> {
         let datoms = vec![self.supply.any(&mut self.random)];
         let bytes = bytes_of(&datoms);
         let (size, count) = (self.shape.page_size as u64, self.store.count);
-        let mut lent = Lending { page_size: size, page_count: count, heap_length: self.heap.count, record: RECORD_BYTES, heap_behind: 7 };
+        // "Straight after 1": an order that there is not changes nothing here.
+        let order = if self.random.one_in(2) { self.patched.order().number() } else { some_order(&mut self.random) };
+        let mut lent = Lending { order, heap_behind: 7, ..self.lending() };
         let (mut scratch, mut area) = (self.need, 32);
         match self.random.below(9) {
             0 => lent.page_size = self.random.pick(&[0, 1, size - 1, size + 1, 512, 1 << 32, u64::MAX]),
@@ -459,7 +470,7 @@ impl<'a> History<'a> {
             2 => lent.page_count = self.random.pick(&[1 << 56, 1 << 63, u64::MAX]),
             3 => scratch = self.random.pick(&[0, 1, self.need / 2, self.need - 1]),
             4 => area = self.random.pick(&[0, 1, 31, 33, 40]),
-            5 => lent.record = self.random.pick(&[0, 8, 16, 23, 25, 32]),
+            5 => lent.record = self.random.pick(&RECORDS),
             6 | 7 => {
                 let slice = self.heap.count + 7;
                 let is_wrong = |length: &u64| length % 8 != 0 || *length > slice;
@@ -474,6 +485,32 @@ impl<'a> History<'a> {
         let rest = self.random.below(self.shape.page_size);
         let answer = self.call_with(entry, &bytes, lent, [scratch, area], 0, rest)?;
         self.expect(answer, entry.refused(1, 0), &[])
+    }
+
+    /// An order that there is not, with anything that is refused behind it.
+    fn bad_order(&mut self) -> Result<(), Difference> {
+        let entry = match self.some_entry() {
+            Entry::Insert(_) if self.random.one_in(4) => Entry::Insert(self.store.count),
+            entry => entry,
+        };
+        let (any, other) = (self.supply.any(&mut self.random), self.supply.any(&mut self.random));
+        let malformed = [any[0], any[1], self.random.pick(&MALFORMED), any[3]];
+        let bad = [any[0], any[1], bad_constant(self.patched.heap(), &mut self.random), any[3]];
+        let mut bytes = bytes_of(&match self.random.below(6) {
+            0 => Vec::new(),
+            1 => vec![malformed, any],
+            2 => vec![any, bad],
+            3 => vec![any, other, any],
+            4 => vec![any; MOST + 1],
+            _ => vec![any],
+        });
+        bytes.truncate(bytes.len() - self.random.pick(&[0, 0, 0, 5]).min(bytes.len()));
+        let is_unknown = |order: &u64| Order::of_number(*order).is_none();
+        let order = std::iter::repeat_with(|| some_order(&mut self.random)).find(is_unknown).expect("one of them is unknown");
+        let lent = Lending { order, ..self.lending() };
+        let (more, rest) = (self.random.below(60), self.random.below(64));
+        let answer = self.call_with(entry, &bytes, lent, [self.need, 32], more, rest)?;
+        self.expect(answer, entry.refused(13, 0), &[])
     }
 
     /// Too many datoms, a part of one, a malformed one, a constant that is not valid, one out of order.
@@ -533,30 +570,35 @@ impl<'a> History<'a> {
 
     fn call(&mut self, entry: Entry, batch: &[u8], more: usize, rest: usize) -> Result<Told, Difference> {
         let scratch = self.need + self.random.pick(&[0, 0, 1, 64]);
-        let (page_size, page_count, heap_length) = (self.shape.page_size as u64, self.store.count, self.heap.count);
-        let heap_behind = self.random.pick(&[0, 1, 8, 40]);
-        let lent = Lending { page_size, page_count, heap_length, record: RECORD_BYTES, heap_behind };
+        let lent = self.lending();
         self.call_with(entry, batch, lent, [scratch, 32], more, rest)
+    }
+
+    /// What is true of the store and the heap.
+    fn lending(&mut self) -> Lending {
+        let heap_behind = self.random.pick(&[0, 1, 8, 40]);
+        let (page_size, page_count, heap_length) = (self.shape.page_size as u64, self.store.count, self.heap.count);
+        Lending { page_size, page_count, heap_length, order: self.patched.order().number(), record: RECORD_BYTES, heap_behind }
     }
 
     /// With so much scratch and so long an area, and with so many pages and bytes of room.
     fn call_with(
         &mut self, entry: Entry, batch: &[u8], lent: Lending, [scratch, area]: [usize; 2], more: usize, rest: usize,
     ) -> Result<Told, Difference> {
-        let Lending { page_size, page_count, heap_length, record, heap_behind } = lent;
+        let Lending { page_size, page_count, heap_length, order, record, heap_behind } = lent;
         self.reading = None;
         self.last = Some(Last {
             entry,
             batch: batch.to_vec(),
-            beside: [page_size, page_count, heap_length, record as u64, more as u64, rest as u64, scratch as u64, area as u64],
+            beside: [page_size, page_count, heap_length, order, record as u64, more as u64, rest as u64, scratch as u64, area as u64],
         });
         self.heap.make_room(heap_behind, &mut self.random);
-        let beside = Beside { heap: self.heap.shown(heap_behind), page_size, page_count, heap_length, record };
+        let beside = Beside { heap: self.heap.shown(heap_behind), page_size, page_count, heap_length, order, record };
         let given = Call { entry, beside, batch, scratch, area };
         let answer = call(self.store.lend(more, rest), &given, &mut self.scratch, &mut self.random)?;
-        let is_insert = entry != Entry::Initialise;
-        if !is_insert || (answer.number != 7 && !self.random.one_in(NAMED_BESIDE)) {
-            return Ok(Told { answer, named: None });
+        let asking = if entry == Entry::Initialise { Asking::Initialise } else { Asking::Insert };
+        if asking == Asking::Initialise || (answer.number != 7 && !self.random.one_in(NAMED_BESIDE)) {
+            return Ok(Told { asking, answer, named: None });
         }
         // The same insert from the same bytes by the entry that names: it leaves the same bytes.
         let left = self.store.past().to_vec();
@@ -566,7 +608,7 @@ impl<'a> History<'a> {
         if self.store.past() != &left[..] {
             return Err("the insert that names leaves other bytes than insert".to_string());
         }
-        Ok(Told { answer, named: Some(named) })
+        Ok(Told { asking, answer, named: Some(named) })
     }
 
     /// The answer is this one, by both entries, and past the pages in use the store has these pages and nothing else new.
@@ -585,7 +627,10 @@ impl<'a> History<'a> {
     fn expect_both(&mut self, told: Told, expected: Answer, named: Answer, pages: &[u8]) -> Result<(), Difference> {
         same("the answer", &told.answer, &expected)?;
         told.named.map_or(Ok(()), |answer| same("the answer of the insert that names", &answer, &named))?;
-        self.tally.answers[expected.number as usize] += 1;
+        self.tally.answered(told.asking, expected.number);
+        if told.named.is_some() {
+            self.tally.answered(Asking::InsertNamed, expected.number);
+        }
         self.store.fault_past(pages).map_or(Ok(()), Err)
     }
 
@@ -612,8 +657,8 @@ fn path(pages: &Pages, root: u64, datom: &Datom) -> Vec<u64> {
     let (mut path, mut page) = (vec![root], root);
     loop {
         let node = node(pages, page);
-        let first = node.datoms.iter().position(|held| pages.heap().compare(held, datom).is_ge()).unwrap_or(node.datoms.len());
-        if node.level == 0 || node.datoms.get(first).is_some_and(|held| pages.heap().compare(held, datom).is_eq()) {
+        let first = node.datoms.iter().position(|held| pages.compare(held, datom).is_ge()).unwrap_or(node.datoms.len());
+        if node.level == 0 || node.datoms.get(first).is_some_and(|held| pages.compare(held, datom).is_eq()) {
             return path;
         }
         page = node.children[first..].iter().copied().find(|&child| child != NONE).expect("a last child");

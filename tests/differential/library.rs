@@ -1,6 +1,6 @@
 //! The archive of crate florinwick, called with slices that have guard bytes on both sides.
 
-use harness::{Answer, Constant, Datom, Random, NONE};
+use harness::{Answer, Constant, Datom, Order, Random, NONE};
 
 #[path = "../archive.rs"]
 mod archive;
@@ -97,7 +97,7 @@ pub fn datoms_of(bytes: &[u8]) -> Vec<Datom> {
 }
 
 /// The bytes of a record of the store.
-pub const RECORD_BYTES: usize = 24;
+pub const RECORD_BYTES: usize = 32;
 
 /// The heap that a call is lent, and what the store's record says. The heap's guards are the caller's to compare.
 #[derive(Clone, Copy, Debug)]
@@ -106,18 +106,20 @@ pub struct Beside<'a> {
     pub page_size: u64,
     pub page_count: u64,
     pub heap_length: u64,
+    /// Any number, of which few are orders.
+    pub order: u64,
     /// How long the record is: its words are cut short, or noise follows.
     pub record: usize,
 }
 
 impl<'a> Beside<'a> {
     /// An empty heap, at the front of what is lent of it.
-    pub fn no_heap(heap: &'a [u8], page_size: u64, page_count: u64) -> Beside<'a> {
-        Beside { heap, page_size, page_count, heap_length: 0, record: RECORD_BYTES }
+    pub fn no_heap(heap: &'a [u8], page_size: u64, page_count: u64, order: Order) -> Beside<'a> {
+        Beside { heap, page_size, page_count, heap_length: 0, order: order.number(), record: RECORD_BYTES }
     }
 
     fn lent_record(&self, random: &mut Random) -> Lent {
-        let words = [self.page_size, self.page_count, self.heap_length];
+        let words = [self.page_size, self.page_count, self.heap_length, self.order];
         let mut bytes: Vec<u8> = words.iter().flat_map(|word| word.to_le_bytes()).collect();
         bytes.resize_with(self.record, || random.word() as u8);
         Lent::new(&bytes, random)

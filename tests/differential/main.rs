@@ -5,6 +5,7 @@ mod history;
 mod library;
 mod model;
 mod names;
+mod orders;
 mod reader;
 mod store;
 mod tally;
@@ -13,10 +14,10 @@ mod tall;
 use std::time::{Duration, Instant};
 use std::{env, fs, process};
 
-use harness::{Kind, Order, Plan, Random, PAGE_SIZES};
+use harness::{By, Kind, Order, Plan, Random, PAGE_SIZES};
 use history::{History, Shape};
 use names::Names;
-use tally::{Tally, NUMBERS};
+use tally::{Asking, Tally, NUMBERS};
 
 /// Where the calls that show a difference go.
 const TRANSCRIPT: &str = "build/differential/difference.txt";
@@ -69,6 +70,8 @@ fn main() {
     }
     tell(names(&tallies, batches), "names of faults");
     tell(numbers(&tallies, batches), "refusals");
+    tell(orders(&tallies, batches), "orders");
+    tell(orders::run(&mut Random::new(seed)), "one set in three stores");
     if batches >= TALL_FROM {
         tell(tall::run(&mut Random::new(seed)), "the tallest tree, ascending batches of four");
     }
@@ -106,6 +109,26 @@ fn numbers(tallies: &[Tally], batches: u64) -> Result<String, String> {
     match never {
         never if batches >= NAMED_FROM && !never.is_empty() => Err(format!("never: {}", never.join(", "))),
         _ => Ok(format!("{} refusals; {:?}", numbers.iter().sum::<u64>(), counts)),
+    }
+}
+
+/// In a long run each order must have had batches at each page size, have been read in where another was written in, and each call that looks at
+/// the order must have refused one that there is not.
+fn orders(tallies: &[Tally], batches: u64) -> Result<String, String> {
+    let mut never = Vec::new();
+    for (page_size, tally) in PAGE_SIZES.iter().zip(tallies) {
+        for order in Order::ALL {
+            let counts = [("batch", tally.orders[order as usize]), ("reading of another order", tally.other_orders[order as usize])];
+            let missing = counts.iter().filter(|(_, count)| *count == 0);
+            never.extend(missing.map(|(what, _)| format!("a {} in {} with pages of {} bytes", what, order.name(), page_size)));
+        }
+    }
+    let refused = Asking::IN_ORDER.map(|asking| tallies.iter().map(|tally| tally.bad_orders[asking as usize]).sum::<u64>());
+    let unrefused = Asking::IN_ORDER.into_iter().zip(refused).filter(|(_, count)| *count == 0);
+    never.extend(unrefused.map(|(asking, _)| format!("13 by {:?}", asking)));
+    match never {
+        never if batches >= NAMED_FROM && !never.is_empty() => Err(format!("never: {}", never.join(", "))),
+        _ => Ok(format!("13 given by {:?}: {:?}", Asking::IN_ORDER, refused)),
     }
 }
 
@@ -180,7 +203,8 @@ fn shape(page_size: usize, turn: usize, random: &mut Random) -> Shape {
         page_size,
         kind: random.pick(&KINDS),
         plan: random.pick(&[Plan::Ascending, Plan::Descending, Plan::Scattered, Plan::Scattered, Plan::Clustered]),
-        order: random.pick(&[Order::Eavt, Order::Rule]),
+        order: random.pick(&Order::ALL),
+        by: random.pick(&[By::Noblit, By::Rule]),
         supply: 200 + planted * 128 + batches * (largest / 2 + 6),
         planted,
         batches,

@@ -1,9 +1,9 @@
-//! Document 01's "Listing and check" for any cursor, any store and any heap, and document 02's names of what is damaged and its question
+//! Document 01's "Listing and check" for any cursor, any store, any order and any heap, and document 02's names of what is damaged and its question
 //! whether a batch is held, written to their text: the judge where the Rust has no answer.
 
 use std::cmp::Ordering;
 
-use harness::{is_formed, Datom, Heap, Node, Pages, NONE};
+use harness::{is_formed, Datom, Heap, Node, Order, Pages, NONE};
 
 use crate::names::{Damaged, Fault};
 
@@ -62,28 +62,27 @@ pub enum Step {
 pub type Looked = Result<Option<u64>, Damaged>;
 
 /// The number and the index of what is wrong with an increasing batch by itself. "3 is given for the whole batch before 11", and 11 before 4.
-pub fn batch_fault(heap: &Heap, batch: &[Datom]) -> Option<(u64, u64)> {
+pub fn batch_fault(order: Order, heap: &Heap, batch: &[Datom]) -> Option<(u64, u64)> {
     let malformed = batch.iter().position(|datom| !is_formed(datom)).map(|i| (3, i));
     let constant = || batch.iter().position(|datom| !heap.is_storable(datom)).map(|i| (11, i));
-    let unordered = || batch.windows(2).position(|pair| heap.compare(&pair[0], &pair[1]).is_ge()).map(|i| (4, i + 1));
+    let unordered = || batch.windows(2).position(|pair| heap.compare(order, &pair[0], &pair[1]).is_ge()).map(|i| (4, i + 1));
     malformed.or_else(constant).or_else(unordered).map(|(number, i)| (number, i as u64))
 }
 
-/// The rules over the pages of a store and the constants of its heap.
+/// The rules over the pages of a store, in its order, and the constants of its heap.
 pub struct Model<'a> {
     pub pages: &'a Pages,
 }
 
 impl Model<'_> {
-    /// By content.
     fn compare(&self, left: &Datom, right: &Datom) -> Ordering {
-        self.pages.heap().compare(left, right)
+        self.pages.compare(left, right)
     }
 
     /// A page that is there and readable, or what is wrong with it.
     pub fn node(&self, page: u64) -> Result<Node, Damaged> {
         let bytes = self.pages.page(page).ok_or(Damaged { page, fault: Fault::Missing })?;
-        Node::read(bytes, page, self.pages.heap()).map_err(|rule| Damaged { page, fault: Fault::Breaks(rule) })
+        Node::read(bytes, page, self.pages.order(), self.pages.heap()).map_err(|rule| Damaged { page, fault: Fault::Breaks(rule) })
     }
 
     /// A page is read before its level is asked.

@@ -16,8 +16,8 @@ const JUDGED: usize = 48;
 /// Later on one in so many steps is.
 const JUDGED_LATER: usize = 32;
 
-/// A store and a heap that are lent to calls that read, and the same pages and constants for the rules. Of the heap more may be lent than
-/// is in use.
+/// A store and a heap that are lent to calls that read, and the same pages, order and constants for the rules. Of the heap more may be lent
+/// than is in use.
 pub struct Reader<'a> {
     pub store: &'a [u8],
     pub heap: &'a [u8],
@@ -30,7 +30,8 @@ impl<'a> Reader<'a> {
     pub fn asked(&self) -> Asked<'a> {
         let (page_size, page_count) = (self.pages.page_size() as u64, self.pages.count());
         let heap_length = self.pages.heap().bytes().len() as u64;
-        let beside = Beside { heap: self.heap, page_size, page_count, heap_length, record: RECORD_BYTES };
+        let order = self.pages.order().number();
+        let beside = Beside { heap: self.heap, page_size, page_count, heap_length, order, record: RECORD_BYTES };
         Asked { store: self.store, beside, area: 32 }
     }
 
@@ -116,7 +117,7 @@ impl<'a> Reader<'a> {
     /// is refused by itself.
     pub fn held(&mut self, root: u64, batch: &[Datom]) -> Result<Option<Looked>, Difference> {
         let answer = self.asked().held(root, &bytes_of(batch), self.random)?;
-        if let Some((number, index)) = batch_fault(self.pages.heap(), batch) {
+        if let Some((number, index)) = batch_fault(self.pages.order(), self.pages.heap(), batch) {
             self.tally.answers[number as usize] += 1;
             same("the answer to a batch that is asked for", &answer, &Answer { root, ..Answer::told(number, index) })?;
             return Ok(None);

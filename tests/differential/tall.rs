@@ -1,6 +1,6 @@
 //! The tallest tree: ascending batches of four until the next one would need a page of level 8.
 
-use harness::{Answer, Datom, Node, Oracle, Order, Pages, Random, Verdict, Which, MAX_VALUE};
+use harness::{Answer, By, Datom, Node, Oracle, Order, Pages, Random, Verdict, Which, MAX_VALUE};
 
 use crate::history::ask;
 use crate::library::{bytes_of, call, call_named, noise, scratch_need, Beside, Call, Entry, Lent};
@@ -24,8 +24,10 @@ const LISTINGS: usize = 200;
 
 /// What was compared, or the first difference.
 pub fn run(random: &mut Random) -> Result<String, String> {
-    let oracle = Oracle { which: Which::Patched, order: Order::Eavt };
-    let mut pages = Pages::new(PAGE_SIZE);
+    let oracle = Oracle { which: Which::Patched, by: By::Noblit };
+    // The batches rise in any order.
+    let order = random.pick(&Order::ALL);
+    let mut pages = Pages::new(PAGE_SIZE, order);
     let mut store = Store::new(PAGE_SIZE, random);
     let need = scratch_need(PAGE_SIZE);
     let mut scratch = Lent::of_length(need, random);
@@ -41,7 +43,7 @@ pub fn run(random: &mut Random) -> Result<String, String> {
         let too_tall = written.chunks_exact(PAGE_SIZE).position(|page| level(page) > 7);
         let count = pages.count() - before;
         store.make_room(count as usize, random);
-        let beside = Beside::no_heap(&heap, PAGE_SIZE as u64, before);
+        let beside = Beside::no_heap(&heap, PAGE_SIZE as u64, before, order);
         let given = Call { entry, beside, batch: &bytes_of(&datoms), scratch: need, area: 32 };
         let answer = call(store.lend(count as usize, 0), &given, &mut scratch, random)?;
         let (expected, kept) = match too_tall {
@@ -65,8 +67,8 @@ pub fn run(random: &mut Random) -> Result<String, String> {
             let read = read(&pages, &store, root, 4 * batch, random)?;
             return match store.fault() {
                 None => Ok(format!(
-                    "the tallest tree: {} batches of four, {} pages of 256 bytes, height 8; the next one TooTall after {} pages; {}",
-                    batch, before, at, read,
+                    "the tallest tree, {}: {} batches of four, {} pages of 256 bytes, height 8; the next one TooTall after {} pages; {}",
+                    order.name(), batch, before, at, read,
                 )),
                 Some(fault) => Err(fault),
             };
@@ -104,7 +106,7 @@ fn with_less_room(store: &mut Store, given: &Call, written: &[u8], scratch: &mut
 
 /// Listings and the check of the tallest tree, of so many datoms, by the Rust and by the library.
 fn read(pages: &Pages, store: &Store, root: u64, amount: u64, random: &mut Random) -> Result<String, String> {
-    let oracle = Oracle { which: Which::Patched, order: Order::Eavt };
+    let oracle = Oracle { which: Which::Patched, by: By::Noblit };
     let mut tally = Tally::default();
     for i in 0..LISTINGS {
         let (from, to) = (random.below(amount as usize) as u64, random.below(amount as usize) as u64);

@@ -2,11 +2,33 @@
 
 use std::fmt;
 
+use harness::Order;
+
 use crate::model::Step;
 use crate::names::{Names, Naming};
 
-/// How many of the refusals 1 to 12 there are, and Done as 0.
-pub const NUMBERS: usize = 13;
+/// How many of the refusals 1 to 13 there are, and Done as 0.
+pub const NUMBERS: usize = 14;
+
+const BAD_ORDER: u64 = 13;
+
+/// The calls that take the store's record. A fetch does not look at its order.
+#[derive(Clone, Copy, Debug, PartialEq)]
+pub enum Asking {
+    Initialise,
+    Insert,
+    InsertNamed,
+    Held,
+    Check,
+    Start,
+    Step,
+    Fetch,
+}
+
+impl Asking {
+    pub const IN_ORDER: [Asking; 7] =
+        [Asking::Initialise, Asking::Insert, Asking::InsertNamed, Asking::Held, Asking::Check, Asking::Start, Asking::Step];
+}
 
 #[derive(Default)]
 pub struct Tally {
@@ -31,6 +53,11 @@ pub struct Tally {
     /// Stores cut at a page of a batch.
     pub cuts: u64,
     pub answers: [u64; NUMBERS],
+    /// How often each call was refused for an order that there is not.
+    pub bad_orders: [u64; Asking::IN_ORDER.len()],
+    /// Batches in stores of each order, and readings of a store in each order that it was not written in.
+    pub orders: [u64; Order::ALL.len()],
+    pub other_orders: [u64; Order::ALL.len()],
     /// Listings, the datoms that they gave, and how many of them the Rust gave too.
     pub listings: u64,
     pub listed: u64,
@@ -82,6 +109,16 @@ impl Tally {
         }
     }
 
+    /// An insert that is made by the entry that names, too, is one.
+    pub fn answered(&mut self, asking: Asking, number: u64) {
+        if asking != Asking::InsertNamed {
+            self.answers[number as usize] += 1;
+        }
+        if number == BAD_ORDER {
+            self.bad_orders[asking as usize] += 1;
+        }
+    }
+
     fn readings(&self, out: &mut fmt::Formatter) -> fmt::Result {
         writeln!(
             out, "  listings: {} ({} by the Rust too), {} datoms; {} fetches", self.listings, self.listed_by_rust, self.listed, self.fetches,
@@ -102,6 +139,10 @@ impl Tally {
         writeln!(
             out, "  long values in {} batches; constants: {} appended, {} sent or asked for by another word, {} spoiled; {} other heap lengths",
             self.with_long, self.appended, self.other_words, self.spoiled, self.other_lengths,
+        )?;
+        writeln!(
+            out, "  batches in the orders {:?}: {:?}; read in another than it was written in: {:?}; no such order, by {:?}: {:?}",
+            Order::ALL, self.orders, self.other_orders, Asking::IN_ORDER, self.bad_orders,
         )
     }
 }

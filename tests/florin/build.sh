@@ -36,7 +36,7 @@ for wanted in "$minor" "$version"; do
 done
 holds 'a build with the package' cmake --build "user/$minor" --target user > user.log
 holds 'a program with the package' "user/$minor/user"
-for wanted in 0.1 0.4 "$next" 1.0; do
+for wanted in 0.1 0.5 "$next" 1.0; do
     if found "$wanted"; then fail "find_package takes $version for $wanted"; else pass; fi
     holds "find_package of $wanted says why" grep -q 'version: '"$version" user.log
 done

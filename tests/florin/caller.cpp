@@ -51,10 +51,10 @@ std::vector<std::uint8_t> bytes_of(const std::vector<Datom> &datoms) {
 
 // A store with its memory, of 256-byte pages.
 struct Tree {
-    explicit Tree(std::size_t pages) : bytes(pages * 256) {}
+    explicit Tree(std::size_t pages, Order order = Order::Eavt) : bytes(pages * 256), store(bytes, 256, order, scratch) {}
     std::vector<std::uint8_t> bytes;
     std::vector<std::uint8_t> scratch = std::vector<std::uint8_t>(Store::scratch_need(256));
-    Store store{bytes, 256, scratch};
+    Store store;
 };
 
 Batch batch_of(std::initializer_list<std::uint64_t> entities) {
@@ -173,7 +173,31 @@ std::vector<Datom> random_datoms(std::size_t count) {
     return datoms;
 }
 
-// The order of the operators is the library's: it takes batches that rise by them, and lists as they sort.
+// A store takes batches that rise as InOrder sorts them, and lists so.
+void order_of_words(std::vector<Datom> sorted, Order order) {
+    std::vector<Datom> shuffled = sorted;
+    std::sort(sorted.begin(), sorted.end(), InOrder{order});
+    std::shuffle(shuffled.begin(), shuffled.end(), std::mt19937_64(2));
+    Tree tree(20000, order);
+    for (std::size_t at = 0; at < shuffled.size(); at += 100) {
+        const Span<Datom> batch(shuffled.data() + at, std::min<std::size_t>(100, shuffled.size() - at));
+        std::sort(batch.begin(), batch.end(), InOrder{order});
+        EXPECT(tree.store.insert(batch).done());
+    }
+    const Reader reader = tree.store.reader();
+    Listing listing = reader.list(tree.store.root());
+    EXPECT(sorted.size() > 5000 && std::equal(listing.begin(), listing.end(), sorted.begin(), sorted.end()) && listing.ended());
+    EXPECT(reader.order() == order && reader.check(tree.store.root()).done());
+    // Between any two of them, as bounds.
+    std::mt19937_64 random(5);
+    for (int i = 0; i < 50; ++i) {
+        const std::size_t from = random() % sorted.size(), to = from + random() % (sorted.size() - from);
+        Listing part = reader.list(tree.store.root(), sorted[from], sorted[to]);
+        EXPECT(std::equal(part.begin(), part.end(), sorted.begin() + static_cast<std::ptrdiff_t>(from), sorted.begin() + static_cast<std::ptrdiff_t>(to)));
+    }
+}
+
+// The order of the operators is the library's, and InOrder has all three.
 void order() {
     EXPECT(*Value::text("ab") < *Value::text("b") && *Value::text("a") < *Value::text({"a\0", 2}));
     EXPECT(*Value::text("") < *Value::text({"\0", 1}));
@@ -184,17 +208,55 @@ void order() {
     EXPECT(*Value::text("\xff") < Value{0x8100000000000161u} && Value{0x8100000000000161u} < Value::max());
     EXPECT(*Value::text("") < Value{Value::integer_end});
 
-    const std::vector<Datom> sorted = random_datoms(6000);
-    std::vector<Datom> shuffled = sorted;
-    std::shuffle(shuffled.begin(), shuffled.end(), std::mt19937_64(2));
-    Tree tree(20000);
-    for (std::size_t at = 0; at < shuffled.size(); at += 100) {
-        const Span<Datom> batch(shuffled.data() + at, std::min<std::size_t>(100, shuffled.size() - at));
-        std::sort(batch.begin(), batch.end());
-        EXPECT(tree.store.insert(batch).done());
+    const std::vector<Datom> datoms = random_datoms(6000);
+    for (const Order each : orders) order_of_words(datoms, each);
+    EXPECT(std::is_sorted(datoms.begin(), datoms.end(), InOrder{}));
+}
+
+// By which parts each order goes, told by pairs of datoms that differ in few of them.
+void parts_of_orders() {
+    const Datom first{1, 2, Value{2}, 3}, second{2, 1, Value{3}, 3}, third{3, 1, Value{1}, 3};
+    EXPECT(InOrder{}(first, second) && InOrder{Order::Eavt}(second, third) && first < second && second < third);
+    EXPECT(InOrder{Order::Aevt}(second, third) && InOrder{Order::Aevt}(third, first));
+    EXPECT(InOrder{Order::Avet}(third, second) && InOrder{Order::Avet}(second, first));
+    for (const Order each : orders) {
+        const InOrder less{each};
+        const ByContent by_content{HeapView(), each};
+        const Datom base{5, 5, Value{5}, 5};
+        EXPECT(!less(base, base) && less(Datom::min(), base) && less(base, Datom::max()));
+        for (const Datom &above : {Datom{6, 5, Value{5}, 5}, Datom{5, 6, Value{5}, 5}, Datom{5, 5, Value{6}, 5}, Datom{5, 5, Value{5}, 6}}) {
+            EXPECT(less(base, above) && !less(above, base) && HeapView().compare(base, above, each) < 0 && by_content(base, above));
+        }
     }
-    Listing listing = tree.store.reader().list(tree.store.root());
-    EXPECT(sorted.size() > 5000 && std::equal(listing.begin(), listing.end(), sorted.begin(), sorted.end()) && listing.ended());
+    static_assert(order_of(0) == Order::Eavt && order_of(1) == Order::Aevt && order_of(2) == Order::Avet && !order_of(3) && !order_of(UINT64_MAX));
+    static_assert(name(Order::Eavt) == "eavt" && name(Order::Aevt) == "aevt" && name(Order::Avet) == "avet" && std::size(orders) == 3);
+    static_assert(StoreRecord::of(256).order == Order::Eavt && StoreRecord::of(256, Order::Avet).order == Order::Avet);
+    static_assert(StoreRecord{256}.order == Order::Eavt && StoreRecord::of(256, Order::Avet).page_size == 256);
+    EXPECT(name(static_cast<Order>(3)) == "unknown" && Tree(1, Order::Aevt).store.order() == Order::Aevt);
+}
+
+// The order is given once, and every call goes by it; a number that no order has is refused by all of them, and changes nothing.
+void bad_orders() {
+    Tree tree(16);
+    EXPECT(tree.store.insert(run(0, 20)).done());
+    const std::vector<std::uint8_t> before = tree.bytes;
+    const std::uint64_t root = tree.store.root(), pages = tree.store.page_count();
+    const StoreRecord unknown{256, pages, 0, static_cast<Order>(3)};
+    Store store(tree.bytes, ByteArea(), unknown, tree.scratch, root);
+    const Reader reader = store.reader();
+    const auto is_refused = [](const Answer &answer) { return answer.number == Number::BadOrder && answer.carries() == Carries::Nothing; };
+    EXPECT(is_refused(store.insert(run(20, 1))) && is_refused(store.initialise(run(20, 1))) && is_refused(store.insert_at(99, run(0, 129))));
+    EXPECT(is_refused(reader.held(root, run(0, 1))) && is_refused(reader.check(99)) && is_refused(reader.list(99).answer()));
+    EXPECT(store.root() == root && store.page_count() == pages && tree.bytes == before && reader.refusal(0).done());
+    // The wrapper makes every listing with a start, so a step meets the number only where the start has.
+    EXPECT(Store(tree.bytes, 257, static_cast<Order>(3), tree.scratch).insert({}).number == Number::BadStore);
+    // In another order than its own a tree is no tree.
+    const Reader other(tree.bytes, 256, pages, Order::Avet);
+    Tree mixed(16, Order::Aevt);
+    EXPECT(mixed.store.insert({Datom{2, 1, Value{1}, 3}, Datom{1, 2, Value{1}, 3}}).done());
+    EXPECT(mixed.store.insert({Datom{1, 3, Value{1}, 3}, Datom{2, 1, Value{2}, 3}}).number == Number::OutOfOrder);
+    EXPECT(mixed.store.reader().check(0).done() && Reader(mixed.bytes, 256, 1).check(0).fault == Fault::Order);
+    EXPECT(other.order() == Order::Avet && other.check(root).done());   // entities and values rise together, so this one is
 }
 
 void answers() {
@@ -204,7 +266,8 @@ void answers() {
     EXPECT(std::string(name_of(Number::NotHeld)) == "NotHeld" && carried_by(Number::NotHeld) == Carries::Index);
     EXPECT(std::string(name_of(Number::BadConstant)) == "BadConstant" && carried_by(Number::BadConstant) == Carries::Index);
     EXPECT(std::string(name_of(Number::HeapFull)) == "HeapFull" && carried_by(Number::HeapFull) == Carries::Nothing);
-    EXPECT(std::string(name_of(static_cast<Number>(13))) == "unknown");
+    EXPECT(std::string(name_of(Number::BadOrder)) == "BadOrder" && carried_by(Number::BadOrder) == Carries::Nothing);
+    EXPECT(std::string(name_of(static_cast<Number>(14))) == "unknown");
 }
 
 // The words of an answer, as the library writes them.
@@ -236,7 +299,7 @@ void faults() {
     }
     EXPECT(name(static_cast<Fault>(15)) == "unknown" && text(static_cast<Fault>(0)) == "unknown");
     EXPECT(!answer_of(7, 0).fault && !answer_of(7, 15).fault && !answer_of(33, UINT64_MAX).fault && answer_of(7, 15).pages == 0);
-    for (unsigned number : {0u, 1u, 2u, 3u, 4u, 5u, 6u, 8u, 9u, 10u, 16u, 32u}) EXPECT(!answer_of(number, 3).fault && answer_of(number, 3).pages == 3);
+    for (unsigned number : {0u, 1u, 2u, 3u, 4u, 5u, 6u, 8u, 9u, 10u, 13u, 16u, 32u}) EXPECT(!answer_of(number, 3).fault && answer_of(number, 3).pages == 3);
 }
 
 // Every call of the wrapper that reads pages passes the fault on; a batch in any form.
@@ -438,10 +501,11 @@ void held() {
 
 // A store with a heap of its own.
 struct LongTree {
-    LongTree(std::size_t pages, std::size_t heap_bytes) : bytes(pages * 256), heap(heap_bytes) {}
+    LongTree(std::size_t pages, std::size_t heap_bytes, Order order = Order::Eavt)
+        : bytes(pages * 256), heap(heap_bytes), store(bytes, heap, StoreRecord::of(256, order), scratch) {}
     std::vector<std::uint8_t> bytes, heap;
     std::vector<std::uint8_t> scratch = std::vector<std::uint8_t>(Store::scratch_need(256));
-    Store store{bytes, heap, {256}, scratch};
+    Store store;
 };
 
 const std::uint64_t kLarge = std::uint64_t{1} << 63;
@@ -487,6 +551,9 @@ void records() {
     EXPECT(pages.page_count == 5 && pages.heap_length == 16 && pages.page_size == 256 && refused.page_count == 3);
     const StoreRecord longer = record_after(record, Put{Number::Done, Value{}, 24});
     EXPECT(longer.heap_length == 40 && longer.page_count == 3 && record_after(record, Put{Number::HeapFull, Value{}, 0}).heap_length == 16);
+    const StoreRecord by_value{256, 3, 16, Order::Avet};
+    EXPECT(record_after(by_value, Answer{Number::Done, 5, 2, 0}).order == Order::Avet && pages.order == Order::Eavt);
+    EXPECT(record_after(by_value, Put{Number::Done, Value{}, 24}).order == Order::Avet);
 }
 
 // Few and similar, so that short and long ones share beginnings, and some contents lie on the heap twice.
@@ -499,8 +566,8 @@ Put random_put(Store &store, std::mt19937_64 &random) {
 }
 
 // The order of ByContent is the library's, and equal content is one value wherever it lies.
-void order_by_content() {
-    LongTree tree(20000, 200000);
+void order_by_content(Order order) {
+    LongTree tree(20000, 200000, order);
     std::mt19937_64 random(3);
     std::vector<Datom> datoms;
     for (int i = 0; i < 6000; ++i) {
@@ -508,8 +575,9 @@ void order_by_content() {
         EXPECT(put.done());
         datoms.push_back({random() % 20, random() % 3, put.value, random() % 40});
     }
-    const ByContent less{tree.store.heap()};
+    const ByContent less = tree.store.by_content();
     const auto equal = [&](const Datom &a, const Datom &b) { return tree.store.heap().compare(a, b) == 0; };
+    EXPECT(less.order == order && tree.store.reader().by_content().order == order);
     std::vector<Datom> sorted = datoms;
     std::stable_sort(sorted.begin(), sorted.end(), less);
     sorted.erase(std::unique(sorted.begin(), sorted.end(), equal), sorted.end());
@@ -563,12 +631,14 @@ int main() {
     damaged_pages();
     sizes();
     trees();
+    parts_of_orders();
+    bad_orders();
     forms_of_a_batch();
     iterators();
     held();
     put_values();
     records();
-    order_by_content();
+    for (const Order each : orders) order_by_content(each);
     long_values();
     return failures != 0;
 }

@@ -352,15 +352,15 @@ expect 0 '^\{"entity":29,.*,"operation":"assert","batch":1\} florin: 1 of 3' mis
 expect 0 '^\{"datoms":[0-9]+,"root":[0-9]+\} $' count sent.fw --json
 expect 0 '^\{"copied":"sent.fw","to":"sent.copy","batches":[0-9]+,"pages":[0-9]+,"root":[0-9]+,"heap_bytes":0\} $' backup sent.fw sent.copy --json
 "$florin" dump sent.fw > sent.dump
-expect 0 '^\{"loaded":"sent.load","page_size":256,"batches":[0-9]+,"datoms":[0-9]+,"pages":[0-9]+,"root":[0-9]+\} $' load sent.load sent.dump --json
+expect 0 '^\{"loaded":"sent.load","page_size":256,"order":"eavt","batches":[0-9]+,"datoms":[0-9]+,"pages":[0-9]+,"root":[0-9]+\} $' load sent.load sent.dump --json
 expect 0 '^\{"sound":true,"roots":[0-9]+,"pages":[0-9]+,"walked":1,"heap_bytes":0\} $' check sent.fw --all --json
 expect 64 '^\{"error":"Usage","status":64,"message":"there is no command frob\.","next":"florin --help shows what can be said\."\} $' frob --json
 expect 77 '^\{"error":"NotClosed","status":77,"batch":1,"line":1,"datoms":4,' insert sent.fw open.txt --json
 expect 0 '^\{"entity":1,"attribute":1,"value":0,"transaction":2,"operation":"assert"\} .*"value":"","transaction":2,"operation":"retract".*"value":\{"bytes":"00"\}.*"value":"a#b"' list words.fw --json
 expect 0 '^\{"receipt":1,"root":[0-9]+,"from":null,"datoms":3,"pages":1,"page_count":1,"time":[0-9]+,"branch":false,"datoms_sum":"[0-9a-f]{16}","pages_sum":"[0-9a-f]{16}","heap_length":0\} \{"receipt":2' roots sent.fw --json
-expect 0 '^\{"store":"c.fw","bytes":[0-9]+,"page_size":256,.*"levels":\[\{"level":0,' stat c.fw --json
+expect 0 '^\{"store":"c.fw","bytes":[0-9]+,"page_size":256,"order":"eavt","pages":.*"levels":\[\{"level":0,' stat c.fw --json
 expect 0 '^\{"sound":true,"root":[0-9]+,"pages":[0-9]+\} $' check c.fw --json
-expect 0 '^\{"created":"json.fw","page_size":4096\} $' create json.fw --json
+expect 0 '^\{"created":"json.fw","page_size":4096,"order":"eavt"\} $' create json.fw --json
 expect 64 'goes with neither' list c.fw --json --binary
 if command -v python3 > /dev/null; then
     for words in 'list words.fw' 'roots sent.fw' 'stat sent.fw' 'check sent.fw --all' 'count sent.fw'; do

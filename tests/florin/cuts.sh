@@ -2,23 +2,25 @@
 # Killed and cut at many points of an insert, and opened again: nothing that was told to be in is lost, nothing is half in.
 
 # A feed of 12 batches in which each batch is spread over the whole tree, and what the tree lists after each. A value is its entity, or one
-# that is long: texts of its own and of several batches, and large integers.
+# that is long: texts of its own and of several batches, and large integers; or a text of several entities, under one of three attributes,
+# for a tree that goes by them.
 feed_of() {
-    local entities=$1 values=$2 n
+    local entities=$1 values=$2 order=$3 n
     : > feed.txt
     for n in $(seq 1 12); do
         seq "$n" 12 "$entities" | awk -v n="$n" -v values="$values" '
             function value(e) {
                 if (values == "short") return e
+                if (values == "shared") return "\"text-" e * 7 % 90 "-of-several\""
                 if (e % 5 == 0) return "92233720368547" sprintf("%05d", e)
                 return e % 3 == 0 ? "\"a text of several batches, " e % 70 "\"" : "\"the text of order " e " in batch " n "\""
             }
-            { print $1, 1, value($1), 2 * n, "assert" }' > "batch.$n"
+            { print $1, values == "shared" ? $1 % 3 + 1 : 1, value($1), 2 * n, "assert" }' | in_order "$order" > "batch.$n"
         cat "batch.$n" >> feed.txt
         echo --- >> feed.txt
     done
     : > after.0
-    for n in $(seq 1 12); do cat "after.$((n - 1))" "batch.$n" | sort -n > "after.$n"; done
+    for n in $(seq 1 12); do cat "after.$((n - 1))" "batch.$n" | in_order "$order" > "after.$n"; done
 }
 
 # intact STORE TOLD NAME: the store is sound at every root, has no fewer batches than were told to be in, and each root lists exactly
@@ -59,11 +61,11 @@ killed_at() {
 }
 
 # A page of 8192 bytes is two blocks of the disk, and may be half on it. With long values a batch has the heap to bring to the disk too.
-for kind in 256:short 4096:short 8192:short 256:long 4096:long; do
-    size=${kind%:*}
-    feed_of 1500 "${kind#*:}"
+for kind in 256:short:eavt 4096:short:eavt 8192:short:eavt 256:long:eavt 4096:long:aevt 256:shared:avet; do
+    IFS=: read -r size values order <<< "$kind"
+    feed_of 1500 "$values" "$order"
     rm -f base.fw
-    "$florin" create base.fw --page-size $size --room 2 > /dev/null
+    "$florin" create base.fw --page-size "$size" --order "$order" --room 2 > /dev/null
 
     # Killed before each call to the system: the last run is one that is not killed.
     for at in $(seq 1 500); do

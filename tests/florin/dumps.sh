@@ -26,7 +26,7 @@ again() {
         lasting "$store" > one; lasting sized.fw > other; same one other "$store in pages of $size: batches"
         listings "$store" > one; listings sized.fw > other; same one other "$store in pages of $size: listings"
     done
-    size=$(sed -nE 's/^#@ dump [12] page-size ([0-9]+) .*/\1/p' again.dump)
+    size=$(sed -nE 's/^#@ dump [123] page-size ([0-9]+) .*/\1/p' again.dump)
     "$florin" dump sized.fw | "$florin" load back.fw --page-size "$size" > /dev/null
     extents "$store" > one; extents back.fw > other; same one other "$store: there and back"
 }
@@ -81,6 +81,42 @@ for size in 256 568; do
     again spread.$size.fw
 done
 
+# Stores of the other orders, with long values and without: the dump says the order, and the load keeps it. Those of eavt have no such line.
+for order in aevt avet; do
+    "$florin" create $order.fw --page-size 256 --order $order > /dev/null
+    awk '{ print $1, $1 % 5 + 1, ($1 * 7) % 90, 2, "assert" } $1 % 40 == 0 { print "---" }' <(seq 1 400) > unsorted.txt
+    expect 0 '10 batches with 400 datoms' insert $order.fw unsorted.txt --sort --quiet
+    "$florin" insert $order.fw <(echo '500 3 7 2 assert'; echo '499 3 8 2 assert'; echo ---) --root @4 --branch --sort > /dev/null
+    again $order.fw
+    equal "$(sed -n 2,3p again.dump | xargs)" "#@ dump 3 page-size 256 batches 11 #@ order $order" "the head of a dump of $order.fw"
+    equal "$("$florin" stat again.fw | grep -c "^order  *$order: by")" 1 "the order of $order.fw when it is loaded"
+    expect 0 "^loaded sized.fw.new, pages of 568 bytes, order $order: 11 batches" load sized.fw.new again.dump --page-size 568
+    rm sized.fw.new
+    "$florin" create long.$order.fw --page-size 256 --order $order --from long.first > /dev/null
+    expect 0 '21 batches' insert long.$order.fw long.feed --quiet
+    again long.$order.fw
+    equal "$(sed -n 3p again.dump)" "#@ order $order" "the order in a dump of long.$order.fw"
+done
+for store in fed.fw long.fw; do
+    equal "$("$florin" dump $store | grep -c '^#@ order'):$("$florin" dump $store | sed -n 2p | grep -cE '^#@ dump [12] ')" 0:1 "no order in a dump of $store"
+done
+"$florin" dump avet.fw > avet.dump
+reordered() { # reordered SED STATUS PATTERN: a dump of avet.fw, edited, is refused so
+    sed "$1" avet.dump > what.dump
+    expect "$2" "$3" load new.fw what.dump
+    [ -z "$(ls -d new.fw* 2> /dev/null)" ] || fail "left by $3: $(ls -d new.fw*)"
+}
+reordered 's/^#@ order avet/#@ order frob/' 65 'BadText \(65\): what.dump, line 3: the order frob is none of eavt, aevt or avet\. No store was made'
+reordered '/^#@ order/d' 65 'BadText \(65\): what.dump, line 3: a line #@ order \.\. of a dump is due here'
+reordered 's/^#@ order avet/#@ order aevt/' 4 'OutOfOrder \(4\): .*rise: by attribute, entity, value, transaction.*No store was made'
+reordered 's/^#@ order avet/#@ order eavt/' 4 'OutOfOrder \(4\): .*rise: by entity, attribute, value, transaction.*No store was made'
+reordered 's/^#@ dump 3/#@ dump 1/' 65 'line 3: a line #@ batch \.\. of a dump is due here'
+reordered 's/^#@ dump 3/#@ dump 4/' 76 'OtherFormat \(76\): what.dump is a dump of form 4, of a newer florin'
+# One batch that rises in both orders: the checksum of the lines tells.
+"$florin" create rising.fw --order avet > /dev/null; "$florin" insert rising.fw <(b 1 5) > /dev/null
+"$florin" dump rising.fw | sed 's/^#@ order avet/#@ order aevt/' > what.dump
+expect 75 'Altered \(75\): what.dump is not as it was dumped: its lines have another checksum' load new.fw what.dump
+
 # A store of florin 0.1 kept no checksums of datoms: they are made by the load, and all else stays.
 gunzip -c "$here/format1.fw.gz" > old.fw
 "$florin" upgrade old.fw upgraded.fw > /dev/null
@@ -104,7 +140,7 @@ expect 64 'florin dump has no --json' dump fed.fw --json
 expect 66 'cannot create /no/where' dump fed.fw /no/where
 expect 66 'cannot read /no/where' load new.fw /no/where
 "$florin" dump fed.fw 2> complained > /dev/full; equal "$?" 71 'a dump into a full device'
-expect 0 '"loaded":"new.fw","page_size":568,"batches":7,"datoms":41' load new.fw fed.dump --page-size 568 --json
+expect 0 '"loaded":"new.fw","page_size":568,"order":"eavt","batches":7,"datoms":41' load new.fw fed.dump --page-size 568 --json
 rm new.fw
 expect 1 'BadStore' load new.fw fed.dump --page-size 300
 
@@ -131,7 +167,7 @@ edited 's/batch 5 from/batch 5 "from/' 65 'line [0-9]+: the string .* has no clo
 edited 's/time [0-9]*/time soon/' 65 'line 3: the time soon is no number'
 edited 's/batches 7/batches 6/' 65 'a line #@ end .. of a dump is due here'
 edited 's/batches 7/batches 8/' 65 'a line #@ batch .. of a dump is due here'
-edited 's/dump 1 /dump 3 /' 76 'OtherFormat \(76\): what.dump is a dump of form 3'
+edited 's/dump 1 /dump 4 /' 76 'OtherFormat \(76\): what.dump is a dump of form 4'
 edited 's/dump 1 /dump 2 /' 75 'its lines have another checksum than its last one says'
 # What no single batch shows is shown by the checksum of all lines: a time, or a root that is named by its page.
 edited 's/\(batch 5.*time\) [0-9]*/\1 7/' 75 'its lines have another checksum than its last one says'

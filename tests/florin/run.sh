@@ -34,7 +34,7 @@ trap 'umount "$work/files/disk" 2> /dev/null; rm -rf "$work"' EXIT
 
 # shellcheck source=steps.sh
 source "$here/steps.sh"
-for part in ${FLORIN_TEST_PARTS:-commands refusals named files dumps cuts callers tour}; do
+for part in ${FLORIN_TEST_PARTS:-commands refusals named orders files dumps cuts callers tour}; do
     echo "== $part"
     mkdir "$work/$part" && cd "$work/$part" || exit 1
     # shellcheck source=/dev/null

@@ -72,6 +72,18 @@ d() { seq "$1" "$2" | awk '{ print $1, 1, $1, 2, "assert" }'; }
 # b FROM TO: the same as a batch, with the line that ends it.
 b() { d "$@"; echo ---; }
 
+# in_order ORDER: lines of datoms, ascending in an order of stores. Their values are all integers, or all strings without a space.
+in_order() {
+    local entity='-k 1,1n' attribute='-k 2,2n' value='-k 3,3n -k 3,3' keys
+    case $1 in
+        eavt) keys="$entity $attribute $value" ;;
+        aevt) keys="$attribute $entity $value" ;;
+        avet) keys="$attribute $value $entity" ;;
+    esac
+    # shellcheck disable=SC2086
+    LC_ALL=C sort -t ' ' $keys -k 4,4n -k 5,5r
+}
+
 # Where the first page of a store is in its file.
 pages_at() { "$florin" page "$1" 0 | sed -n 's/^at byte \([0-9]*\) .*/\1/p'; }
 

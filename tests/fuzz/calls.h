@@ -10,7 +10,7 @@
 constexpr size_t STORE_ROOM = 1 << 17;
 constexpr size_t SCRATCH_ROOM = 619584 + GUARD;
 constexpr size_t CURSOR = 264;
-constexpr size_t HEAP_ROOM = 4096, RECORD = 24;
+constexpr size_t HEAP_ROOM = 4096, RECORD = 32;
 
 enum class Entry { Initialise, Insert, Fetch, Check, Start, Step, Held, Named, AppendInteger, AppendBytes };
 
@@ -28,15 +28,20 @@ struct Call {
     size_t heap_lent = 0;
     uint64_t heap_length = 0;
     size_t record_length = RECORD;
+    // Any number, of which few are orders.
+    uint64_t order = Eavt;
     // The integer to append.
     uint64_t value = 0;
 
     bool appends() const { return entry == Entry::AppendInteger || entry == Entry::AppendBytes; }
 
-    // Page size, page count and heap length, cut short or with noise behind.
+    // A fetch and the appends compare nothing.
+    bool compares() const { return entry != Entry::Fetch && !appends(); }
+
+    // Page size, page count, heap length and order, cut short or with noise behind.
     std::vector<uint8_t> record() const {
         std::vector<uint8_t> bytes(std::max(record_length, RECORD), 0x3c);
-        uint64_t words[] = {page_size, page_count, heap_length};
+        uint64_t words[] = {page_size, page_count, heap_length, order};
         memcpy(bytes.data(), words, RECORD);
         bytes.resize(record_length);
         return bytes;
@@ -177,6 +182,7 @@ public:
         Answer answer = front_.call(call);
         // The other copy of the store is still as before.
         judge_words(call, answer);
+        judge_record(call, answer);
         judge_faults(call, answer);
         uint64_t pages = call.writes() ? pages_changed(call, answer) : 0;
         for (uint64_t id = call.page_count; is_sound && id < call.page_count + pages; id++) {
@@ -203,7 +209,7 @@ private:
 
     // Which numbers an entry may give, and what the other words then are.
     static void judge_words(const Call &call, const Answer &answer) {
-        static const uint64_t may_give[] = {0xb1f, 0xbff, 0x23, 0x23 | uint64_t{1} << 33, 0x4a3, 0x83 | uint64_t{1} << 32, 0x108bf, 0xbff, 0x1803, 0x1803};
+        static const uint64_t may_give[] = {0x2b1f, 0x2bff, 0x23, 0x2023 | uint64_t{1} << 33, 0x24a3, 0x2083 | uint64_t{1} << 32, 0x128bf, 0x2bff, 0x1803, 0x1803};
         uint64_t number = answer.number, batch = call.batch.size() / 32;
         must(number < 64 && may_give[static_cast<int>(call.entry)] >> number & 1, "a number that this entry does not give");
         if (call.answer_length != 32) {
@@ -237,8 +243,28 @@ private:
         }
     }
 
-    // The heap that a call may read, where it is not refused by 1.
-    Heap used(const Call &call) const { return {constants(), std::min<uint64_t>(call.heap_length, front_.heap.length())}; }
+    // The heap that a call may read, where it is not refused by 1, and the order in which it does.
+    Heap used(const Call &call) const { return {constants(), std::min<uint64_t>(call.heap_length, front_.heap.length()), call.order}; }
+
+    // "13 BadOrder for an unknown order number, straight after 1."
+    static void judge_record(const Call &call, const Answer &answer) {
+        if (call.appends()) {
+            return;
+        }
+        uint64_t number = is_bad_store(call) ? 1 : call.compares() && call.order >= ORDERS ? 13 : 0;
+        must(number == 0 || answer.number == number, "a record that is to be refused by 1 or 13 is not");
+        must(number != 0 || (answer.number != 1 && answer.number != 13), "a record is refused by 1 or 13 that is good");
+    }
+
+    // What 1 is given for: the record and the lengths of what is lent. A fetch does not look at the heap length.
+    static bool is_bad_store(const Call &call) {
+        bool is_listing = call.entry == Entry::Start || call.entry == Entry::Step;
+        bool is_bad_heap = call.compares() && (call.heap_length > call.heap_lent || call.heap_length % 8 != 0);
+        bool is_bad_extent = capacity(call.page_size) == 0 || call.page_count > call.store_length / call.page_size;
+        return call.answer_length != 32 || call.record_length != RECORD || is_bad_extent || is_bad_heap
+            || (call.writes() && call.scratch_length < florinwick_scratch_need(call.page_size))
+            || (is_listing && call.cursor.size() != CURSOR) || (call.entry == Entry::Step && call.datom_length != 32);
+    }
 
     // "1 for a heap length over its slice or no multiple of 8; then 11, then 12": what an append answers, and the bytes that it leaves. The
     // other heap is still as before.
@@ -269,7 +295,7 @@ private:
 
     // What is named is what the page's bytes say, as far as that can be told from the page, the root or the cursor alone.
     void judge_faults(const Call &call, const Answer &answer) const {
-        if (call.answer_length == 32 && answer.number != 1 && !call.appends()) {
+        if (call.answer_length == 32 && answer.number != 1 && answer.number != 13 && !call.appends()) {
             if (answer.is_faulty() && call.names() != 0) {
                 judge_page(call, answer.pages, answer.detail);
             }

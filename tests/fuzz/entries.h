@@ -1,4 +1,4 @@
-// The entries of libflorinwick.a, as the header for callers declares them, and document 02's numbers of what a page can have broken.
+// The entries of libflorinwick.a, as the header for callers declares them, and document 02's numbers of what a page can have broken and of the orders.
 #pragma once
 
 #include "florinwick.h"
@@ -12,3 +12,8 @@ enum Fault : uint64_t {
 };
 
 constexpr uint64_t NO_FAULT = 0;
+
+// So with the orders. Any other number is none.
+enum Index : uint64_t { Eavt = 0, Aevt, Avet };
+
+constexpr uint64_t ORDERS = 3;

@@ -13,6 +13,9 @@ constexpr size_t MOST_CALLS = 24, MOST_STEPS = 24;
 constexpr size_t HEAP_SLICE = 604;
 constexpr uint8_t NEW = 240;
 
+// Two bytes from here on make a call that reads, in another order than the store's.
+constexpr uint8_t OTHER_ORDER = 252;
+
 // libFuzzer keeps an input that reaches a counter for the first time.
 constexpr size_t COUNTERS = 16384;
 __attribute__((section("__libfuzzer_extra_counters"))) uint8_t counters[COUNTERS];
@@ -44,12 +47,12 @@ struct Named {
 };
 Named named_so_far;
 
-// How often each call gave each of the numbers that have to do with the heap.
+// How often each call gave each of the numbers that have to do with the heap and the record.
 struct Given {
     uint64_t times[10][64] = {};
 
     ~Given() {
-        for (int number : {0, 1, 10, 11, 12}) {
+        for (int number : {0, 1, 10, 11, 12, 13}) {
             fprintf(stderr, "%d given by initialise, insert, fetch, check, start, step, held, insert_named, append_u64, append_bytes:", number);
             for (auto &call : times) {
                 fprintf(stderr, " %llu", static_cast<unsigned long long>(call[number]));
@@ -146,11 +149,14 @@ struct World {
     bool is_sound = true;
     uint64_t last_number = 0;
     std::vector<uint8_t> cursor;
+    // The one that the store is written in; for a while another that it is read in.
+    uint64_t order = Eavt;
 
     void begin(const uint8_t *data, size_t data_length) {
         static const uint64_t sizes[] = {256, 256, 256, 568, 4096, 8192};
         script = Script(data, data_length);
-        size = sizes[script.below(std::size(sizes))];
+        uint8_t first = script.byte();
+        size = sizes[first % std::size(sizes)], order = first / std::size(sizes) % ORDERS;
         length = std::min(STORE_ROOM, script.below(8) * 32 * size + script.below(64));
         count = 0, is_sound = true, last_number = 0;
         roots.assign(1, NONE);
@@ -164,22 +170,24 @@ struct World {
         named.heap(std::vector<uint8_t>(heap_lent, 0xc3));
     }
 
-    Heap heap() const { return {twice.constants(), heap_length}; }
+    Heap heap() const { return {twice.constants(), heap_length, order}; }
 
     Call good(Entry entry) {
         Call call{entry, size, count, NONE, length, {}, {}, {}, cursor};
         call.scratch_length = florinwick_scratch_need(size);
-        call.heap_lent = heap_lent, call.heap_length = heap_length;
+        call.heap_lent = heap_lent, call.heap_length = heap_length, call.order = order;
         return call;
     }
 
     Answer make(const Call &call) {
-        Answer answer = twice.call(call, is_sound);
+        // A batch that goes in in another order than the tree's may leave a page that cannot be read.
+        bool is_kept = is_sound && call.order == order;
+        Answer answer = twice.call(call, is_kept);
         if (call.writes() || call.appends()) {
-            make_named(call, answer);
+            make_named(call, answer, is_kept);
         }
         uint64_t entry = static_cast<uint64_t>(call.entry);
-        note({entry, answer.number, is_sound, call.page_size});
+        note({entry, answer.number, is_sound, call.page_size, about(call.order)});
         note({entry, answer.number, last_number, 1});
         note({entry, answer.number, about(answer.detail), 2});
         note({entry, answer.number, about(answer.pages), about(call.batch.size() / 32), 3});
@@ -190,9 +198,9 @@ struct World {
     }
 
     // An insert is made by the entry that names, too: it answers and leaves the same, but for the name. What else writes is made again.
-    void make_named(Call call, const Answer &answer) {
+    void make_named(Call call, const Answer &answer, bool is_kept) {
         call.entry = call.entry == Entry::Insert ? Entry::Named : call.entry;
-        Answer again = named.call(call, is_sound);
+        Answer again = named.call(call, is_kept);
         must(again.number == answer.number && again.root == answer.root && again.detail == answer.detail,
                 "the insert that names answers otherwise");
         must(again.pages == answer.pages || (answer.number == 7 && answer.pages == 0), "the insert that names writes other pages");
@@ -258,13 +266,17 @@ struct World {
         }
     }
 
-    // The same of the heap and the record.
+    // The same of the heap and the record; now and then of two of its words at a time.
     void spoil_lent(Call &call, uint64_t off, uint8_t which) {
-        switch (which % 4) {
+        switch (which % 8) {
         case 0: call.heap_length = script.number(); break;
         case 1: call.heap_length -= std::min<uint64_t>(call.heap_length, off); break;
         case 2: call.heap_lent -= std::min<size_t>(call.heap_lent, off); break;
-        default: call.record_length = off % 48;
+        case 3: call.record_length = off % 48; break;
+        case 4: call.order = off % (ORDERS + 2); break;
+        case 5: call.order = script.number(); break;
+        case 6: call.order = off, call.page_count = script.number(); break;
+        default: call.order = off, call.page_size = script.number();
         }
     }
 
@@ -536,9 +548,27 @@ struct World {
         named.poke(place, byte);
     }
 
+    // One that reads, in an order that the store is not written in: nothing is promised of it but that the rules answer.
+    void read_otherwise() {
+        uint64_t own = order;
+        bool was_sound = is_sound;
+        order = (order + 1 + script.below(ORDERS - 1)) % ORDERS, is_sound = false;
+        switch (script.below(4)) {
+        case 0: list(); break;
+        case 1: read_one(); break;
+        case 2: make_up(); break;
+        default: ask();
+        }
+        order = own, is_sound = was_sound;
+    }
+
     void run() {
         for (size_t calls = 0; calls < MOST_CALLS && !script.is_over(); calls++) {
             uint8_t what = script.byte();
+            if (what >= OTHER_ORDER && what < OTHER_ORDER + 2) {
+                read_otherwise();
+                continue;
+            }
             if (what >= NEW) {
                 what % 8 < 6 ? append() : damage_heap();
                 continue;

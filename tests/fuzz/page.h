@@ -1,4 +1,4 @@
-// Datoms, constants and pages to the text of documents 01 and 02, for making batches and for looking at what a call wrote.
+// Datoms, constants, orders and pages to the text of documents 01 and 02, for making batches and for looking at what a call wrote.
 #pragma once
 
 #include <algorithm>
@@ -41,10 +41,13 @@ inline bool is_formed(const Datom &datom) {
     return length <= 7 && (length == 7 || (value & ((uint64_t{1} << 56) - 1)) >> (8 * length) == 0);
 }
 
-// The bytes of a heap that are in use.
+// The bytes of a heap that are in use, and the order of the store that they serve.
 struct Heap {
     const uint8_t *bytes;
-    uint64_t length;
+    uint64_t length, order;
+
+    // A word of a datom as it is compared.
+    using Part = std::tuple<int, uint64_t, std::string_view>;
 
     // Whether so many bytes are there from a place on. Both may be any word.
     bool has(uint64_t from, uint64_t count) const { return from <= length && count <= length - from; }
@@ -69,7 +72,7 @@ struct Heap {
 
     // Integers before byte strings before all else; of a constant nothing is asked but that its bytes are there. An inline string's
     // bytes are the value's own.
-    std::tuple<int, uint64_t, std::string_view> content(const uint64_t &value) const {
+    Part content(const uint64_t &value) const {
         auto text = [](const uint8_t *from, uint64_t count) { return std::string_view(reinterpret_cast<const char *>(from), count); };
         uint64_t tag = tag_of(value), offset = offset_of(value);
         if (tag == Integer) {
@@ -82,13 +85,20 @@ struct Heap {
             return {0, word_at(bytes + offset), {}};
         }
         bool is_there = tag == BytesAt && value != FLORINWICK_MAX && has(offset, 8) && has(offset + 8, word_at(bytes + offset));
-        return is_there ? std::tuple(1, uint64_t{0}, text(bytes + offset + 8, word_at(bytes + offset)))
-            : std::tuple(2, uint64_t{0}, std::string_view());
+        return is_there ? Part(1, 0, text(bytes + offset + 8, word_at(bytes + offset))) : Part(2, 0, {});
     }
 
-    bool is_below(const Datom &left, const Datom &right) const {
-        return std::tuple(left[0], left[1], content(left[2]), left[3]) < std::tuple(right[0], right[1], content(right[2]), right[3]);
+    // The words of a datom, the one that decides first in front.
+    std::array<Part, 4> parts(const Datom &datom) const {
+        Part entity(0, datom[0], {}), attribute(0, datom[1], {}), value = content(datom[2]), last(0, datom[3], {});
+        switch (order) {
+        case Aevt: return {attribute, entity, value, last};
+        case Avet: return {attribute, value, entity, last};
+        default: return {entity, attribute, value, last};
+        }
     }
+
+    bool is_below(const Datom &left, const Datom &right) const { return parts(left) < parts(right); }
 
     auto below() const {
         return [heap = *this](const Datom &left, const Datom &right) { return heap.is_below(left, right); };

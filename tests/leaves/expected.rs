@@ -2,14 +2,16 @@
 
 use std::cmp::Ordering;
 
-use harness::{capacity, Datom, Heap, Node, NONE};
+use harness::{capacity, Datom, Heap, Node, Order, NONE};
 
-use crate::probe::NOTHING;
+use crate::probe::{Page, NOTHING};
 
-/// The first rule of "Readable" that a page breaks, numbered 1 to 7 in document 01's order, or the page's content.
-pub fn read(page: &[u8], id: u64) -> Result<Node, u64> {
-    capacity(page.len()).ok_or(NOTHING)?;
-    Node::read(page, id, &no_heap()).map_err(|rule| rule as u64)
+/// The first rule of "Readable" that a page breaks, numbered 1 to 7 in document 01's order, or the page's content. There is nothing to say of
+/// bytes that are no page, and in an order that there is not.
+pub fn read(page: Page) -> Result<Node, u64> {
+    capacity(page.bytes.len()).ok_or(NOTHING)?;
+    let order = Order::of_number(page.order).ok_or(NOTHING)?;
+    Node::read(page.bytes, page.id, order, &no_heap()).map_err(|rule| rule as u64)
 }
 
 /// Crate probe is lent no heap: a value that names a constant names none that is valid.
@@ -17,12 +19,12 @@ fn no_heap() -> Heap {
     Heap::default()
 }
 
-pub fn first_not_below(datoms: &[Datom], sought: &Datom) -> u64 {
-    datoms.iter().take_while(|datom| no_heap().compare(datom, sought) == Ordering::Less).count() as u64
+pub fn first_not_below(order: Order, datoms: &[Datom], sought: &Datom) -> u64 {
+    datoms.iter().take_while(|datom| no_heap().compare(order, datom, sought) == Ordering::Less).count() as u64
 }
 
-pub fn order(a: &Datom, b: &Datom) -> u64 {
-    match no_heap().compare(a, b) {
+pub fn order(order: Order, a: &Datom, b: &Datom) -> u64 {
+    match no_heap().compare(order, a, b) {
         Ordering::Less => 0,
         Ordering::Equal => 1,
         Ordering::Greater => 2,

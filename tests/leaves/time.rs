@@ -5,7 +5,8 @@ mod probe;
 use std::hint::black_box;
 use std::time::Instant;
 
-use harness::{byte_string, Datom, Node, NONE};
+use harness::{byte_string, Datom, Node, Order, NONE};
+use probe::Page;
 
 const PAGE_SIZE: usize = 4096;
 const FULL: u64 = 102;
@@ -35,26 +36,28 @@ fn main() {
         ("only strings differ", |i| [1, 1, string(i), 3]),
         ("only last words differ", |i| [1, 1, 7, 2 * i + 1]),
     ];
-    for (name, datom) in inputs {
+    // Each of these rises in every order.
+    for (order, (name, datom)) in Order::ALL.into_iter().flat_map(|order| inputs.map(|input| (order, input))) {
         let node = Node { level: 0, datoms: (0..FULL).map(datom).collect(), children: vec![NONE; FULL as usize + 1] };
         let mut page = vec![0; PAGE_SIZE];
         node.encode_over(&mut page);
-        assert_eq!(probe::rule(&page, 1), 0, "the page is readable");
+        let page = Page::of(&page, 1, order);
+        assert_eq!(page.rule(), 0, "the page is readable");
         let sought: Vec<Vec<u8>> = (0..FULL).map(|i| probe::bytes_of(&datom(i))).collect();
         let read = nanoseconds(|| {
-            black_box(probe::rule(black_box(&page), 1));
+            black_box(black_box(page).rule());
         });
         let mut i = 0;
         let first = nanoseconds(|| {
             // Every datom of the page in turn, so that the ways through the halving differ.
             i = (i + 37) % sought.len();
-            black_box(probe::first(black_box(&page), 1, black_box(&sought[i])));
+            black_box(black_box(page).first(black_box(&sought[i])));
         });
         let mut free = vec![0; PAGE_SIZE];
         let write = nanoseconds(|| {
-            black_box(probe::write(black_box(&page), 1, black_box(&mut free)));
+            black_box(black_box(page).write(black_box(&mut free)));
         });
-        println!("{}: read {:.0} ns, find {:.0} ns, write {:.0} ns", name, read, first - read, write - read);
+        println!("{}, {}: read {:.0} ns, find {:.0} ns, write {:.0} ns", name, order.name(), read, first - read, write - read);
     }
     let (from, mut to) = (vec![1u8; PAGE_SIZE], vec![0u8; PAGE_SIZE]);
     let copy = nanoseconds(|| {

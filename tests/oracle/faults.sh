@@ -20,7 +20,7 @@ file_of() {
     case $1 in
         node) echo "$out/harness/node.rs" ;;
         model | names) echo "$out/tests/differential/$1.rs" ;;
-        judge) echo "$out/tests/oracle/driver/judge.rs" ;;
+        judge | replay) echo "$out/tests/oracle/driver/$1.rs" ;;
         *) rust_file "$1" ;;
     esac
 }

@@ -1,5 +1,5 @@
-// Document 01's examples c, e, f, g and h with an array of records, as a C++ program has them, and datoms with long values: each call also
-// with the bytes of the same datoms, on a store of its own. Says nothing if all is as it should be.
+// Document 01's examples c, e, f, g and h with an array of records, as a C++ program has them, datoms with long values, and a store of each
+// order: each call also with the bytes of the same datoms, on a store of its own. Says nothing if all is as it should be.
 #include "florinwick.h"
 
 #include <array>
@@ -51,6 +51,7 @@ struct Stores {
     std::vector<std::uint8_t> heap = std::vector<std::uint8_t>(64);
     std::uint64_t heap_length = 0;
     std::uint64_t count = 0;
+    std::uint64_t order = FLORINWICK_EAVT;
     std::uint64_t root = FLORINWICK_NONE;
 
     // The value word that names a string of more than seven bytes.
@@ -65,10 +66,10 @@ struct Stores {
         return word;
     }
 
-    // The store's record: page size, page count, heap length.
+    // The store's record: page size, page count, heap length, order.
     std::vector<std::uint8_t> record() const {
         std::vector<std::uint8_t> bytes;
-        for (std::uint64_t word : {page_size, count, heap_length}) put(bytes, word);
+        for (std::uint64_t word : {page_size, count, heap_length, order}) put(bytes, word);
         return bytes;
     }
 
@@ -90,7 +91,25 @@ struct Stores {
     }
 };
 
+// Three datoms, each pair of which the orders tell apart in another way: in the one order that is given they rise.
+void in_order(const char *name, std::uint64_t order, const std::vector<florinwick_datom> &rising) {
+    for (const std::uint64_t said : {FLORINWICK_EAVT, FLORINWICK_AEVT, FLORINWICK_AVET}) {
+        Stores stores;
+        stores.order = said;
+        std::array<std::uint8_t, 32> told{};
+        const std::vector<std::uint8_t> record = stores.record();
+        const std::uint64_t number =
+            florinwick_insert_records(stores.by_records.data(), stores.by_records.size(), stores.heap.data(), stores.heap.size(), record.data(),
+                                      record.size(), FLORINWICK_NONE, rising.data(), rising.size(), stores.scratch.data(),
+                                      stores.scratch.size(), told.data(), told.size());
+        expect(name, (number == FLORINWICK_DONE) == (said == order));
+        expect(name, said == order || number == FLORINWICK_OUT_OF_ORDER);
+    }
+}
+
 }  // namespace
+
+static_assert(sizeof(florinwick_record) == FLORINWICK_RECORD_BYTES, "a record of the store is four words");
 
 int main() {
     Stores stores;
@@ -109,5 +128,10 @@ int main() {
     stores.insert("a long value", {{20, 1, one, 3}}, {0, 8, 1, 0});
     stores.insert("the same at another offset", {{20, 1, other, 3}}, {FLORINWICK_REPEATED, 8, 0, 0});
     stores.insert("no constant", {{20, 1, 5, 3}, {21, 1, one + 8, 3}}, {FLORINWICK_BAD_CONSTANT, 8, 0, 1});
+    in_order("eavt", FLORINWICK_EAVT, {{1, 3, 1, 3}, {2, 2, 2, 3}, {3, 1, 3, 3}});
+    in_order("aevt", FLORINWICK_AEVT, {{3, 1, 3, 3}, {1, 2, 2, 3}, {2, 2, 1, 3}});
+    in_order("avet", FLORINWICK_AVET, {{3, 1, 3, 3}, {2, 2, 1, 3}, {1, 2, 2, 3}});
+    stores.order = 3;
+    stores.insert("no such order", run(1000, 129), {FLORINWICK_BAD_ORDER, 8, 0, 0});
     return failures == 0 ? 0 : 1;
 }

@@ -38,7 +38,7 @@ fn main() {
         }
     }
     println!("calls by the number that they gave: {:?}", tally.numbers);
-    for number in [0, 1, 2, 3, 4, 5, 6, 7, 9, 11] {
+    for number in [0, 1, 2, 3, 4, 5, 6, 7, 9, 11, 13] {
         if tally.numbers[number] == 0 {
             tally.fail(format!("no call gave {}", number));
         }
@@ -52,7 +52,7 @@ struct Tally {
     passed: usize,
     failed: usize,
     /// How many calls gave each number of document 01's table.
-    numbers: [usize; 12],
+    numbers: [usize; 14],
 }
 
 impl Tally {
@@ -78,6 +78,8 @@ impl Tally {
 struct History {
     page_size: u64,
     count: u64,
+    /// What the store's record says, known or not.
+    order: u64,
     /// As much as the history needs, of which so many bytes are in use.
     heap: Vec<u8>,
     heap_length: u64,
@@ -90,13 +92,13 @@ impl History {
     fn new(page_size: u64, room: u64, heap_room: u64, random: &mut Random) -> History {
         let (store, heap) = (vec![0; (page_size * room) as usize], vec![0; heap_room as usize]);
         let scratch = Lent::of_length(scratch_need(page_size as usize), random);
-        History { page_size, count: 0, heap, heap_length: 0, by_bytes: store.clone(), by_records: store, scratch }
+        History { page_size, count: 0, order: 0, heap, heap_length: 0, by_bytes: store.clone(), by_records: store, scratch }
     }
 
     /// What is lent of a heap, and the store's record.
     fn beside<'a>(&self, heap: &'a [u8]) -> Beside<'a> {
         let (page_size, page_count, heap_length) = (self.page_size, self.count, self.heap_length);
-        Beside { heap, page_size, page_count, heap_length, record: RECORD_BYTES }
+        Beside { heap, page_size, page_count, heap_length, order: self.order, record: RECORD_BYTES }
     }
 
     fn given<'a>(&self, root: u64, batch: &[Datom], heap: &'a [u8]) -> Given<'a> {
@@ -130,6 +132,8 @@ impl History {
                 self.heap[at..at + bytes.len()].copy_from_slice(bytes);
                 self.heap_length = self.heap_length.max((at + bytes.len()) as u64);
             }
+            // What else it says is of no matter: a batch goes in only where it is true.
+            Record::Stored(stored) => self.order = stored.order,
             Record::Begin { .. } | Record::List { .. } | Record::Check { .. } | Record::Named { .. } | Record::End { .. } => {}
         }
     }
@@ -182,8 +186,18 @@ impl History {
             with(&|given| given.beside.page_count = u64::MAX),
             with(&|given| given.beside.heap_length += 4),
             with(&|given| given.beside.heap_length = heap.len() as u64 + 8),
-            with(&|given| given.beside.record = 16),
-            with(&|given| given.beside.record = 25),
+            with(&|given| given.beside.record = 24),
+            with(&|given| given.beside.record = 33),
+            with(&|given| given.beside.order = 3),
+            with(&|given| given.beside.order = u64::MAX),
+            // 1 goes before 13, and 13 before 2 and 5.
+            with(&|given| (given.beside.order, given.beside.page_size) = (3, 512)),
+            with(&|given| (given.beside.order, given.scratch) = (3, 0)),
+            with(&|given| (given.beside.order, given.batch) = (3, ascending(129))),
+            with(&|given| (given.beside.order, given.root) = (3, given.beside.page_count)),
+            // What is read in another order is answered alike.
+            with(&|given| given.beside.order = (given.beside.order + 1) % 3),
+            with(&|given| given.beside.order = (given.beside.order + 2) % 3),
             with(&|given| given.scratch -= 1),
             with(&|given| given.scratch = 4095),
             with(&|given| given.scratch = 0),

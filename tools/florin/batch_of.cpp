@@ -31,7 +31,7 @@ std::vector<Datom> written_by(const StoreFile &store, const Receipt &receipt, st
         for (unsigned i = 0; i < page->count(); ++i) datoms.push_back(page->datom(i));
     }
     const florinwick::HeapView heap = store.heap();
-    std::sort(datoms.begin(), datoms.end(), florinwick::ByContent{heap});
+    std::sort(datoms.begin(), datoms.end(), store.by_content());
     const auto equal = [&](const Datom &a, const Datom &b) { return heap.compare(a, b) == 0; };
     datoms.erase(std::unique(datoms.begin(), datoms.end(), equal), datoms.end());
     return datoms;

@@ -16,7 +16,7 @@
 
 namespace florin {
 
-// Ascending, with the receipt's place in florin roots as its number. Throws Trouble where the pages are not as they were written, or the
+// Ascending in the store's order, with the receipt's place in florin roots as its number. Throws Trouble where the pages are not as they were written, or the
 // datoms are not those that the receipt speaks of.
 Batch batch_of(const StoreFile &store, const Receipt &receipt, std::uint64_t number);
 

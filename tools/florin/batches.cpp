@@ -3,7 +3,9 @@
 #include "checksum.h"
 #include "datom_text.h"
 
+#include <algorithm>
 #include <cerrno>
+#include <numeric>
 
 namespace florin {
 
@@ -35,6 +37,19 @@ void Batch::set_value(std::uint64_t at, florinwick::Value value) {
     Datom changed = datom(at);
     changed.value = value;
     changed.write(bytes.data() + at * Datom::size);
+}
+
+void Batch::sort(const florinwick::ByContent &less) {
+    std::vector<std::uint64_t> order(datoms());
+    std::iota(order.begin(), order.end(), std::uint64_t{0});
+    std::stable_sort(order.begin(), order.end(), [&](std::uint64_t a, std::uint64_t b) { return less(datom(a), datom(b)); });
+    Batch sorted;
+    sorted.number = number;
+    for (std::uint64_t at : order) {
+        sorted.add(typed(at));
+        if (at < lines.size()) sorted.lines.push_back(lines[at]);
+    }
+    *this = std::move(sorted);
 }
 
 std::string Batch::place_of(std::uint64_t at, const HeapView &heap) const {
@@ -94,9 +109,10 @@ bool Batches::next(Batch &batch) {
     return found;
 }
 
-Trouble Batches::refused(const florinwick::Answer &answer, const Batch &batch, const HeapView &heap) const {
+Trouble Batches::refused(const florinwick::Answer &answer, const Batch &batch, const florinwick::Reader &reader) const {
     const bool of_datom = answer.carries() == florinwick::Carries::Index;
-    Trouble trouble = refusal(answer, of_datom ? batch.place_of(answer.detail, heap) : "batch " + std::to_string(batch.number));
+    const HeapView heap = reader.heap();
+    Trouble trouble = refusal(answer, of_datom ? batch.place_of(answer.detail, heap) : "batch " + std::to_string(batch.number), reader.order());
     trouble.more.put_all(batch.place_json(of_datom ? answer.detail : batch.datoms(), heap));
     return trouble;
 }

@@ -33,10 +33,12 @@ struct Batch {
     void add(const TypedDatom &typed);
     TypedDatom typed(std::uint64_t at) const;
     void set_value(std::uint64_t at, florinwick::Value value);
+    // Each datom with its line and its long value. Their words have to name constants already.
+    void sort(const florinwick::ByContent &less);
     // How a refusal names one of its datoms: batch, line and the datom itself. The heap is that of the store that the batch is for.
     std::string place_of(std::uint64_t at, const florinwick::HeapView &heap) const;
     Json place_json(std::uint64_t at, const florinwick::HeapView &heap) const;
-    // Of its datoms as they stand here, which for the checksum of a receipt is ascending.
+    // Of its datoms as they stand here, which for the checksum of a receipt is ascending in the store's order.
     std::uint64_t sum(const florinwick::HeapView &heap) const;
 };
 
@@ -58,8 +60,8 @@ public:
 
     // The next batch, of one datom at least. False at the end. Throws Trouble at a line that is no datom, and at an end within a batch.
     bool next(Batch &batch);
-    // For what rests on a batch being as it was read: a refusal of it, with its place.
-    Trouble refused(const florinwick::Answer &answer, const Batch &batch, const florinwick::HeapView &heap) const;
+    // For what rests on a batch being as it was read: a refusal of it, with its place. The reader is that of the store that refused it.
+    Trouble refused(const florinwick::Answer &answer, const Batch &batch, const florinwick::Reader &reader) const;
 
 private:
     // One more than the library takes, and none behind it: a batch too large is refused by the library and fills no memory.

@@ -53,6 +53,11 @@ void Words::seconds(const std::string &name, double &value, const std::string &h
     app_.add_option(name, value, help)->type_name("SECONDS")->check(within(0.0, 1e9));
 }
 
+void Words::one_of(const std::string &name, std::string &value, const std::string &type, const std::vector<std::string> &choices,
+                   const std::string &help) {
+    app_.add_option(name, value, help)->type_name(type)->check(CLI::IsMember(choices).description(""));
+}
+
 void Words::footer(const std::string &text) { app_.footer(text); }
 
 namespace {

@@ -36,6 +36,8 @@ public:
     void number(const std::string &name, std::uint64_t &value, const std::string &type, const std::string &help, std::uint64_t least = 0,
                 std::uint64_t most = UINT64_MAX);
     void seconds(const std::string &name, double &value, const std::string &help);
+    void one_of(const std::string &name, std::string &value, const std::string &type, const std::vector<std::string> &choices,
+                const std::string &help);
     // Behind the options.
     void footer(const std::string &text);
 

@@ -4,6 +4,7 @@
 #include "draw.h"
 
 #include "datom_text.h"
+#include "order_text.h"
 #include "tree_layout.h"
 
 #include <algorithm>
@@ -237,7 +238,7 @@ private:
         canvas_.text(datom.is_assert() ? "mono end plus" : "mono end minus", end, base, datom.is_assert() ? "+" : kMinus);
     }
 
-    // One line: the page, a cell for each datom, the entities from the first to the last.
+    // One line: the page, a cell for each datom, and by what the store's order begins with, from the first to the last.
     void strip_card(const Card &card) {
         const bool fresh = is_new(card);
         const PageView &page = card.page;
@@ -249,7 +250,8 @@ private:
             canvas_.rect(kind, card.x + layout_.cells_at() + cell * i, card.y + 5, cell > 3 ? cell - 1 : cell, 10);
         }
         if (page.count() == 0) return;
-        const std::uint64_t first = page.datom(0).entity, last = page.datom(page.count() - 1).entity;
+        const auto word = [&](unsigned at) { return first_word(page.datom(at), subject_.reader.order()); };
+        const std::uint64_t first = word(0), last = word(page.count() - 1);
         canvas_.text("mono soft", card.x + layout_.range_at(), base, std::to_string(first) + kDash + std::to_string(last));
     }
 

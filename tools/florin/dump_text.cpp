@@ -1,7 +1,9 @@
 #include "dump_text.h"
 
 #include "datom_text.h"
+#include "order_text.h"
 
+#include <algorithm>
 #include <cerrno>
 
 namespace florin {
@@ -10,6 +12,7 @@ namespace {
 
 const char kPlain[] = "1";
 const char kWithLongValues[] = "2";
+const char kWithOrder[] = "3";
 const char kNoSum[] = "-";
 const char kWelcome[] = "# A store of florin as text. florin load makes the same store of it; florin insert takes its batches.\n";
 const char kNoStore[] = " No store was made.";
@@ -21,9 +24,11 @@ std::string LinesSum::text() const { return sum_text(XXH64_digest(&state_)); }
 // --- writing
 
 std::string DumpText::head(const Head &head) {
-    const char *form = head.heap_length > 0 ? kWithLongValues : kPlain;
-    const std::string text = std::string(kWelcome) + "#@ dump " + form + " page-size " + std::to_string(head.page_size) + " batches " +
-                             std::to_string(head.receipts) + "\n";
+    const bool has_order = head.order != florinwick::Order::Eavt;
+    const char *form = has_order ? kWithOrder : head.heap_length > 0 ? kWithLongValues : kPlain;
+    std::string text = std::string(kWelcome) + "#@ dump " + form + " page-size " + std::to_string(head.page_size) + " batches " +
+                       std::to_string(head.receipts) + "\n";
+    if (has_order) text += "#@ order " + order_name(head.order) + "\n";
     sum_.add(text);
     return text;
 }
@@ -51,12 +56,13 @@ std::string DumpText::end() const { return "#@ end " + sum_.text() + "\n"; }
 DumpReader::DumpReader(const std::string &path) : path_(path), file_(path == "-" ? stdin : std::fopen(path.c_str(), "rb")) {
     if (file_ == nullptr) throw system_trouble(errno, "read", path);
     const std::vector<std::string> words = read_note({"dump", "page-size", "batches"});
-    if (words[0] != kPlain && words[0] != kWithLongValues) {
+    if (words[0] != kPlain && words[0] != kWithLongValues && words[0] != kWithOrder) {
         throw Trouble{kOtherFormat, "OtherFormat",
                       name() + " is a dump of form " + words[0] + ", of a newer florin." + kNoStore, "use that florin."};
     }
     page_size_ = number(words[1], "page size");
     batches_ = number(words[2], "number of batches");
+    if (words[0] == kWithOrder) read_order();
 }
 
 bool DumpReader::next(DumpedBatch &dumped) {
@@ -114,6 +120,14 @@ std::vector<std::string> DumpReader::read_note(const std::vector<std::string> &n
     return behind;
 }
 
+void DumpReader::read_order() {
+    const std::vector<std::string> words = read_note({"order"}), names = order_names();
+    if (std::find(names.begin(), names.end(), words[0]) == names.end()) {
+        throw bad_line("the order " + words[0] + " is none of " + order_names_text());
+    }
+    order_ = order_named(words[0]);
+}
+
 void DumpReader::read_datoms(Batch &batch) {
     while (true) {
         if (!read_line()) throw cut_off();
@@ -169,7 +183,7 @@ Trouble DumpReader::altered(const Batch &batch, const std::string &what) const {
 
 Trouble DumpReader::refused(const florinwick::Answer &answer, const Batch &batch) const {
     const bool of_datom = answer.carries() == florinwick::Carries::Index;
-    Trouble trouble = refusal(answer, of_datom ? batch.place_of(answer.detail, {}) : "batch " + std::to_string(batch.number));
+    Trouble trouble = refusal(answer, of_datom ? batch.place_of(answer.detail, {}) : "batch " + std::to_string(batch.number), order_);
     trouble.more.put_all(batch.place_json(of_datom ? answer.detail : batch.datoms(), {}));
     trouble.what += kNoStore;
     return trouble;

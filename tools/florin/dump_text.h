@@ -14,7 +14,9 @@
 // A line #@ has names and what they are. To florin insert it is a comment, so that takes a dump too, as the batches that it has.
 //   from   the batch whose root this one was inserted at, not the root's page: in a store with another page size that is another one. Only
 //          where no batch led to it, as florin 0.1 allowed, it is the page.
-//   dump   the form: 2 where there are long values, which stand in their lines as all others; a florin before 0.5 refuses it by name
+//   dump   the form: 2 where there are long values, which stand in their lines as all others; a florin before 0.5 refuses it by name.
+//          3 where the store has another order than eavt, with or without long values: a line #@ order aevt, or avet, is next, and in
+//          each batch the datoms rise in that order. A florin before 0.6 refuses it by name
 //   sum    checksum of the datoms, as florin roots shows it; - where the store has none
 //   end    checksum of all lines before it. A dump without it was cut off.
 #ifndef FLORIN_DUMP_TEXT_H
@@ -74,6 +76,7 @@ public:
     explicit DumpReader(const std::string &path);
 
     std::uint64_t page_size() const { return page_size_; }
+    florinwick::Order order() const { return order_; }
     // The next batch, with the datoms that were dumped. False once the last line was read, and is right.
     bool next(DumpedBatch &dumped);
     // Something of a batch is not as it was dumped.
@@ -90,6 +93,7 @@ private:
     bool read_line();
     // What stands behind these names in the next line #@.
     std::vector<std::string> read_note(const std::vector<std::string> &names);
+    void read_order();
     void read_datoms(Batch &batch);
     void read_end();
     std::uint64_t number(const std::string &word, const std::string &what) const;
@@ -102,6 +106,7 @@ private:
     std::string line_;
     LinesSum sum_;
     std::uint64_t line_number_ = 0, page_size_ = 0, batches_ = 0, read_ = 0;
+    florinwick::Order order_ = florinwick::Order::Eavt;
 };
 
 }  // namespace florin

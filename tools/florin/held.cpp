@@ -16,7 +16,7 @@ std::vector<std::uint64_t> missing_of(const florinwick::Reader &reader, std::uin
         const std::uint64_t at = from + answer.detail;
         if (answer.number != Number::NotHeld) {
             const bool of_datom = answer.carries() == florinwick::Carries::Index;
-            throw refusal(answer, of_datom ? batch.place_of(at, reader.heap()) : "batch " + std::to_string(batch.number));
+            throw refusal(answer, of_datom ? batch.place_of(at, reader.heap()) : "batch " + std::to_string(batch.number), reader.order());
         }
         missing.push_back(at);
         from = at + 1;

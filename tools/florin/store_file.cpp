@@ -21,7 +21,6 @@ using florinwick::Answer;
 using florinwick::ByteArea;
 using florinwick::ByteView;
 using florinwick::Datom;
-using florinwick::HeapView;
 using florinwick::Number;
 using florinwick::Put;
 
@@ -64,16 +63,13 @@ Slots read_slots(int file, const std::string &path) {
 }
 
 // Ascending, as the checksum of a batch takes its datoms.
-Batch sorted(const Batch &batch, const HeapView &heap) {
-    std::vector<Datom> datoms;
-    for (std::uint64_t at = 0; at < batch.datoms(); ++at) datoms.push_back(batch.datom(at));
-    std::sort(datoms.begin(), datoms.end(), florinwick::ByContent{heap});
-    Batch by_content;
-    for (const Datom &datom : datoms) by_content.add(datom);
-    return by_content;
+Batch sorted(Batch batch, const florinwick::ByContent &less) {
+    batch.sort(less);
+    return batch;
 }
 
-// The datoms of a batch that have long values, in the tree's order. So the same batch, however it is sorted, leaves the same heap.
+// The datoms of a batch that have long values, by entity, attribute, value and transaction, whatever order the store has. So the same batch,
+// however it is sorted, leaves the same heap.
 std::vector<std::uint64_t> in_order_of_values(const Batch &batch) {
     std::vector<std::uint64_t> datoms;
     for (const auto &each : batch.long_values) datoms.push_back(each.first);
@@ -89,17 +85,18 @@ std::vector<std::uint64_t> in_order_of_values(const Batch &batch) {
 
 // --- a new store
 
-Answer StoreFile::create(const std::string &path, std::uint64_t page_size, std::uint64_t room_pages, Batch &first) {
-    return build(path, page_size, room_pages, [&](StoreFile &store) { return first.bytes.empty() ? Answer{} : store.initialise(first); });
+Answer StoreFile::create(const std::string &path, const Beginning &beginning, Batch &first) {
+    return build(path, beginning, [&](StoreFile &store) { return first.bytes.empty() ? Answer{} : store.initialise(first); });
 }
 
-Answer StoreFile::build(const std::string &path, std::uint64_t page_size, std::uint64_t room_pages,
-                        const std::function<Answer(StoreFile &)> &fill) {
+Answer StoreFile::build(const std::string &path, const Beginning &beginning, const std::function<Answer(StoreFile &)> &fill) {
+    const std::uint64_t page_size = beginning.page_size, room_pages = beginning.room_pages;
     if (florinwick_scratch_need(page_size) == 0) return florinwick::Store({}, page_size, {}).initialise({});
     if (room_pages > (kLargestFile / 4) / page_size) throw system_trouble(EFBIG, "create", path);
     NewFile file(path);
     StoreFile store(path, file.file());
     store.head_.page_size = page_size;
+    store.head_.order = beginning.order;
     store.add_extents({rounded_up(room_pages * page_size), rounded_up(room_pages * kSumBytes), kBlock, 0});
     if (const int error = reserve(file.file(), store.head_.end())) throw system_trouble(error, "reserve room for", path);
     store.map(true);
@@ -282,6 +279,7 @@ bool StoreFile::has_place_for_receipt() const { return receipts_.size() / kRecei
 Answer StoreFile::insert(std::uint64_t root, Batch &batch, const Terms &terms) {
     const Answer put = put_values(batch, terms.may_grow);
     if (!put.done()) return {put.number, root};
+    if (terms.sort) batch.sort(by_content());
     const auto call = [&](florinwick::Store &tree) { return tree.insert_at(root, batch.bytes); };
     return write_tree(call, root, batch, terms);
 }
@@ -318,7 +316,7 @@ void StoreFile::commit(const Answer &answer, std::uint64_t from, const Batch &ba
     receipt.datoms = batch.datoms();
     receipt.time = terms.time ? *terms.time : static_cast<std::uint64_t>(std::time(nullptr));
     receipt.flags = terms.flags;
-    receipt.datoms_sum = sorted(batch, heap()).sum(heap());
+    receipt.datoms_sum = sorted(batch, by_content()).sum(heap());
     receipt.pages_sum = put_sums(head_.page_count, answer.pages);
     receipt.heap_length = next.heap_length;
     receipt.heap_sum = sum_of_constants();

@@ -46,14 +46,22 @@ struct Terms {
     bool may_grow = true;
     std::uint64_t flags = 0;                 // of the receipt
     std::optional<std::uint64_t> time = {};  // of the receipt; now, if not said
+    bool sort = false;                       // the batch may be in any order, and is sorted first
+};
+
+// What a new store begins with. Page size and order stay.
+struct Beginning {
+    std::uint64_t page_size;
+    florinwick::Order order = florinwick::Order::Eavt;
+    std::uint64_t room_pages = 64;
 };
 
 class StoreFile {
 public:
     // A new store; no file stands at `path` before all of it is on the disk. `first` is a batch in any order, or has no datoms.
-    static florinwick::Answer create(const std::string &path, std::uint64_t page_size, std::uint64_t room_pages, Batch &first);
+    static florinwick::Answer create(const std::string &path, const Beginning &beginning, Batch &first);
     // A new store that `fill` inserts into. It is synced once, when it gets its name; none is left where `fill` throws or is refused.
-    static florinwick::Answer build(const std::string &path, std::uint64_t page_size, std::uint64_t room_pages,
+    static florinwick::Answer build(const std::string &path, const Beginning &beginning,
                                     const std::function<florinwick::Answer(StoreFile &)> &fill);
 
     StoreFile(const std::string &path, const Opening &opening);
@@ -75,6 +83,7 @@ public:
     // They see the constants too that were put for a batch or a bound, and are good until the next one is.
     florinwick::Reader reader() const { return {pages(), heap_lent(), record()}; }
     florinwick::HeapView heap() const { return {heap_lent(), heap_end_}; }
+    florinwick::ByContent by_content() const { return {heap(), head_.order}; }   // as the trees have their datoms
     std::vector<Receipt> receipts() const;
     Receipt newest_receipt() const { return decode_receipt(receipts_.data() + kReceiptBytes * (head_.receipts - 1)); }   // there is one
     // A page in use is what was written when its batch went in, as far as its checksum tells.
@@ -135,7 +144,7 @@ private:
     florinwick::ByteView pages() const;
     florinwick::ByteArea lent() const;
     florinwick::ByteArea heap_lent() const { return {heap_.data(), static_cast<std::size_t>(heap_.size())}; }
-    florinwick::StoreRecord record() const { return {head_.page_size, head_.page_count, heap_end_}; }
+    florinwick::StoreRecord record() const { return {head_.page_size, head_.page_count, heap_end_, head_.order}; }
 
     std::string path_;
     int file_ = -1;

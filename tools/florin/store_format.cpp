@@ -48,8 +48,8 @@ bool has_mark(const std::uint8_t *slot, const char *mark) { return std::memcmp(s
 void encode_head(const Head &head, std::uint8_t *slot) {
     std::memset(slot, 0, kSlotBytes);
     std::memcpy(slot, kMark, 8);
-    const std::uint64_t words[] = {head.sequence, head.page_size, head.page_count, head.heap_length, head.order, head.parties, head.allowances[0],
-                                   head.allowances[1], head.roots[0], head.roots[1], head.receipts, head.chain, head.extents.size()};
+    const std::uint64_t words[] = {head.sequence, head.page_size, head.page_count, head.heap_length,
+                                   static_cast<std::uint64_t>(head.order), head.parties, head.allowances[0], head.allowances[1], head.roots[0], head.roots[1], head.receipts, head.chain, head.extents.size()};
     static_assert(sizeof words / sizeof words[0] == kHeadWords, "every word has its place");
     for (int i = 0; i < kHeadWords; ++i) put_word(slot + 8 + 8 * i, words[i]);
     std::uint8_t *at = slot + kExtentsAt;
@@ -64,11 +64,12 @@ void encode_head(const Head &head, std::uint8_t *slot) {
 std::optional<Head> decode_head(const std::uint8_t *slot) {
     if (!has_mark(slot, kMark) || get_word(slot + kSumAt) != checksum(slot, kSumAt)) return std::nullopt;
     Head head;
-    std::uint64_t extents = 0;
-    std::uint64_t *const words[] = {&head.sequence,      &head.page_size,     &head.page_count, &head.heap_length, &head.order,
+    std::uint64_t order = 0, extents = 0;
+    std::uint64_t *const words[] = {&head.sequence,      &head.page_size,     &head.page_count, &head.heap_length, &order,
                                     &head.parties,       &head.allowances[0], &head.allowances[1], &head.roots[0], &head.roots[1],
                                     &head.receipts,      &head.chain,         &extents};
     for (int i = 0; i < kHeadWords; ++i) *words[i] = word_at(slot, i + 1);
+    head.order = static_cast<florinwick::Order>(order);
     extents = std::min(extents, kMostExtents + 1);
     for (std::uint64_t i = 0; i < std::min(extents, kMostExtents); ++i) {
         const std::uint8_t *at = slot + kExtentsAt + 16 * i;
@@ -81,7 +82,8 @@ std::optional<Head> decode_head(const std::uint8_t *slot) {
 }
 
 std::string news_of(const Head &head) {
-    if (head.order != 0) return "another order";
+    const std::uint64_t order = static_cast<std::uint64_t>(head.order);
+    if (!florinwick::order_of(order)) return "an unknown order, number " + std::to_string(order);
     if (head.parties != 1 || head.allowances[0] != 0 || head.allowances[1] != 0 || head.roots[1] != florinwick::none) return "two parties";
     for (const Extent &extent : head.extents) {
         if (static_cast<std::uint64_t>(extent.kind) >= kKinds) return "a part of an unknown kind";

@@ -14,7 +14,8 @@
 //
 // A head is a slot's first words: the mark, then what struct Head has in its order, then the number of extents, two words that are zero,
 // and two words for each extent: its offset, and its length plus its kind. The rest is zero up to the checksum in the slot's last word.
-// Order, parties, allowances and the second root are for stores that this florin does not make: it refuses them.
+// The order is that of the datoms in all trees of the store, by its number in florinwick.h; 0 is that of every store before florin 0.6,
+// which refuses any other by name. Parties, allowances and the second root are for stores that this florin does not make: it refuses them.
 //
 // A receipt is what struct Receipt has in its order, but for the checksum of its constants: the first eleven words, the checksum of the
 // receipt before, the checksum of the constants, two words that are zero, and the checksum of all these words.
@@ -58,7 +59,7 @@ struct Head {
     std::uint64_t page_size = 0;
     std::uint64_t page_count = 0;
     std::uint64_t heap_length = 0;                                   // in bytes, a multiple of 8
-    std::uint64_t order = 0;
+    florinwick::Order order = florinwick::Order::Eavt;
     std::uint64_t parties = 1;
     std::uint64_t allowances[2] = {0, 0};
     std::uint64_t roots[2] = {florinwick::none, florinwick::none};   // the newest one of each party
@@ -86,7 +87,7 @@ struct Receipt {
     std::uint64_t datoms = 0;
     std::uint64_t time = 0;                  // seconds since 1970
     std::uint64_t flags = 0;
-    std::uint64_t datoms_sum = 0;            // checksum of the batch, ascending, as bytes; long_values.h says how of long ones
+    std::uint64_t datoms_sum = 0;            // checksum of the batch, ascending in the store's order, as bytes; long_values.h has long ones
     std::uint64_t pages_sum = 0;             // checksum of the checksums of the pages written
     std::uint64_t party = 0;
     std::uint64_t heap_length = 0;           // afterwards

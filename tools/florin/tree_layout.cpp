@@ -129,7 +129,8 @@ double Layout::range_at() const { return cells_at() + cell() * capacity_ + 10; }
 
 double Layout::width_of(Style style) const {
     if (style == Style::Full) return widths_.card();
-    return range_at() + Measure::character * static_cast<double>(2 * widths_.entity + 3) + Measure::pad;
+    const std::size_t word = subject_.reader.order() == florinwick::Order::Eavt ? widths_.entity : widths_.attribute;
+    return range_at() + Measure::character * static_cast<double>(2 * word + 3) + Measure::pad;
 }
 
 void Layout::set_columns() {

@@ -72,7 +72,7 @@ public:
     double right() const { return right_; }
     double bottom() const { return bottom_; }
 
-    // Within a card of one line: the cells, and behind them from which entity to which.
+    // Within a card of one line: the cells, and behind them from which entity to which, or attribute where the order begins with that.
     double cell() const;
     double cells_at() const;
     double range_at() const;

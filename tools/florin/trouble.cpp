@@ -1,6 +1,7 @@
 #include "trouble.h"
 
 #include "fault_words.h"
+#include "order_text.h"
 
 #include <cerrno>
 #include <cstdio>
@@ -56,7 +57,7 @@ struct Words {
     std::string next;
 };
 
-Words words_of(Number number) {
+Words words_of(Number number, florinwick::Order order) {
     switch (number) {
         case Number::BadStore:
             return {"The page size is not " + page_sizes_text() + ", or the pages do not fit into the store.", "choose one of these page sizes."};
@@ -70,8 +71,8 @@ Words words_of(Number number) {
         case Number::HeapFull:
             return {"A long value does not fit into the file. Root and pages are as they were.", "leave out --no-grow, so that the file may grow."};
         case Number::OutOfOrder:
-            return {"The datoms of a batch rise: by entity, attribute, value, transaction. Nothing was written.",
-                    "put that datom in its place, or take it out if it stands there twice, and send the batch again."};
+            return {"The datoms of a batch rise: by " + order_text(order) + ". Nothing was written.",
+                    "put that datom in its place, or take it out if it stands there twice, and send the batch again; --sort sorts each batch."};
         case Number::NoPage:
             return {"The store has no such page.", "take a root from florin roots."};
         case Number::Repeated:
@@ -117,8 +118,10 @@ Json carried_json(const Answer &answer) {
 
 }  // namespace
 
-Trouble refusal(const Answer &answer, const std::string &place) {
-    const Words words = words_of(answer.number);
+Trouble refusal(const Answer &answer, const std::string &place) { return refusal(answer, place, florinwick::Order::Eavt); }
+
+Trouble refusal(const Answer &answer, const std::string &place, florinwick::Order order) {
+    const Words words = words_of(answer.number, order);
     const std::string where = carried(answer) + (place.empty() ? "" : ", " + place);
     const std::string begin = where.empty() ? "" : where.substr(2) + ".\n  ";
     Trouble trouble{static_cast<int>(answer.number), answer.name(), begin + words.what, words.next, carried_json(answer), answer.fault};

@@ -10,7 +10,7 @@
 
 namespace florin {
 
-// Exit statuses besides those of the library, which are its numbers: 1 to 12, and 33 for Unsound.
+// Exit statuses besides those of the library, which are its numbers: 1 to 12, and 33 for Unsound. 13 is met by no store that opens.
 enum Status {
     kDone = 0,
     kUsage = 64,         // wrong words on the command line
@@ -48,6 +48,8 @@ Trouble usage_trouble(const std::string &what);
 
 // In which words an answer that is not Done is told. `place` says which datom or page it speaks of, and may be empty.
 Trouble refusal(const florinwick::Answer &answer, const std::string &place);
+// Of a call with a batch, for a store of this order: in which its datoms rise.
+Trouble refusal(const florinwick::Answer &answer, const std::string &place, florinwick::Order order);
 
 // "none" for the page id that means it.
 std::string page_text(std::uint64_t page);

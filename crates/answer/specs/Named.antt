@@ -11,7 +11,7 @@ use Rattle.answer.specs.declared.Rule.the-variants.{Level, Count, Form, 
 use Rattle.answer.specs.declared.Fault.{Fault}
 use Rattle.answer.specs.declared.Fault.the-variants.{Breaks, Missing, WrongLevel, EqualDatoms, OutOfBounds, PastCount, TooHigh, NothingLeft}
 use Rattle.answer.specs.declared.Refusal.{Refusal}
-use Rattle.answer.specs.declared.Refusal.the-variants.{BadStore, TooMany, BadDatom, OutOfOrder, NoPage, Repeated, Damaged, TooTall, NoRoom, BadBound, BadConstant, HeapFull, NotHeld}
+use Rattle.answer.specs.declared.Refusal.the-variants.{BadStore, TooMany, BadDatom, OutOfOrder, NoPage, Repeated, Damaged, TooTall, NoRoom, BadBound, BadConstant, HeapFull, BadOrder, NotHeld}
 use Rattle.answer.specs.Names.{faultNumber, faults, faultIn}
 use Rattle.answer.specs.Table.{numberOf, refusedWords, namedWords}
 
@@ -70,6 +70,7 @@ named-at-seven NoRoom = (λ e. absurd (omega arith), λ h. absurd (omega arith))
 named-at-seven BadBound = (λ e. absurd (omega arith), λ h. absurd (omega arith))
 named-at-seven (BadConstant i) = (λ e. absurd (omega arith), λ h. absurd (omega arith))
 named-at-seven HeapFull = (λ e. absurd (omega arith), λ h. absurd (omega arith))
+named-at-seven BadOrder = (λ e. absurd (omega arith), λ h. absurd (omega arith))
 named-at-seven (NotHeld i) = (λ e. absurd (omega arith), λ h. absurd (omega arith))
 
 -- without a name they are the very words, and with one they differ in the third alone

@@ -6,7 +6,7 @@ use Rattle.answer.specs.declared.Rule.the-variants.{Level, Count, Form, 
 use Rattle.answer.specs.declared.Fault.{Fault}
 use Rattle.answer.specs.declared.Fault.the-variants.{Breaks, Missing, WrongLevel, EqualDatoms, OutOfBounds, PastCount, TooHigh, NothingLeft}
 use Rattle.answer.specs.declared.Refusal.{Refusal}
-use Rattle.answer.specs.declared.Refusal.the-variants.{BadStore, TooMany, BadDatom, OutOfOrder, NoPage, Repeated, Damaged, TooTall, NoRoom, BadBound, BadConstant, HeapFull, NotHeld}
+use Rattle.answer.specs.declared.Refusal.the-variants.{BadStore, TooMany, BadDatom, OutOfOrder, NoPage, Repeated, Damaged, TooTall, NoRoom, BadBound, BadConstant, HeapFull, BadOrder, NotHeld}
 
 -- "the first broken rule in 01's order (level, count, datom form, datom order, children at level 0, last child, child id)"
 abbrev pub ruleNumber : Rule → ℕ
@@ -50,4 +50,5 @@ faultIn NoRoom = 0
 faultIn BadBound = 0
 faultIn (BadConstant i) = 0
 faultIn HeapFull = 0
+faultIn BadOrder = 0
 faultIn (NotHeld i) = 0

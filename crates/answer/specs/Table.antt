@@ -2,7 +2,7 @@
 use Prim.Native.Nat.{ℕ}
 use Rattle.store.specs.declared.PageId.{PageId}
 use Rattle.answer.specs.declared.Refusal.{Refusal}
-use Rattle.answer.specs.declared.Refusal.the-variants.{BadStore, TooMany, BadDatom, OutOfOrder, NoPage, Repeated, Damaged, TooTall, NoRoom, BadBound, BadConstant, HeapFull, NotHeld}
+use Rattle.answer.specs.declared.Refusal.the-variants.{BadStore, TooMany, BadDatom, OutOfOrder, NoPage, Repeated, Damaged, TooTall, NoRoom, BadBound, BadConstant, HeapFull, BadOrder, NotHeld}
 use Rattle.answer.specs.declared.Answer.{Answer}
 use Rattle.answer.specs.declared.Answer.the-variants as answer
 use Rattle.answer.specs.declared.Append.{Append}
@@ -34,6 +34,8 @@ numberOf BadBound = 10
 -- document 02, Two: "11 BadConstant(i) .. 12 HeapFull"
 numberOf (BadConstant i) = 11
 numberOf HeapFull = 12
+-- document 02, Three: "13 BadOrder"
+numberOf BadOrder = 13
 -- document 02, Ten: "16 NotHeld(i)"
 numberOf (NotHeld i) = 16
 
@@ -51,6 +53,7 @@ detailOf NoRoom = 0
 detailOf BadBound = 0
 detailOf (BadConstant i) = i
 detailOf HeapFull = 0
+detailOf BadOrder = 0
 detailOf (NotHeld i) = i
 
 -- the four words; the third is also a fault's number

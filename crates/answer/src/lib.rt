@@ -77,6 +77,7 @@ pub enum Refusal {
     BadBound,
     BadConstant(usize),
     HeapFull,
+    BadOrder,
     NotHeld(usize),
 }
 
@@ -97,6 +98,7 @@ impl Refusal {
             Refusal::BadBound => 10,
             Refusal::BadConstant(_) => 11,
             Refusal::HeapFull => 12,
+            Refusal::BadOrder => 13,
             Refusal::NotHeld(_) => 16,
         }
     }
@@ -119,6 +121,7 @@ impl Refusal {
             Refusal::NoRoom => 0,
             Refusal::BadBound => 0,
             Refusal::HeapFull => 0,
+            Refusal::BadOrder => 0,
         }
     }
 
@@ -139,6 +142,7 @@ impl Refusal {
             Refusal::BadBound => 0,
             Refusal::BadConstant(_) => 0,
             Refusal::HeapFull => 0,
+            Refusal::BadOrder => 0,
             Refusal::NotHeld(_) => 0,
         }
     }

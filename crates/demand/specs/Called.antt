@@ -17,7 +17,7 @@ use Rattle.store.specs.Size.{sizes}
 use Rattle.store.specs.Page.{isNone}
 use Rattle.store.specs.Laws.{apart, Known}
 use Rattle.answer.specs.declared.Refusal.{Refusal}
-use Rattle.answer.specs.declared.Refusal.the-variants.{BadStore, TooMany, BadDatom, OutOfOrder, NoPage, Repeated, Damaged, TooTall, NoRoom, BadBound, BadConstant, HeapFull, NotHeld}
+use Rattle.answer.specs.declared.Refusal.the-variants.{BadStore, TooMany, BadDatom, OutOfOrder, NoPage, Repeated, Damaged, TooTall, NoRoom, BadBound, BadConstant, HeapFull, BadOrder, NotHeld}
 use Rattle.answer.specs.declared.Answer.{Answer}
 use Rattle.answer.specs.declared.Answer.the-variants.{Done, Refused}
 use Rattle.datom.specs.declared.Value.{Value}
@@ -68,9 +68,9 @@ reply-is m q l (initialises b scratch) a = rw l
 pub writes : (m : Moment) (c : Call) → Writes (envOf (at m) (extentOf (m .recorded)) (m .store) .allow) (outcomeOf m c)
 unfolding insertBytesCall initialiseBytesCall
 writes m (inserts k b scratch) =
-    call-writes _ (m .recorded) (m .heap) _ (insert-bytes-writes (at m) (extentOf (m .recorded)) (m .store) scratch (k .root) b)
+    call-writes _ (m .recorded) (m .store) (m .heap) scratch _ (insert-bytes-writes (at m) (extentOf (m .recorded)) (m .store) scratch (k .root) b)
 writes m (initialises b scratch) =
-    call-writes _ (m .recorded) (m .heap) _ (initialise-bytes-writes (at m) (extentOf (m .recorded)) (m .store) scratch b)
+    call-writes _ (m .recorded) (m .store) (m .heap) scratch _ (initialise-bytes-writes (at m) (extentOf (m .recorded)) (m .store) scratch b)
 
 -- the number of the fault that an answer names, 0 where it names none
 abbrev pub faultOf : Answer → ℕ
@@ -110,18 +110,18 @@ left-by m q l (inserts root b scratch) r s a a₁ h (named P) =
 
 -- the same count, bytes and roots: the same moment
 moment-same :
-    {size used c c₁ : ℕ} {h s s₁ : List ℕ} {ks ks₁ : List Root} → c ≡ c₁ → s ≡ s₁ → ks ≡ ks₁ →
+    {size used order c c₁ : ℕ} {h s s₁ : List ℕ} {ks ks₁ : List Root} → c ≡ c₁ → s ≡ s₁ → ks ≡ ks₁ →
     _≡_ {A = Moment}
-    (record { recorded = record { size = size; count = c; heap = used }; store = s; heap = h; roots = ks })
-    (record { recorded = record { size = size; count = c₁; heap = used }; store = s₁; heap = h; roots = ks₁ })
+    (record { recorded = record { size = size; count = c; heap = used; order = order }; store = s; heap = h; roots = ks })
+    (record { recorded = record { size = size; count = c₁; heap = used; order = order }; store = s₁; heap = h; roots = ks₁ })
 moment-same e f g = rw (e, f, g)
 
 -- the same heap
 heap-same :
-    {size count n n₁ : ℕ} {s h h₁ : List ℕ} {ks : List Root} → n ≡ n₁ → h ≡ h₁ →
+    {size count order n n₁ : ℕ} {s h h₁ : List ℕ} {ks : List Root} → n ≡ n₁ → h ≡ h₁ →
     _≡_ {A = Moment}
-    (record { recorded = record { size = size; count = count; heap = n }; store = s; heap = h; roots = ks })
-    (record { recorded = record { size = size; count = count; heap = n₁ }; store = s; heap = h₁; roots = ks })
+    (record { recorded = record { size = size; count = count; heap = n; order = order }; store = s; heap = h; roots = ks })
+    (record { recorded = record { size = size; count = count; heap = n₁; order = order }; store = s; heap = h₁; roots = ks })
 heap-same e f = rw (e, f)
 
 refused-number : (r : Refusal) → numberOf r ≡ 0 → ⊥
@@ -137,6 +137,7 @@ refused-number NoRoom e = omega arith
 refused-number BadBound e = omega arith
 refused-number (BadConstant i) e = omega arith
 refused-number HeapFull e = omega arith
+refused-number BadOrder e = omega arith
 refused-number (NotHeld i) e = omega arith
 
 -- where an append leaves things, by the number that was returned and the words in the area

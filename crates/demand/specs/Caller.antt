@@ -50,7 +50,12 @@ pub data Wrote (m : Moment) (q : List ℕ) (r : ℕ) (s a a₁ : List ℕ) : Cal
 abbrev pub goesOn : Moment → Call → ℕ → List ℕ → List ℕ → Moment
 goesOn m c r s a =
     record {
-      recorded = record { size = m .recorded .size; count = m .recorded .count + cond (eqb r 0) (wordAt a 16) 0; heap = m .recorded .heap };
+      recorded = record {
+        size = m .recorded .size;
+        count = m .recorded .count + cond (eqb r 0) (wordAt a 16) 0;
+        heap = m .recorded .heap;
+        order = m .recorded .order;
+      };
       store = s;
       heap = m .heap;
       roots = cond (eqb r 0) (record { root = page (wordAt a 8); batches = givenBatch c ∷ givenRoot c .batches } ∷ m .roots) (m .roots);
@@ -60,7 +65,12 @@ goesOn m c r s a =
 abbrev pub growsOn : Moment → ℕ → List ℕ → List ℕ → Moment
 growsOn m r h a =
     record {
-      recorded = record { size = m .recorded .size; count = m .recorded .count; heap = m .recorded .heap + cond (eqb r 0) (wordAt a 16) 0 };
+      recorded = record {
+        size = m .recorded .size;
+        count = m .recorded .count;
+        heap = m .recorded .heap + cond (eqb r 0) (wordAt a 16) 0;
+        order = m .recorded .order;
+      };
       store = m .store;
       heap = h;
       roots = m .roots;

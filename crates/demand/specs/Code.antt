@@ -28,8 +28,8 @@ use Rattle.answer.specs.declared.Start.the-variants.{Begun}
 use Rattle.answer.specs.declared.Stepped.{Stepped}
 use Rattle.rules.specs.Store.{orElse, badScratch, envOf}
 use Rattle.rules.specs.Insert.{Outcome, refuse, batchOf}
-use Rattle.rules.specs.Append.{badHeap}
-use Rattle.rules.specs.Calls.{ordOf, heapFault, recordGrown, insertCall, initialiseCall, insertBytesCall, initialiseBytesCall, startCall, heldCall, checkCall}
+use Rattle.rules.specs.Lookup.{Finding, clear, found}
+use Rattle.rules.specs.Calls.{ordOf, recordFault, badRoom, recordGrown, insertCall, initialiseCall, insertBytesCall, initialiseBytesCall, startCall, heldCall, checkCall}
 use Rattle.rules.specs.Listing.{whole}
 use Rattle.rules.specs.Lists.{In}
 use Rattle.rules.specs.Within.{Late, Writes, insert-writes, initialise-writes, insert-bytes-writes, initialise-bytes-writes, early-unchanged}
@@ -138,14 +138,15 @@ module _ (q : StoreRecord) (s s₁ h : List ℕ) (a : Answer) (scratch : ℕ) (d
       Replies (extentOf q) s s₁ a (initialiseBytesCall q s h scratch (datomsBytes ds))
   by-records-fresh R = rw (initialise-records ds w q s h scratch) R
 
--- what a call writes is what it writes by the order of its heap: a heap that is not in order is refused before
-pub call-writes : (n : ℕ) (q : StoreRecord) (h : List ℕ) (o : Outcome) → Writes n o → Writes n (orElse refuse (heapFault q h) o)
-unfolding heapFault
-call-writes n q h o w = side (badHeap (q .heap) h) refl
+-- what a call writes is what it writes by its own rules: nothing is written where the record brings a refusal
+pub call-writes :
+    (n : ℕ) (q : StoreRecord) (s h : List ℕ) (scratch : ℕ) (o : Outcome) → Writes n o →
+    Writes n (orElse refuse (recordFault q h (badRoom q s scratch)) o)
+call-writes n q s h scratch o w = side (recordFault q h (badRoom q s scratch))
   where
-    side : (b : Bool) → badHeap (q .heap) h ≡ b → Writes n (orElse refuse (heapFault q h) o)
-    side true e = rw e (record { fits = omega arith; counted = λ root k f. absurd (apart (cc)); early = λ r f l. refl })
-    side false e = rw e w
+    side : (f : Finding) → Writes n (orElse refuse f o)
+    side (found r) = record { fits = omega arith; counted = λ root k f. absurd (apart (cc)); early = λ r f l. refl }
+    side clear = w
 
 -- "1 to 6 and 10 change no byte of the store.", and neither does 11: of `entry::insert` and `entry::initialise`, `records::insert` and
 -- `records::initialise`
@@ -155,16 +156,16 @@ module _ (q : StoreRecord) (s s₁ h : List ℕ) (r : Refusal) (early : Late r �
 
   pub insert-unchanged : (root : PageId) (b : List ℕ) → Replies (extentOf q) s s₁ (Refused r) (insertBytesCall q s h scratch root b) → s₁ ≡ s
   unfolding insertBytesCall
-  insert-unchanged root b = unchanged _ (call-writes _ q h _ (insert-bytes-writes (ordOf q h) (extentOf q) s scratch root b))
+  insert-unchanged root b = unchanged _ (call-writes _ q s h scratch _ (insert-bytes-writes (ordOf q h) (extentOf q) s scratch root b))
 
   pub initialise-unchanged : (b : List ℕ) → Replies (extentOf q) s s₁ (Refused r) (initialiseBytesCall q s h scratch b) → s₁ ≡ s
   unfolding initialiseBytesCall
-  initialise-unchanged b = unchanged _ (call-writes _ q h _ (initialise-bytes-writes (ordOf q h) (extentOf q) s scratch b))
+  initialise-unchanged b = unchanged _ (call-writes _ q s h scratch _ (initialise-bytes-writes (ordOf q h) (extentOf q) s scratch b))
 
   pub insert-records-unchanged : (root : PageId) (ds : List Datom) → Replies (extentOf q) s s₁ (Refused r) (insertCall q s h scratch root ds) → s₁ ≡ s
   unfolding insertCall
-  insert-records-unchanged root ds = unchanged _ (call-writes _ q h _ (insert-writes (ordOf q h) (extentOf q) s scratch root ds))
+  insert-records-unchanged root ds = unchanged _ (call-writes _ q s h scratch _ (insert-writes (ordOf q h) (extentOf q) s scratch root ds))
 
   pub initialise-records-unchanged : (ds : List Datom) → Replies (extentOf q) s s₁ (Refused r) (initialiseCall q s h scratch ds) → s₁ ≡ s
   unfolding initialiseCall
-  initialise-records-unchanged ds = unchanged _ (call-writes _ q h _ (initialise-writes (ordOf q h) (extentOf q) s scratch ds))
+  initialise-records-unchanged ds = unchanged _ (call-writes _ q s h scratch _ (initialise-writes (ordOf q h) (extentOf q) s scratch ds))

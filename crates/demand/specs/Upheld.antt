@@ -16,7 +16,7 @@ use Rattle.store.specs.Size.{sizes}
 use Rattle.datom.specs.declared.Datom.{Datom}
 use Rattle.datom.specs.Datom.{datomAt, datomsBytes, WordSized}
 use Rattle.answer.specs.declared.Refusal.{Refusal}
-use Rattle.answer.specs.declared.Refusal.the-variants.{BadStore, TooMany, BadDatom, OutOfOrder, NoPage, Repeated, Damaged, TooTall, NoRoom, BadBound, BadConstant, HeapFull, NotHeld}
+use Rattle.answer.specs.declared.Refusal.the-variants.{BadStore, TooMany, BadDatom, OutOfOrder, NoPage, Repeated, Damaged, TooTall, NoRoom, BadBound, BadConstant, HeapFull, BadOrder, NotHeld}
 use Rattle.answer.specs.declared.Answer.{Answer}
 use Rattle.answer.specs.declared.Answer.the-variants.{Done, Refused}
 use Rattle.answer.specs.declared.Held.{Held}
@@ -27,13 +27,14 @@ use Rattle.answer.specs.Table.{answerWords, heldWords}
 use Rattle.rules.specs.Store.{badStore, badScratch}
 use Rattle.rules.specs.Insert.{batchOf}
 use Rattle.rules.specs.Append.{badHeap}
-use Rattle.rules.specs.Calls.{insertCall, startCall, heldCall}
+use Rattle.index.specs.Order.{indexOf}
+use Rattle.rules.specs.Calls.{isUnknown, recordFault, insertCall, startCall, heldCall}
 use Rattle.rules.specs.Entry.{wordBytes, reply, insertReply}
 use Rattle.rules.specs.Lists.{In}
 use Rattle.rules.specs.Within.{early-unchanged}
 use Rattle.florinwick.specs.Record.{recordIn}
 use Rattle.florinwick.specs.Cursor.{cursorBytes}
-use Rattle.florinwick.specs.Listing.{startIn, cursorStarted, Begins, bounds-given}
+use Rattle.florinwick.specs.Listing.{startBytes, startIn, cursorStarted, Begins, bounds-given}
 use Rattle.history.specs.Statement.{Known, Moment, at, Shared, inserts, Lent, WellFormed, outcomeOf, Later, now, History, gathered, HandsOut}
 use Rattle.history.specs.More.{FirstShared, FirstNot, Asked}
 use Rattle.history.specs.Order.{same-self}
@@ -62,6 +63,7 @@ six-refused NoRoom e = absurd (omega arith)
 six-refused BadBound e = absurd (omega arith)
 six-refused (BadConstant i) e = absurd (omega arith)
 six-refused HeapFull e = absurd (omega arith)
+six-refused BadOrder e = absurd (omega arith)
 six-refused (NotHeld i) e = absurd (omega arith)
 
 six : (root : PageId) (a : Answer) → (answerWords root a .number ≡ 6) ↔ ((i : ℕ) × (a ≡ Refused (Repeated i)))
@@ -74,7 +76,8 @@ six root (Refused r) = (
 -- a start with areas in order and two bounds of 32 bytes is the rules' start
 module _
     (m : Moment) (whole : badHeap (m .recorded .heap) (m .heap) ≡ false) (inOrder : badStore (extentOf (m .recorded)) (m .store) ≡ false)
-    (root : PageId) (lower upper : List ℕ) (l : length lower ≡ 32) (u : length upper ≡ 32) (q : List ℕ) (lends : Lends m q) (r : ℕ)
+    (known : isUnknown (indexOf (m .recorded .order)) ≡ false) (root : PageId) (lower upper : List ℕ) (l : length lower ≡ 32)
+    (u : length upper ≡ 32) (q : List ℕ) (lends : Lends m q) (r : ℕ)
     (a a₁ c c₁ : List ℕ) (answers : length a ≡ 32) (room : length c ≡ 264)
     (B : Begins r a a₁ c c₁ root (startIn (recordIn q) (m .store) (m .heap) root lower upper c))
   where
@@ -82,8 +85,9 @@ module _
     ruled = startCall (m .recorded) (m .store) (m .heap) root (datomAt lower 0) (datomAt upper 0)
 
     start-is : startIn (recordIn q) (m .store) (m .heap) root lower upper c ≡ ruled
-    unfolding startIn
-    start-is = rw (lends, eq-eqb (length c) 264 room) (sym (bounds-given (m .recorded) (m .store) (m .heap) root lower upper whole inOrder l u))
+    unfolding startIn startBytes recordFault
+    start-is =
+        rw (lends, eq-eqb (length c) 264 room, whole, inOrder, known) (sym (bounds-given (m .recorded) (m .store) (m .heap) root lower upper l u))
 
     module _ (begun : ruled .answer ≡ Begun) where
       started-zero : r ≡ 0
@@ -107,8 +111,8 @@ module _
         let A = later-agrees l₁ in
         let begun = H m₁ l₁ b refl in
         let C = Q .cursors (datomAt lower 0) (datomAt upper 0) (A .bound _ lo) (A .bound _ hi) short b refl in
-        let kept = started-cursor m₁ (Q .heapInOrder) (Q .inOrder) (k .root) lower upper l u q lends r a a₁ c c₁ answers room B (begun .0) in (
-          started-zero m₁ (Q .heapInOrder) (Q .inOrder) (k .root) lower upper l u q lends r a a₁ c c₁ answers room B (begun .0),
+        let kept = started-cursor m₁ (Q .heapInOrder) (Q .inOrder) (Q .orderKnown) (k .root) lower upper l u q lends r a a₁ c c₁ answers room B (begun .0) in (
+          started-zero m₁ (Q .heapInOrder) (Q .inOrder) (Q .orderKnown) (k .root) lower upper l u q lends r a a₁ c c₁ answers room B (begun .0),
           λ when later n w T f.
               let along : (v : ℕ) → Later m₁ (when v) = λ v. runs-on size i h₁ (later v) in
               let steps = following-steps n when (b .cursor) in

@@ -1,6 +1,6 @@
 -- The refusals before anything is written, one after another, as the entries find them.
 use Prim.Native.Nat.{ℕ, _*_, _≤_, _<_}
-use mathlib.Core.Bool.{Bool, true, false}
+use mathlib.Core.Bool.{Bool, true, false, _||_}
 use mathlib.Core.List.{List, []}
 use mathlib.Core.Logic.{inl, inr}
 use mathlib.Core.Path.{_≡_, refl, sym, _∙_, ap}
@@ -51,19 +51,22 @@ pub record Passed (x : Extent) (s : List ℕ) (c : ℕ) (b : List ℕ) (n L : �
   pub batch : length b ≡ 32 * n
 
 -- the ways through 1
+module _ (x : Extent) (s : List ℕ) (L : ℕ) where
+  pub bad-pages : badStore x s ≡ true → true ≡ (badStore x s || badScratch x L)
+  bad-pages h = rw h
+
+  pub bad-scratch : badStore x s ≡ false → ltb L (scratchNeed (capacity (x .size))) ≡ (badStore x s || badScratch x L)
+  unfolding badScratch
+  bad-scratch h = rw h
+
 module _ (x : Extent) (s : List ℕ) (L : ℕ) (b : List ℕ) where
-  pub count-bad : badStore x s ≡ true → Refused BadStore ≡ countFor x s L b
+  pub count-bad : (badStore x s || badScratch x L) ≡ true → Refused BadStore ≡ countFor x s L b
   unfolding countFor storeFault
   count-bad h = rw h
 
-  module _ (good : badStore x s ≡ false) where
-    pub count-short : L < scratchNeed (capacity (x .size)) → Refused BadStore ≡ countFor x s L b
-    unfolding countFor storeFault badScratch
-    count-short h = rw (good, lt-ltb L (scratchNeed (capacity (x .size))) h)
-
-    pub count-on : scratchNeed (capacity (x .size)) ≤ L → counted b ≡ countFor x s L b
-    unfolding countFor storeFault badScratch
-    count-on h = rw (good, le-ltb L (scratchNeed (capacity (x .size))) h)
+  pub count-on : (badStore x s || badScratch x L) ≡ false → counted b ≡ countFor x s L b
+  unfolding countFor storeFault
+  count-on h = rw h
 
   -- what 1 says when it is past
   store-clear : storeFault x s L ≡ clear → (badStore x s ≡ false) × (scratchNeed (capacity (x .size)) ≤ L)

@@ -4,6 +4,7 @@ use batch::Count;
 use batch::Finding;
 use index::Index;
 use store::Extent;
+ghost use mathlib.Core.Bool.{_||_};
 ghost use mathlib.Core.Path.{_≡_};
 ghost use Prim.Native.Nat.{_*_, _≤_};
 ghost use lib.ListN.{length};
@@ -11,6 +12,7 @@ ghost use Rattle.store.specs.Size.{mostDatoms, roomFor, scratchNeed};
 ghost use Rattle.datom.specs.Datom.{datomsOf};
 ghost use Rattle.index.specs.Order.{orderIn};
 ghost use Rattle.index.specs.declared.Index.{Index};
+ghost use Rattle.rules.specs.Store.{badStore, badScratch};
 ghost use Rattle.rules.specs.Insert.{wordFault};
 ghost use Rattle.batch.specs.Finding.{findingOf};
 ghost use Rattle.entry.specs.Checks.{countFor, insertFault, initialiseFault};
@@ -32,14 +34,21 @@ pub fn need_for(c: usize) -> usize
     8 * (40 * m + 8) + 32 * m
 }
 
+// Refusal 1: pages that are not as the record says, or scratch that is too short.
+pub fn is_bad(store: &[u8], extent: Extent, scratch: usize) -> bool
+    ensures { λ r. ⌜ r ≡ (badStore extent (now (store .entry)) || badScratch extent scratch) ⌝ }
+{
+    if memory_store::is_bad(store, extent) {
+        return true;
+    }
+    scratch < need_for(store::capacity_of(extent.size))
+}
+
 // Refusals 1 and 2, or how many datoms the batch has.
 pub fn count_of(store: &[u8], extent: Extent, b: &[u8], scratch: usize) -> Count
     ensures { λ r. ⌜ r ≡ countFor extent (now (store .entry)) scratch (now (b .entry)) ⌝ }
 {
-    if memory_store::is_bad(store, extent) {
-        return Count::Refused(Refusal::BadStore);
-    }
-    if scratch < need_for(store::capacity_of(extent.size)) {
+    if is_bad(store, extent, scratch) {
         return Count::Refused(Refusal::BadStore);
     }
     batch::count_of(b)

@@ -9,6 +9,7 @@ use batch::Finding;
 use htree::root::Rooted;
 use index::Index;
 use memory_store::found::Found;
+use ordered::Ordered;
 use store::Extent;
 use store::PageId;
 use store::StoreRecord;
@@ -170,11 +171,15 @@ pub fn insert(
 ) -> Answer
     ensures { λ r. ⌜ Replies (extentOf recorded) (now (store .entry)) (now (store .exit)) r (insertBytesCall recorded (now (store .entry)) (now (heap .entry)) (length (now (s .entry))) root (now (b .entry))) ⌝ }
 {
-    if heap::is_bad(heap, recorded.heap) {
-        return Answer::Refused(Refusal::BadStore);
+    let extent = recorded.extent();
+    let bad = check::is_bad(store, extent, s.len());
+    match ordered::order_in(recorded, bad, heap) {
+        Ordered::Refused(refusal) => Answer::Refused(refusal),
+        Ordered::By(by) => {
+            let used = heap::used_of(heap, recorded.heap);
+            insert_in(store, extent, root, b, s, by, used)
+        }
     }
-    let used = heap::used_of(heap, recorded.heap);
-    insert_in(store, recorded.extent(), root, b, s, Index::Eavt, used)
 }
 
 // Makes a new tree of a batch in any order. It reads no page.
@@ -187,9 +192,13 @@ pub fn initialise(
 ) -> Answer
     ensures { λ r. ⌜ Replies (extentOf recorded) (now (store .entry)) (now (store .exit)) r (initialiseBytesCall recorded (now (store .entry)) (now (heap .entry)) (length (now (s .entry))) (now (b .entry))) ⌝ }
 {
-    if heap::is_bad(heap, recorded.heap) {
-        return Answer::Refused(Refusal::BadStore);
+    let extent = recorded.extent();
+    let bad = check::is_bad(store, extent, s.len());
+    match ordered::order_in(recorded, bad, heap) {
+        Ordered::Refused(refusal) => Answer::Refused(refusal),
+        Ordered::By(by) => {
+            let used = heap::used_of(heap, recorded.heap);
+            initialise_in(store, extent, b, s, by, used)
+        }
     }
-    let used = heap::used_of(heap, recorded.heap);
-    initialise_in(store, recorded.extent(), b, s, Index::Eavt, used)
 }

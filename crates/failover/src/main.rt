@@ -31,6 +31,7 @@ fn send(store: &mut [u8], heap: &[u8], scratch: &mut [u8], stand: Stand, batch: 
                     size: stored.size,
                     count: std::num::wrapping_add_u64(stored.count, pages),
                     heap: stored.heap,
+                    order: stored.order,
                 },
                 root,
             }
@@ -88,6 +89,7 @@ fn with_heap(stand: Stand, used: u64) -> Stand {
             size: stored.size,
             count: stored.count,
             heap: used,
+            order: stored.order,
         },
         root,
     }
@@ -136,6 +138,7 @@ fn main() {
             size: 256,
             count: 0,
             heap: 0,
+            order: 0,
         },
         root: PageId::max(),
     };

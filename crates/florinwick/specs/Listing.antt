@@ -8,7 +8,6 @@ use lib.Dec.{eqb}
 use lib.ListN.{length}
 use Rattle.store.specs.declared.PageId.{PageId}
 use Rattle.store.specs.declared.StoreRecord.{StoreRecord}
-use Rattle.store.specs.Record.{extentOf}
 use Rattle.store.specs.Words.{spread}
 use Rattle.datom.specs.declared.Datom.{Datom}
 use Rattle.datom.specs.Datom.{datomAt, datomBytes}
@@ -18,21 +17,21 @@ use Rattle.answer.specs.declared.Start.the-variants as start
 use Rattle.answer.specs.declared.Stepped.{Stepped}
 use Rattle.answer.specs.declared.Step.the-variants as step
 use Rattle.answer.specs.Table.{Words, startWords, stepWords, refusedWords}
-use Rattle.rules.specs.Store.{refuseIf, orElse, badStore}
+use Rattle.rules.specs.Store.{refuseIf, orElse}
 use Rattle.rules.specs.Entry.{wordBytes}
 use Rattle.rules.specs.Listing.{refuseStart, refuseStep}
-use Rattle.rules.specs.Append.{badHeap}
-use Rattle.rules.specs.Calls.{heapFault, startCall, stepCall}
+use Rattle.rules.specs.Calls.{recordFault, badPages, startCall, stepCall}
 use Rattle.florinwick.specs.Words.{WordsIn, words, AreaReplied, not-answered, answered, area-replied-same}
 use Rattle.florinwick.specs.Cursor.{cursorBytes, cursorIn}
 
--- a bound in bytes: a length other than 32 is no bound, so it is 10, and "checks 1, 10, 5" keeps its order
+-- a bound in bytes: a length other than 32 is no bound, so it is 10, and "checks 1, 10, 5", with 13 behind 1, keeps its order
+unfoldable pub startBounded : StoreRecord → List ℕ → List ℕ → PageId → List ℕ → List ℕ → Started
+startBounded q s h root lower upper =
+    orElse refuseStart (refuseIf (not (eqb (length lower) 32 && eqb (length upper) 32)) BadBound)
+    (startCall q s h root (datomAt lower 0) (datomAt upper 0))
+
 unfoldable pub startBytes : StoreRecord → List ℕ → List ℕ → PageId → List ℕ → List ℕ → Started
-startBytes q s h root lower upper =
-    orElse refuseStart (heapFault q h)
-    (orElse refuseStart (refuseIf (badStore (extentOf q) s) BadStore)
-    (orElse refuseStart (refuseIf (not (eqb (length lower) 32 && eqb (length upper) 32)) BadBound)
-    (startCall q s h root (datomAt lower 0) (datomAt upper 0))))
+startBytes q s h root lower upper = orElse refuseStart (recordFault q h (badPages q s)) (startBounded q s h root lower upper)
 
 -- a cursor area of a length other than 264 is 1
 unfoldable pub startIn : StoreRecord → List ℕ → List ℕ → PageId → List ℕ → List ℕ → List ℕ → Started
@@ -84,28 +83,18 @@ steps-same r₁ r₂ a a₁ a₂ c c₁ c₂ e e₁ e₂ k A B =
 
 -- the start between two bounds in bytes, in the order of its refusals
 module _ (q : StoreRecord) (s h : List ℕ) (root : PageId) (lower upper : List ℕ) where
-  pub heap-first : badHeap (q .heap) h ≡ true → refuseStart BadStore ≡ startBytes q s h root lower upper
-  unfolding startBytes heapFault
-  heap-first e = rw e
+  pub lower-short : (length lower ≡ 32 → ⊥) → refuseStart BadBound ≡ startBounded q s h root lower upper
+  unfolding startBounded
+  lower-short n = rw (ne-eqb (length lower) 32 n)
 
-  module _ (whole : badHeap (q .heap) h ≡ false) where
-    pub store-first : badStore (extentOf q) s ≡ true → refuseStart BadStore ≡ startBytes q s h root lower upper
-    unfolding startBytes heapFault
-    store-first e = rw (whole, e)
+  pub upper-short : length lower ≡ 32 → (length upper ≡ 32 → ⊥) → refuseStart BadBound ≡ startBounded q s h root lower upper
+  unfolding startBounded
+  upper-short l n = rw (eq-eqb (length lower) 32 l, ne-eqb (length upper) 32 n)
 
-    module _ (good : badStore (extentOf q) s ≡ false) where
-      pub lower-short : (length lower ≡ 32 → ⊥) → refuseStart BadBound ≡ startBytes q s h root lower upper
-      unfolding startBytes heapFault
-      lower-short n = rw (whole, good, ne-eqb (length lower) 32 n)
-
-      pub upper-short : length lower ≡ 32 → (length upper ≡ 32 → ⊥) → refuseStart BadBound ≡ startBytes q s h root lower upper
-      unfolding startBytes heapFault
-      upper-short l n = rw (whole, good, eq-eqb (length lower) 32 l, ne-eqb (length upper) 32 n)
-
-      pub bounds-given :
-          length lower ≡ 32 → length upper ≡ 32 → startCall q s h root (datomAt lower 0) (datomAt upper 0) ≡ startBytes q s h root lower upper
-      unfolding startBytes heapFault
-      bounds-given l u = rw (whole, good, eq-eqb (length lower) 32 l, eq-eqb (length upper) 32 u)
+  pub bounds-given :
+      length lower ≡ 32 → length upper ≡ 32 → startCall q s h root (datomAt lower 0) (datomAt upper 0) ≡ startBounded q s h root lower upper
+  unfolding startBounded
+  bounds-given l u = rw (eq-eqb (length lower) 32 l, eq-eqb (length upper) 32 u)
 
   pub start-unanswered :
       (a c : List ℕ) → (length a ≡ 32 → ⊥) → Begins 1 a a c c root (startIn q s h root lower upper c)

@@ -7,6 +7,7 @@ use answer::Start;
 use answer::Started;
 use answer::Step;
 use answer::Stepped;
+use ordered::Ordered;
 use store::PageId;
 use store::StoreRecord;
 ghost use mathlib.Core.Path.{_≡_};
@@ -15,9 +16,31 @@ ghost use Rattle.store.specs.Page.{page};
 ghost use Rattle.answer.specs.Table.{startWords, stepWords};
 ghost use Rattle.florinwick.specs.Record.{recordIn};
 ghost use Rattle.florinwick.specs.Words.{WordsIn};
-ghost use Rattle.florinwick.specs.Listing.{startBytes, startIn, cursorStarted, stepIn, cursorStepped, datomStepped, Begins, Steps};
+ghost use Rattle.florinwick.specs.Listing.{startBounded, startBytes, startIn, cursorStarted, stepIn, cursorStepped, datomStepped, Begins, Steps};
 
 // A bound that is not 32 bytes long is none.
+fn start_bounded(
+    store: &[u8],
+    stored: StoreRecord,
+    root: PageId,
+    lower: &[u8],
+    upper: &[u8],
+    heap: &[u8],
+) -> Started
+    ensures { λ r. ⌜ r ≡ startBounded stored (now (store .entry)) (now (heap .entry)) root (now (lower .entry)) (now (upper .entry)) ⌝ }
+{
+    if lower.len() != 32 {
+        return listing::begin::refused(Refusal::BadBound);
+    }
+    if upper.len() != 32 {
+        return listing::begin::refused(Refusal::BadBound);
+    }
+    let from = datom::datom_at(lower, 0);
+    let to = datom::datom_at(upper, 0);
+    listing::begin::start(store, stored, root, from, to, heap)
+}
+
+// The record's own refusals come before those of the bounds.
 fn start_between(
     store: &[u8],
     stored: StoreRecord,
@@ -28,21 +51,11 @@ fn start_between(
 ) -> Started
     ensures { λ r. ⌜ r ≡ startBytes stored (now (store .entry)) (now (heap .entry)) root (now (lower .entry)) (now (upper .entry)) ⌝ }
 {
-    if heap::is_bad(heap, stored.heap) {
-        return listing::begin::refused(Refusal::BadStore);
+    let bad = memory_store::is_bad(store, stored.extent());
+    match ordered::order_in(stored, bad, heap) {
+        Ordered::Refused(refusal) => listing::begin::refused(refusal),
+        Ordered::By(_) => start_bounded(store, stored, root, lower, upper, heap),
     }
-    if memory_store::is_bad(store, stored.extent()) {
-        return listing::begin::refused(Refusal::BadStore);
-    }
-    if lower.len() != 32 {
-        return listing::begin::refused(Refusal::BadBound);
-    }
-    if upper.len() != 32 {
-        return listing::begin::refused(Refusal::BadBound);
-    }
-    let from = datom::datom_at(lower, 0);
-    let to = datom::datom_at(upper, 0);
-    listing::begin::start(store, stored, root, from, to, heap)
 }
 
 // A cursor that has begun goes to its area; a refused start leaves it.

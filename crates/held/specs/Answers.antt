@@ -1,4 +1,4 @@
--- What the call may answer: that all is held, or a refusal of number 1 to 5, 7, 11 or 16.
+-- What the call may answer: that all is held, or a refusal of number 1 to 5, 7, 11, 13 or 16.
 use Prim.Native.Nat.{ℕ, suc, _%_, Ordering}
 use mathlib.Core.Bool.{Bool, true, false, _||_, not}
 use mathlib.Core.List.{List, [], _∷_}
@@ -11,7 +11,7 @@ use Rattle.store.specs.declared.StoreRecord.{StoreRecord}
 use Rattle.store.specs.Record.{extentOf}
 use Rattle.store.specs.Page.{isNone}
 use Rattle.datom.specs.declared.Datom.{Datom}
-use Rattle.index.specs.Order.{DatomOrd, isLess}
+use Rattle.index.specs.Order.{DatomOrd, isLess, indexOf}
 use Rattle.answer.specs.declared.Refusal.{Refusal}
 use Rattle.answer.specs.declared.Refusal.the-variants.{BadStore, TooMany, BadDatom, BadConstant, NoPage}
 use Rattle.answer.specs.declared.Held.{Held}
@@ -22,12 +22,12 @@ use Rattle.rules.specs.Lookup.{Look, met, absent, lost, lookup, Finding, clear,
 use Rattle.rules.specs.Store.{refuseIf, orElse, badStore, badRoot, fetchPage, envOf}
 use Rattle.rules.specs.Insert.{countFault, formFault, wordFault, lowFault, orderFault, rootFault, bytesFault, batchOf}
 use Rattle.rules.specs.Append.{badHeap}
-use Rattle.rules.specs.Calls.{ordOf, heapFault, heldCall}
+use Rattle.rules.specs.Calls.{ordOf, isUnknown, recordFault, badPages, heldCall}
 use Rattle.rules.specs.Held.{afterHeld, heldAll, heldAt, heldTree, heldCounted, heldFault, heldBytes}
 
--- all of it, or refused with 1 to 5, 7, 11 or 16
+-- all of it, or refused with 1 to 5, 7, 11, 13 or 16
 abbrev pub isGiven : Refusal → Bool
-isGiven r = ltb (numberOf r) 6 || (eqb (numberOf r) 7 || (eqb (numberOf r) 11 || eqb (numberOf r) 16))
+isGiven r = ltb (numberOf r) 6 || (eqb (numberOf r) 7 || (eqb (numberOf r) 11 || (eqb (numberOf r) 13 || eqb (numberOf r) 16)))
 
 unfoldable pub isAnswer : Held → Bool
 isAnswer All = true
@@ -121,9 +121,12 @@ module _ (t : DatomOrd) (x : Extent) (s : List ℕ) (root : PageId) where
 
 -- the same of the call, with a heap
 pub call-answers : (r : StoreRecord) (s h : List ℕ) (root : PageId) (b : List ℕ) → isAnswer (heldCall r s h root b) ≡ true
-unfolding heldCall heapFault isAnswer
-call-answers r s h root b = side (badHeap (r .heap) h) refl
+unfolding heldCall recordFault isAnswer
+call-answers r s h root b = side (badHeap (r .heap) h || badPages r s) refl (isUnknown (indexOf (r .order))) refl
   where
-    side : (v : Bool) → badHeap (r .heap) h ≡ v → isAnswer (heldCall r s h root b) ≡ true
-    side true e = rw e
-    side false e = rw e (held-answers (ordOf r h) (extentOf r) s root b)
+    side :
+        (v : Bool) → (badHeap (r .heap) h || badPages r s) ≡ v → (w : Bool) → isUnknown (indexOf (r .order)) ≡ w →
+        isAnswer (heldCall r s h root b) ≡ true
+    side true e w f = rw e
+    side false e true f = rw (e, f)
+    side false e false f = rw (e, f) (held-answers (ordOf r h) (extentOf r) s root b)

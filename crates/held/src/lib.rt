@@ -6,6 +6,7 @@ use batch::Count;
 use batch::Finding;
 use index::Index;
 use memory_store::found::Found;
+use ordered::Ordered;
 use store::Extent;
 use store::PageId;
 use store::StoreRecord;
@@ -119,9 +120,13 @@ pub fn held_in(store: &[u8], extent: Extent, root: PageId, b: &[u8], by: Index, 
 pub fn held(store: &[u8], recorded: StoreRecord, root: PageId, b: &[u8], heap: &[u8]) -> Held
     ensures { λ r. ⌜ r ≡ heldCall recorded (now (store .entry)) (now (heap .entry)) root (now (b .entry)) ⌝ }
 {
-    if heap::is_bad(heap, recorded.heap) {
-        return Held::Refused(Refusal::BadStore);
+    let extent = recorded.extent();
+    let bad = memory_store::is_bad(store, extent);
+    match ordered::order_in(recorded, bad, heap) {
+        Ordered::Refused(refusal) => Held::Refused(refusal),
+        Ordered::By(by) => {
+            let used = heap::used_of(heap, recorded.heap);
+            held_in(store, extent, root, b, by, used)
+        }
     }
-    let used = heap::used_of(heap, recorded.heap);
-    held_in(store, recorded.extent(), root, b, Index::Eavt, used)
 }

@@ -7,10 +7,9 @@ use mathlib.Core.Path.{_≡_}
 use Rattle.store.specs.Size.{sizes}
 use Rattle.datom.specs.declared.Datom.{Datom}
 use Rattle.datom.specs.Content.{names}
-use Rattle.index.specs.declared.Index.the-variants.{Eavt}
 use Rattle.index.specs.Laws.{Alike, order-same, order-very-same}
 use Rattle.index.specs.Form.{order-may}
-use Rattle.rules.specs.Calls.{usedHeap}
+use Rattle.rules.specs.Calls.{usedHeap, orderFor}
 use Rattle.rules.specs.Insert.{sort}
 use Rattle.rules.specs.Lists.{In}
 use Rattle.rules.specs.KnownSizes.{size-known}
@@ -46,7 +45,7 @@ base-accepted size i = accepted-formed size (size-known size i)
 -- "Order is by content": a datom that is shared has the entity, attribute, last word and content of one that led to the root
 pub shared-alike :
     (m : Moment) (u : List Datom) (d : Datom) → Shared (at m .cmp) u d → (y : Datom) × In y u × Alike (usedHeap (m .recorded) (m .heap)) y d
-shared-alike m u d (y, i, e) = (y, i, order-same Eavt (usedHeap (m .recorded) (m .heap)) y d e)
+shared-alike m u d (y, i, e) = (y, i, order-same (orderFor (m .recorded)) (usedHeap (m .recorded) (m .heap)) y d e)
 
 module _ (m : Moment) (u : List Datom) (d : Datom) (a : (y : Datom) → In y u → at m .stored y ≡ true) (b : at m .stored d ≡ true) where
   -- and it is the very same, unless both values name a constant
@@ -54,7 +53,8 @@ module _ (m : Moment) (u : List Datom) (d : Datom) (a : (y : Datom) → In y u �
       Shared (at m .cmp) u d → In d u ⊎ ((y : Datom) × In y u × (names (y .value) ≡ true) × (names (d .value) ≡ true))
   shared-very-same (y, i, e) =
       let h = usedHeap (m .recorded) (m .heap) in
-      elim (order-very-same Eavt h y d (order-may Eavt h y (a y i)) (order-may Eavt h d b) e) [ inl z ↦ inl (rw (← z) i) | inr w ↦ inr (y, i, w .0, w .1) ]
+      let o = orderFor (m .recorded) in
+      elim (order-very-same o h y d (order-may o h y (a y i)) (order-may o h d b) e) [ inl z ↦ inl (rw (← z) i) | inr w ↦ inr (y, i, w .0, w .1) ]
 
   -- so where its value names none, "shares a datom" is meant literally
   pub shared-same : names (d .value) ≡ false → Shared (at m .cmp) u d → In d u

@@ -20,6 +20,7 @@ use Rattle.answer.specs.declared.Answer.the-variants.{Done, Refused}
 use Rattle.rules.specs.Store.{badScratch}
 use Rattle.rules.specs.Insert.{Outcome, sort, batchOf}
 use Rattle.rules.specs.Calls.{extentOf, startCall}
+use Rattle.rules.specs.Recorded.{held-call, check-call}
 use Rattle.rules.specs.Listing.{whole}
 use Rattle.rules.specs.Lists.{In, in-right, Rising, turned}
 use Rattle.history.specs.Statement.{Known, Moment, at, inserts, givenRoot, givenBatch, Lent, rootsAfter, outcomeOf, Next, calls, appends, others, Later, now, next, History, gathered, Between, HandsOut, WellFormed, Shared, Demand3}
@@ -32,7 +33,7 @@ use Rattle.history.specs.Calls.{RootIs, root-known, Inserted, badly, ear
 use Rattle.history.specs.Roots.{check-root}
 use Rattle.history.specs.Asked.{asked-ok}
 use Rattle.history.specs.Agree.{KnownOk, sort-agrees, within-agrees}
-use Rattle.history.specs.Heap.{at-laws, later-agrees, held-call, check-call}
+use Rattle.history.specs.Heap.{at-laws, later-agrees}
 use Rattle.history.specs.Invariant.{inserted-at, inv}
 use Rattle.history.specs.Listing.{later-history, ready, later-goes, ListsFrom, lists}
 
@@ -138,10 +139,10 @@ module _ (size : ℕ) (known : capacity size ≡ 0 → ⊥) where
     -- a listing that is begun at this moment
     listing :
         (lo hi : Datom) (a : at m .bound lo ≡ true) (b : at m .bound hi ≡ true) →
-        ListsFrom m (ready size known h) (inv size known h .heap) (k .root) (ordered m k) root-ordered rising ordered-stored lo hi a b
+        ListsFrom m (ready size known h) (inv size known h .heap) (inv size known h .order) (k .root) (ordered m k) root-ordered rising ordered-stored lo hi a b
         (startCall (m .recorded) (m .store) (m .heap) (k .root) lo hi)
     listing lo hi a b =
-        lists m (ready size known h) (inv size known h .heap) (k .root) (ordered m k) root-ordered rising ordered-stored lo hi a b
+        lists m (ready size known h) (inv size known h .heap) (inv size known h .order) (k .root) (ordered m k) root-ordered rising ordered-stored lo hi a b
 
     -- what lies between two bounds is the same at every later moment, word for word
     within-later :
@@ -197,14 +198,15 @@ module _ (size : ℕ) (known : capacity size ≡ 0 → ⊥) where
       record {
         answered = λ b lent w scratch e. answers m h k i b lent w scratch e .more;
         asked = λ b w.
-            rw (held-call (m .recorded) (m .store) (m .heap) (I .heap) (k .root) b)
+            rw (held-call (m .recorded) (m .store) (m .heap) (I .heap) (I .order) (k .root) b)
             (asked-ok (at m) (at-laws m) (extentOf (m .recorded)) (m .store) (gathered (k .batches)) (rw (I .sized) known) (I .fits) (k .root) R b w);
         cursors = cursors-fit m h k i;
         inOrder = ready size known h;
         heapInOrder = I .heap;
+        orderKnown = I .order;
         known = root-known (at m) (extentOf (m .recorded)) (m .store) (k .root) (R .holds);
         sound =
-            rw (check-call (m .recorded) (m .store) (m .heap) (I .heap) (k .root))
+            rw (check-call (m .recorded) (m .store) (m .heap) (I .heap) (I .order) (k .root))
             (check-root (at m) (extentOf (m .recorded)) (m .store) (ready size known h) (k .root) (gathered (k .batches)) R);
         readable = I .readable;
       }

@@ -15,13 +15,14 @@ use Rattle.store.specs.Page.{page}
 use Rattle.datom.specs.declared.Datom.{Datom}
 use Rattle.datom.specs.Datom.{datomsBytes}
 use Rattle.index.specs.declared.Index.the-variants.{Eavt}
-use Rattle.index.specs.Order.{DatomOrd, orderIn}
+use Rattle.index.specs.Order.{DatomOrd}
 use Rattle.answer.specs.declared.Refusal.the-variants.{Repeated, NoRoom}
 use Rattle.answer.specs.declared.Answer.the-variants.{Refused}
 use Rattle.rules.specs.Insert.{batchOf, sort}
 use Rattle.rules.specs.Store.{badScratch}
 use Rattle.rules.specs.Append.{badHeap}
-use Rattle.rules.specs.Calls.{extentOf}
+use Rattle.rules.specs.Calls.{extentOf, ordOf}
+use Rattle.rules.specs.Recorded.{order-known}
 use Rattle.rules.specs.Lists.{In}
 use Rattle.rules.specs.Table.{d, eavt, run}
 use Rattle.rules.specs.Open.{rules}
@@ -57,7 +58,7 @@ unfolding badHeap
 no-heap = refl
 
 abbrev pub noHeap : List ℕ → Start
-noHeap s = record { store = s; heap = []; used = 0; inOrder = no-heap }
+noHeap s = record { store = s; heap = []; used = 0; inOrder = no-heap; order = 0; known = order-known Eavt }
 
 unfoldable pub start : Moment
 start = beginning 256 (noHeap (zeros 2048))
@@ -91,12 +92,12 @@ pub record At (m : Moment) (r : StoreRecord) (h : List ℕ) (n : ℕ) (ks : List
   pub long : length (m .store) ≡ n
 
 -- its order
-pub order-at : {m : Moment} {r : StoreRecord} {h : List ℕ} {n : ℕ} {ks : List Known} → At m r h n ks → at m ≡ orderIn Eavt (take (r .heap) h)
+pub order-at : {m : Moment} {r : StoreRecord} {h : List ℕ} {n : ℕ} {ks : List Known} → At m r h n ks → at m ≡ ordOf r h
 order-at a = rw (a .recorded, a .heap)
 
 -- pages of a size, and no heap
 abbrev pub pages : ℕ → ℕ → StoreRecord
-pages size count = record { size = size; count = count; heap = 0 }
+pages size count = record { size = size; count = count; heap = 0; order = 0 }
 
 at-start : At start (pages 256 0) [] 2048 (noRoot ∷ [])
 unfolding rules start

@@ -15,14 +15,15 @@ use Rattle.store.specs.declared.StoreRecord.{StoreRecord}
 use Rattle.store.specs.Size.{capacity}
 use Rattle.store.specs.Laws.{known-size}
 use Rattle.datom.specs.declared.Datom.{Datom}
-use Rattle.index.specs.Order.{DatomOrd}
+use Rattle.index.specs.Order.{DatomOrd, indexOf}
 use Rattle.index.specs.Agree.{Agrees}
 use Rattle.rules.specs.Page.{Node}
 use Rattle.rules.specs.Tree.{Fetched, fine}
 use Rattle.rules.specs.Store.{fetchPage, envOf, storeAfter}
 use Rattle.rules.specs.Insert.{Outcome, batchOf}
 use Rattle.rules.specs.Append.{badHeap}
-use Rattle.rules.specs.Calls.{extentOf, ordOf}
+use Rattle.rules.specs.Calls.{extentOf, isUnknown, ordOf}
+use Rattle.rules.specs.Recorded.{insert-call, initialise-call}
 use Rattle.rules.specs.Lists.{In, in-left, in-right, in-append}
 use Rattle.history.specs.Statement.{Known, Moment, at, Call, inserts, initialises, givenRoot, givenBatch, noRoot, Start, beginning, left, outcomeOf, after, Lent, Fair, appending, appended, Next, calls, appends, others, Later, now, next, History, gathered}
 use Rattle.history.specs.Tree.{blank}
@@ -33,7 +34,7 @@ use Rattle.history.specs.After.{fetch-kept, long-enough, store-keeps, af
 use Rattle.history.specs.Sort.{Distinct, Fresh, distinct-append}
 use Rattle.history.specs.Calls.{Inserted, Called, refuses, accepts, insert-ok, called, initialise-ok}
 use Rattle.history.specs.Agree.{KnownOk, fetch-agrees, known-agrees}
-use Rattle.history.specs.Heap.{at-laws, record-after, record-grown, next-agrees, later-agrees, next-heap, insert-call, initialise-call}
+use Rattle.history.specs.Heap.{at-laws, record-after, record-grown, next-agrees, later-agrees, next-heap}
 
 abbrev pub Readable : DatomOrd → Extent → List ℕ → Type 0
 Readable t x s = (p : PageId) → p .0 < x .count → (n : Node) × (fetchPage t x s p ≡ fine n)
@@ -42,6 +43,7 @@ pub record Inv (size : ℕ) (m : Moment) : Type 0 where
   pub sized : m .recorded .size ≡ size
   pub fits : m .recorded .count * m .recorded .size ≤ length (m .store)
   pub heap : badHeap (m .recorded .heap) (m .heap) ≡ false
+  pub order : isUnknown (indexOf (m .recorded .order)) ≡ false
   pub known : (k : Known) → In k (m .roots) → KnownOk (at m) (extentOf (m .recorded)) (m .store) k
   pub readable : Readable (at m) (extentOf (m .recorded)) (m .store)
 
@@ -87,13 +89,14 @@ module _ (m : Moment) (r : StoreRecord) (s h : List ℕ) (z : r .size ≡ m .rec
 
     -- and with the same count every root stays
     same-pages :
-        (size : ℕ) → r .count ≡ m .recorded .count → badHeap (r .heap) h ≡ false → Inv size m →
+        (size : ℕ) → r .count ≡ m .recorded .count → r .order ≡ m .recorded .order → badHeap (r .heap) h ≡ false → Inv size m →
         Inv size (record { recorded = r; store = s; heap = h; roots = m .roots })
-    same-pages size c g I =
+    same-pages size c o g I =
         record {
           sized = z ∙ I .sized;
           fits = rw (z, c) (long-enough (m .recorded .count * m .recorded .size) (m .store) s e (I .fits));
           heap = g;
+          order = rw o (I .order);
           known = λ k i. known-kept (same-extends (omega (arith, c))) (known-agrees (at m) (ordOf r h) A (I .known k i));
           readable = λ p l. let w = I .readable p (omega (arith, c)) in (w .0, pages-extend (omega (arith, c)) p (w .0) (w .1));
         }
@@ -172,7 +175,7 @@ module _ (size : ℕ) (known : capacity size ≡ 0 → ⊥) where
   after-call m c o I K (refuses {o = pages}) =
       let x = extentOf (m .recorded) in
       same-pages m (m .recorded) (storeAfter x (m .store) pages) (m .heap) refl (store-keeps x (m .store) (I .fits) pages) (later-agrees {m = m} now) size
-      refl (I .heap) I
+      refl refl (I .heap) I
   after-call m c o I K (accepts {root} {o = pages} d a f R) =
       let t = at m in
       let x = extentOf (m .recorded) in
@@ -183,6 +186,7 @@ module _ (size : ℕ) (known : capacity size ≡ 0 → ⊥) where
         sized = I .sized;
         fits = fits-after t size known x s (I .sized) (I .fits) k b root pages R;
         heap = I .heap;
+        order = I .order;
         known = λ j i. elim i [
           | inl e ↦ rw e (new-known t size known x s (I .sized) (I .fits) k b root pages R K d a f)
           | inr e ↦ known-kept (stays t size known x s (I .sized) (I .fits) k b root pages R) (I .known j e)
@@ -196,7 +200,7 @@ module _ (size : ℕ) (known : capacity size ≡ 0 → ⊥) where
       Inserted (at m) (extentOf (m .recorded)) (m .store) scratch (gathered (k .batches)) b (outcomeOf m (inserts k b scratch))
   inserted-at {m} I k i b scratch lent =
       let K = I .known k i in
-      rw (insert-call (m .recorded) (m .store) (m .heap) (I .heap) scratch (k .root) b)
+      rw (insert-call (m .recorded) (m .store) (m .heap) (I .heap) (I .order) scratch (k .root) b)
       (insert-ok (at m) (at-laws m) (extentOf (m .recorded)) (m .store) (rw (I .sized) known) (I .fits) scratch (gathered (k .batches)) (K .stored) b
       lent (k .root) (K .root))
 
@@ -211,16 +215,16 @@ module _ (size : ℕ) (known : capacity size ≡ 0 → ⊥) where
   called-at {m} I (inserts k b scratch) F =
       called (at m) (extentOf (m .recorded)) (m .store) scratch (gathered (k .batches)) b (F .lent) (inserted-at I k (F .known) b scratch (F .lent))
   called-at {m} I (initialises b scratch) F =
-      rw (initialise-call (m .recorded) (m .store) (m .heap) (I .heap) scratch b)
+      rw (initialise-call (m .recorded) (m .store) (m .heap) (I .heap) (I .order) scratch b)
       (initialise-ok (at m) (at-laws m) (extentOf (m .recorded)) (m .store) (rw (I .sized) known) (I .fits) scratch b (F .lent))
 
   next-inv : {m m₁ : Moment} → Next m m₁ → Inv size m → Inv size m₁
   next-inv {m} (calls c F) I = after-call m c (outcomeOf m c) I (given-known I c F) (called-at I c F)
   next-inv {m} (appends c) I =
       let w = record-grown (m .recorded) (appending m c .answer) in
-      same-pages m (appended m c .recorded) (m .store) (appended m c .heap) (w .0) refl (next-agrees {m = m} (appends c)) size (w .1) (next-heap {m = m} (appends c) (I .heap)) I
+      same-pages m (appended m c .recorded) (m .store) (appended m c .heap) (w .0) refl (next-agrees {m = m} (appends c)) size (w .1) (w .2) (next-heap {m = m} (appends c) (I .heap)) I
   next-inv {m} (others s h e f) I =
-      same-pages m (m .recorded) s h refl e (next-agrees {m = m} (others s h e f)) size refl (next-heap {m = m} (others s h e f) (I .heap)) I
+      same-pages m (m .recorded) s h refl e (next-agrees {m = m} (others s h e f)) size refl refl (next-heap {m = m} (others s h e f) (I .heap)) I
 
   inv-from : (s : Start) {m : Moment} → Later (beginning size s) m → Inv size m
   inv-from s now =
@@ -228,6 +232,7 @@ module _ (size : ℕ) (known : capacity size ≡ 0 → ⊥) where
         sized = refl;
         fits = omega arith;
         heap = s .inOrder;
+        order = s .known;
         known = λ k i. elim i [ inl e ↦ rw e (nothing-known (at (beginning size s)) (record { size = size; count = 0 }) (s .store)) | inr e ↦ absurd e ];
         readable = λ p h. absurd (omega arith);
       }

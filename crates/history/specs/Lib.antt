@@ -43,3 +43,4 @@ pub mod Base
 pub mod Example
 pub mod Wide
 pub mod Long
+pub mod Orders

@@ -13,7 +13,7 @@ use Rattle.store.specs.declared.Extent.{Extent}
 use Rattle.store.specs.Page.{isNone}
 use Rattle.store.specs.Size.{capacity}
 use Rattle.datom.specs.declared.Datom.{Datom}
-use Rattle.index.specs.Order.{DatomOrd, isLess}
+use Rattle.index.specs.Order.{DatomOrd, isLess, indexOf}
 use Rattle.index.specs.Laws.{Preorder}
 use Rattle.index.specs.Agree.{Agrees}
 use Rattle.answer.specs.declared.Cursor.{Cursor}
@@ -28,7 +28,8 @@ use Rattle.rules.specs.Tree.{Fetched, fine, atLevel}
 use Rattle.rules.specs.Store.{badStore, fetchPage}
 use Rattle.rules.specs.Listing.{Frame, framesFrom, cursorOf, joinPaths, sameIndices, startAt, startUnder, startList, stepList, whole, also, frameOf, staying}
 use Rattle.rules.specs.Append.{badHeap}
-use Rattle.rules.specs.Calls.{extentOf, startCall, stepCall}
+use Rattle.rules.specs.Calls.{extentOf, isUnknown, startCall, stepCall}
+use Rattle.rules.specs.Recorded.{start-call, step-call}
 use Rattle.rules.specs.Lists.{In, Rising, less}
 use Rattle.rules.specs.Reads.{fetch-tells}
 use Rattle.rules.specs.Sizes.{level-is, level-fine}
@@ -46,7 +47,7 @@ use Rattle.history.specs.After.{in-order}
 use Rattle.history.specs.Sort.{within, within-in, within-rising, within-none}
 use Rattle.history.specs.Calls.{RootIs, root-known}
 use Rattle.history.specs.Agree.{good-agrees, ascends-agrees}
-use Rattle.history.specs.Heap.{at-laws, later-agrees, start-call, step-call}
+use Rattle.history.specs.Heap.{at-laws, later-agrees}
 use Rattle.history.specs.Invariant.{fetches, next-extends, inv}
 
 -- what comes later than what comes later
@@ -66,6 +67,7 @@ fetch-low t x s p n e = let R = fetch-tells t x s p n e .1 in rw (← R .node) (
 pub record GoesOn (t : DatomOrd) (f : PageId → Fetched) (m : Moment) : Type 0 where
   pub store : badStore (extentOf (m .recorded)) (m .store) ≡ false
   pub heap : badHeap (m .recorded .heap) (m .heap) ≡ false
+  pub order : isUnknown (indexOf (m .recorded .order)) ≡ false
   pub agrees : Agrees t (at m)
   pub extends : Extends f (fetches m)
 
@@ -81,7 +83,8 @@ module _ (size : ℕ) (known : capacity size ≡ 0 → ⊥) where
   pub later-goes : {m m₁ : Moment} → History size m → Later m m₁ → GoesOn (at m) (fetches m) m₁
   later-goes {m} {m₁} h l =
       let h₁ : History size m₁ = later-history h l in
-      record { store = ready h₁; heap = inv size known h₁ .heap; agrees = later-agrees l; extends = later-extends h l }
+      let I = inv size known h₁ in
+      record { store = ready h₁; heap = I .heap; order = I .order; agrees = later-agrees l; extends = later-extends h l }
 
 -- the frames of a test are the same where the same pages are read
 opens-same :
@@ -107,7 +110,7 @@ module _ (n : ℕ) (r : ℕ → Stepped) where
 module _ (t : DatomOrd) (f : PageId → Fetched) where
   still-there : (m : Moment) → GoesOn t f m → stepCall (m .recorded) (m .store) (m .heap) (cursorOf [] []) ≡ staying (cursorOf [] []) step.Ended
   unfolding stepList cursorOf framesFrom sameIndices
-  still-there m G = step-call (m .recorded) (m .store) (m .heap) (G .heap) (cursorOf [] []) ∙ rw (G .store)
+  still-there m G = step-call (m .recorded) (m .store) (m .heap) (G .heap) (G .order) (cursorOf [] []) ∙ rw (G .store)
 
   still :
       (when : ℕ → Moment) → ((i : ℕ) → GoesOn t f (when i)) → (n : ℕ) (r : ℕ → Stepped) → StepsAlong when n (cursorOf [] []) r → 0 < n →
@@ -200,7 +203,7 @@ module _
 
       ends : (P : Test) → Stands P [] → stepCall (m .recorded) (m .store) (m .heap) (there P) ≡ staying (there P) step.Ended
       ends P S =
-          step-call (m .recorded) (m .store) (m .heap) (G .heap) (there P)
+          step-call (m .recorded) (m .store) (m .heap) (G .heap) (G .order) (there P)
           ∙ (rw (cursor-same P (S .same (at m) (G .agrees))) at
           (at-end (at m) (at-laws m) (extentOf (m .recorded)) (m .store) (G .store) l q n tr (holds-extends (G .extends) h) good-there
           (level-extends (G .extends) l q n read) low hi (P (at m .cmp)) (left-there P [] S)))
@@ -209,7 +212,7 @@ module _
           (P : Test) (d : Datom) (rest : List Datom) → Stands P (d ∷ rest) →
           stepCall (m .recorded) (m .store) (m .heap) (there P) ≡ record { answer = step.Yields d; cursor = there (λ cmp. upTo cmp d) }
       goes P d rest S =
-          step-call (m .recorded) (m .store) (m .heap) (G .heap) (there P)
+          step-call (m .recorded) (m .store) (m .heap) (G .heap) (G .order) (there P)
           ∙ (rw (cursor-same P (S .same (at m) (G .agrees)), cursor-same (λ cmp. upTo cmp d) (stands-next P d rest S .same (at m) (G .agrees))) at
           (goes-on (at m) (at-laws m) (extentOf (m .recorded)) (m .store) (G .store) l q n tr (holds-extends (G .extends) h) good-there
           (level-extends (G .extends) l q n read) low hi (P (at m .cmp)) d rest (left-there P (d ∷ rest) S)))
@@ -255,6 +258,7 @@ module _
 -- a listing at a root whose pages hold a good tree of exactly the datoms of u
 module _
     (m : Moment) (inOrder : badStore (extentOf (m .recorded)) (m .store) ≡ false) (heapInOrder : badHeap (m .recorded .heap) (m .heap) ≡ false)
+    (orderKnown : isUnknown (indexOf (m .recorded .order)) ≡ false)
     (root : PageId) (u : List Datom) (K : RootIs (at m) (extentOf (m .recorded)) (m .store) root u) (rising : Rising (at m .cmp) u)
     (stored : (y : Datom) → In y u → at m .stored y ≡ true) (lo hi : Datom) (a : at m .bound lo ≡ true) (b : at m .bound hi ≡ true)
   where
@@ -332,7 +336,7 @@ module _
     unfolding startList startUnder
     lists =
         rw (
-          start-call (m .recorded) (m .store) (m .heap) heapInOrder root lo hi,
+          start-call (m .recorded) (m .store) (m .heap) heapInOrder orderKnown root lo hi,
           inOrder,
           a,
           b,

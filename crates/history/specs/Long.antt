@@ -19,6 +19,7 @@ use Rattle.answer.specs.declared.Answer.the-variants.{Refused}
 use Rattle.answer.specs.declared.Append.the-variants as append
 use Rattle.rules.specs.Append.{badHeap, bytesTag, naming}
 use Rattle.rules.specs.Table.{d}
+use Rattle.rules.specs.Recorded.{order-known}
 use Rattle.rules.specs.Open.{rules}
 use Rattle.history.specs.Statement.{Known, Moment, noRoot, Start, beginning, outcomeOf, after, Constant, text, appending, appended, appends, others, Later, now, next, History, HandsOut}
 use Rattle.history.specs.Sort.{within}
@@ -42,7 +43,7 @@ unfolding badHeap
 none-used = refl
 
 abbrev pub unused : Start
-unused = record { store = zeros 1024; heap = zeros 64; used = 0; inOrder = none-used }
+unused = record { store = zeros 1024; heap = zeros 64; used = 0; inOrder = none-used; order = 0; known = order-known Eavt }
 
 unfoldable pub start : Moment
 start = beginning 256 unused
@@ -71,7 +72,7 @@ afterFive = appended shorter nine
 
 -- pages of 256 bytes, and bytes of the heap in use
 abbrev used : ℕ → ℕ → StoreRecord
-used count n = record { size = 256; count = count; heap = n }
+used count n = record { size = 256; count = count; heap = n; order = 0 }
 
 at-one : At afterOne (used 0 24) (constant ++ zeros 40) 1024 (noRoot ∷ [])
 unfolding rules start afterOne

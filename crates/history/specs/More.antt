@@ -24,7 +24,8 @@ use Rattle.rules.specs.Tree.{fine}
 use Rattle.rules.specs.Store.{badStore, badScratch, badRoot, fetchPage}
 use Rattle.rules.specs.Insert.{batchOf}
 use Rattle.rules.specs.Append.{badHeap}
-use Rattle.rules.specs.Calls.{extentOf, heldCall, startCall, checkCall}
+use Rattle.index.specs.Order.{indexOf}
+use Rattle.rules.specs.Calls.{extentOf, isUnknown, heldCall, startCall, checkCall}
 use Rattle.rules.specs.Lists.{In}
 use Rattle.history.specs.Statement.{Known, Moment, at, Call, inserts, givenRoot, givenBatch, Lent, Fair, outcomeOf, after, Later, History, gathered, StepsAlong, WellFormed, Shared}
 
@@ -83,9 +84,10 @@ pub record Beyond (m : Moment) (k : Known) : Type 0 where
       (b : List ℕ) → WellFormed (at m) b →
       Asked (Shared (at m .cmp) (gathered (k .batches))) (batchOf b) (heldCall (m .recorded) (m .store) (m .heap) (k .root) b)
   pub cursors : (lo hi : Datom) → at m .bound lo ≡ true → at m .bound hi ≡ true → CursorsFit m k lo hi
-  -- neither 1, scratch apart, nor 5 is given
+  -- neither 1, scratch apart, nor 13 nor 5 is given
   pub inOrder : badStore (extentOf (m .recorded)) (m .store) ≡ false
   pub heapInOrder : badHeap (m .recorded .heap) (m .heap) ≡ false
+  pub orderKnown : isUnknown (indexOf (m .recorded .order)) ≡ false
   pub known : badRoot (extentOf (m .recorded)) (k .root) ≡ false
   pub sound : checkCall (m .recorded) (m .store) (m .heap) (k .root) ≡ Sound
   pub readable :

@@ -11,7 +11,7 @@ use Rattle.store.specs.declared.StoreRecord.{StoreRecord}
 use Rattle.store.specs.Bytes.{Bytes}
 use Rattle.store.specs.Page.{none}
 use Rattle.datom.specs.declared.Datom.{Datom}
-use Rattle.index.specs.Order.{DatomOrd}
+use Rattle.index.specs.Order.{DatomOrd, indexOf}
 use Rattle.answer.specs.declared.Refusal.the-variants.{Repeated}
 use Rattle.answer.specs.declared.Answer.{Answer}
 use Rattle.answer.specs.declared.Answer.the-variants.{Done, Refused}
@@ -25,7 +25,7 @@ use Rattle.rules.specs.Store.{badScratch, storeAfter}
 use Rattle.rules.specs.Insert.{Outcome, batchOf}
 use Rattle.rules.specs.Listing.{Listed, whole, cut, more, also}
 use Rattle.rules.specs.Append.{badHeap, Appending, appendWord, appendText, heapAfter}
-use Rattle.rules.specs.Calls.{extentOf, ordOf, recordAfter, recordGrown, insertBytesCall, initialiseBytesCall, startCall, stepCall}
+use Rattle.rules.specs.Calls.{extentOf, isUnknown, ordOf, recordAfter, recordGrown, insertBytesCall, initialiseBytesCall, startCall, stepCall}
 use Rattle.rules.specs.Lists.{In, Rising}
 
 -- a root that may be used, with the batches that led to it, the last one first
@@ -40,7 +40,7 @@ pub record Moment : Type 0 where
   pub heap : List ℕ
   pub roots : List Known
 
--- document 02, Two: "Order is by content", so the order of a moment is that of the heap in use
+-- the order of a moment is the one that its record names; document 02, Two: "Order is by content", so by the heap in use
 abbrev pub at : Moment → DatomOrd
 at m = ordOf (m .recorded) (m .heap)
 
@@ -48,16 +48,23 @@ at m = ordOf (m .recorded) (m .heap)
 abbrev pub noRoot : Known
 noRoot = record { root = none; batches = [] }
 
--- with any store, and any heap in order: constants may stand in it already
+-- with any store, any heap in order, as constants may stand in it already, and the number of an order that is known
 pub record Start : Type 0 where
   pub store : List ℕ
   pub heap : List ℕ
   pub used : ℕ
   pub inOrder : badHeap used heap ≡ false
+  pub order : ℕ
+  pub known : isUnknown (indexOf order) ≡ false
 
 abbrev pub beginning : ℕ → Start → Moment
 beginning size s =
-    record { recorded = record { size = size; count = 0; heap = s .used }; store = s .store; heap = s .heap; roots = noRoot ∷ [] }
+    record {
+      recorded = record { size = size; count = 0; heap = s .used; order = s .order };
+      store = s .store;
+      heap = s .heap;
+      roots = noRoot ∷ [];
+    }
 
 -- the calls that write: a batch of bytes, and the length of the scratch that is lent with it
 pub data Call : Type 0 where
@@ -140,7 +147,8 @@ pub data Later (m : Moment) : Moment → Type 0 where
   now : Later m m
   next : {m₁ m₂ : Moment} → Later m m₁ → Next m₁ m₂ → Later m m₂
 
--- a history, "with one page size"
+-- a history, "with one page size"; document 02, Three: "every call at a root or on its history, listings too, uses one known order": the
+-- record of every moment has the order of the first, as no call changes it
 abbrev pub History : ℕ → Moment → Type 0
 History size m = (s : Start) × Later (beginning size s) m
 

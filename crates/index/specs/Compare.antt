@@ -3,6 +3,7 @@ use Prim.Native.Nat.{ℕ, zero, suc, _+_, _*_, _<_, _≤_, compare, Ordering·lt
 use mathlib.Core.Path.{_≡_, refl, ap, _∙_}
 use native.Mathlib.Omega.{arith}
 use native.Mathlib.Nat.{mul-le-mul-right}
+use lib.Bits.{bitOr, and-le-l, and-le-r, or-add-and}
 use Rattle.index.specs.Order.{andThen}
 
 pub cmp-lt : (a b : ℕ) → a < b → compare a b ≡ Ordering·lt
@@ -64,3 +65,10 @@ shifted k p q =
       | above h ↦ rw (cmp-gt p q h, cmp-gt (k + p) (k + q) (omega arith))
       | same e ↦ rw (e, cmp-same q, cmp-same (k + q))
     ]
+
+-- a number is no larger than its bits with those of another
+pub or-left : (a b : ℕ) → a ≤ bitOr a b
+or-left a b = omega (arith, or-add-and a b, and-le-r a b)
+
+pub or-right : (a b : ℕ) → b ≤ bitOr a b
+or-right a b = omega (arith, or-add-and a b, and-le-l a b)

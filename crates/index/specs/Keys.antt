@@ -6,7 +6,7 @@ use mathlib.Core.Bool.{Bool, true, false}
 use mathlib.Core.List.{List, [], _∷_}
 use mathlib.Core.Path.{_≡_, refl, sym, ap, _∙_}
 use lib.Arith.{mod-mul}
-use borrow.Author.Tests.{ltb-true}
+use borrow.Author.Tests.{ltb-true, lt-ltb}
 use Rattle.store.specs.Words.{bytesOf}
 use Rattle.datom.specs.declared.Value.{Value}
 use Rattle.datom.specs.Value.{isInt, isStr, strLen, isExternal, inlineContent}
@@ -146,9 +146,9 @@ unfolding cmpValue
 keyed h v w p q = rw (content-near h v p, content-near h w q) (by-key v w (isInt v) (isStr v) (isInt w) (isStr w) refl refl refl refl)
 
 -- integers that stand in their words are their own keys
-pub by-integer : (h : List ℕ) (v w : Value) → isInt v ≡ true → isInt w ≡ true → cmpValue h v w ≡ compare (v .0) (w .0)
-unfolding cmpValue cmpContent
-by-integer h v w p q = rw (content-int h v p, content-int h w q)
+pub by-integer : (h : List ℕ) (v w : Value) → v .0 < 2 ^ 62 → w .0 < 2 ^ 62 → cmpValue h v w ≡ compare (v .0) (w .0)
+unfolding cmpValue cmpContent isInt
+by-integer h v w p q = rw (content-int h v (lt-ltb _ _ p), content-int h w (lt-ltb _ _ q))
 
 -- what a byte swap gives fits in a word
 swapped : (a b c d e f g h : ℕ) → a < 256 → b < 256 → c < 256 → d < 256 → e < 256 → f < 256 → g < 256 → h < 256

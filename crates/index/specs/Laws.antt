@@ -12,7 +12,7 @@ use Rattle.datom.specs.Value.{Content, int, str, top, content}
 use Rattle.datom.specs.Datom.{boundDatom}
 use Rattle.datom.specs.Content.{names, content-tells}
 use Rattle.index.specs.declared.Index.{Index}
-use Rattle.index.specs.declared.Index.the-variants.{Eavt}
+use Rattle.index.specs.declared.Index.the-variants.{Eavt, Aevt, Avet}
 use Rattle.index.specs.Order.{andThen, cmpBytes, cmpContent, cmpValue, Part, theEntity, theAttribute, theValue, theLast, cmpPart, cmpParts, partsOf, orderIn}
 
 -- the other way round
@@ -215,6 +215,14 @@ every-part Eavt theEntity = inl refl
 every-part Eavt theAttribute = inr (inl refl)
 every-part Eavt theValue = inr (inr (inl refl))
 every-part Eavt theLast = inr (inr (inr (inl refl)))
+every-part Aevt theEntity = inr (inl refl)
+every-part Aevt theAttribute = inl refl
+every-part Aevt theValue = inr (inr (inl refl))
+every-part Aevt theLast = inr (inr (inr (inl refl)))
+every-part Avet theEntity = inr (inr (inl refl))
+every-part Avet theAttribute = inl refl
+every-part Avet theValue = inr (inl refl)
+every-part Avet theLast = inr (inr (inr (inl refl)))
 
 -- "equal only for equal datoms", as document 02 reads equal: the same entity, attribute and last word, and values that stand for the same
 pub record Alike (h : List ℕ) (a b : Datom) : Type 0 where

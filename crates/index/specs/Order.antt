@@ -1,13 +1,16 @@
 -- The order of datoms.
 use Prim.Native.Nat.{ℕ, compare, Ordering, Ordering·lt, Ordering·eq, Ordering·gt}
-use mathlib.Core.Bool.{Bool, true, false}
+use mathlib.Core.Bool.{Bool, true, false, cond}
 use mathlib.Core.List.{List, [], _∷_}
+use lib.Dec.{eqb}
 use Rattle.datom.specs.declared.Datom.{Datom}
 use Rattle.datom.specs.declared.Value.{Value}
 use Rattle.datom.specs.Value.{Content, int, str, top, content}
 use Rattle.datom.specs.Datom.{formedDatom, storedDatom, boundDatom}
 use Rattle.index.specs.declared.Index.{Index}
-use Rattle.index.specs.declared.Index.the-variants.{Eavt}
+use Rattle.index.specs.declared.Index.the-variants.{Eavt, Aevt, Avet}
+use Rattle.index.specs.declared.Named.{Named}
+use Rattle.index.specs.declared.Named.the-variants.{By, Unknown}
 use Rattle.index.specs.declared.Order.{Order}
 use Rattle.index.specs.declared.Order.the-variants.{Less, Equal, Greater}
 
@@ -54,9 +57,16 @@ unfoldable pub cmpParts : List ℕ → List Part → Datom → Datom → Orderin
 cmpParts h [] a b = Ordering·eq
 cmpParts h (p ∷ ps) a b = andThen (cmpPart h p a b) (cmpParts h ps a b)
 
--- "Order: entity, attribute, value, last word."
+-- "Order: entity, attribute, value, last word."; document 02, Three: "attribute, entity, value, last word and attribute, value, entity, last
+-- word"
 unfoldable pub partsOf : Index → List Part
 partsOf Eavt = theEntity ∷ theAttribute ∷ theValue ∷ theLast ∷ []
+partsOf Aevt = theAttribute ∷ theEntity ∷ theValue ∷ theLast ∷ []
+partsOf Avet = theAttribute ∷ theValue ∷ theEntity ∷ theLast ∷ []
+
+-- the orders by their numbers, of which all others are unknown: "13 BadOrder for an unknown order number"
+unfoldable pub indexOf : ℕ → Named
+indexOf n = cond (eqb n 0) (By Eavt) (cond (eqb n 1) (By Aevt) (cond (eqb n 2) (By Avet) Unknown))
 
 -- what the rules take as given of datoms, and use only through laws: how two compare, which words may be given, which datoms may be
 -- stored, which may be a bound

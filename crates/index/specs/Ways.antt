@@ -1,49 +1,45 @@
 -- The ways through a comparison of two datoms.
 use Prim.Native.Nat.{ℕ, _<_, compare, Ordering, Ordering·lt, Ordering·eq, Ordering·gt}
-use mathlib.Core.List.{List}
-use mathlib.Core.Path.{_≡_, refl}
+use native.Mathlib.Omega.{arith}
+use mathlib.Core.List.{List, [], _∷_}
+use mathlib.Core.Bool.{true}
+use mathlib.Core.Logic.{_⊎_, inl, inr}
+use mathlib.Core.Path.{_≡_, refl, sym, _∙_}
 use Rattle.store.specs.Laws.{apart}
 use Rattle.datom.specs.declared.Datom.{Datom}
-use Rattle.datom.specs.declared.Value.{Value}
 use Rattle.index.specs.declared.Index.{Index}
-use Rattle.index.specs.declared.Index.the-variants.{Eavt}
+use Rattle.index.specs.declared.Index.the-variants.{Eavt, Aevt, Avet}
 use Rattle.index.specs.declared.Order.the-variants.{Less, Equal, Greater}
-use Rattle.index.specs.Order.{andThen, cmpValue, cmpPart, cmpParts, partsOf, orderIn, named}
+use Rattle.index.specs.Order.{andThen, cmpValue, Part, theLast, cmpPart, cmpParts, partsOf, orderIn, named}
 use Rattle.index.specs.Compare.{cmp-lt, cmp-gt, cmp-eq}
+use Rattle.index.specs.Front.{byValue}
+use Rattle.index.specs.Parts.{wordIn, first, second, third, later, parts-of, numberBefore, ValueNext, SecondTells, first-number, second-number}
 
-module _ (h : List ℕ) (a b : Datom) where
-  pub less-entity : a .entity .0 < b .entity .0 → Less ≡ named (orderIn Eavt h .cmp a b)
-  unfolding orderIn partsOf cmpParts cmpPart andThen named
-  less-entity p = simp (cmp-lt _ _ p)
+-- nothing behind it
+then-nothing : (o : Ordering) → andThen o Ordering·eq ≡ o
+unfolding andThen
+then-nothing Ordering·lt = refl
+then-nothing Ordering·eq = refl
+then-nothing Ordering·gt = refl
 
-  pub greater-entity : b .entity .0 < a .entity .0 → Greater ≡ named (orderIn Eavt h .cmp a b)
-  unfolding orderIn partsOf cmpParts cmpPart andThen named
-  greater-entity p = simp (cmp-gt _ _ p)
+-- by the first of two, or by the second where that is equal
+pub less-front : (o u : Ordering) → named o ≡ Less → Less ≡ named (andThen o u)
+unfolding andThen named
+less-front Ordering·lt u e = refl
+less-front Ordering·eq u e = absurd (apart (cc))
+less-front Ordering·gt u e = absurd (apart (cc))
 
-  module _ (e : a .entity .0 ≡ b .entity .0) where
-    pub less-attribute : a .attribute .0 < b .attribute .0 → Less ≡ named (orderIn Eavt h .cmp a b)
-    unfolding orderIn partsOf cmpParts cmpPart andThen named
-    less-attribute p = simp (cmp-eq _ _ e, cmp-lt _ _ p)
+pub greater-front : (o u : Ordering) → named o ≡ Greater → Greater ≡ named (andThen o u)
+unfolding andThen named
+greater-front Ordering·lt u e = absurd (apart (cc))
+greater-front Ordering·eq u e = absurd (apart (cc))
+greater-front Ordering·gt u e = refl
 
-    pub greater-attribute : b .attribute .0 < a .attribute .0 → Greater ≡ named (orderIn Eavt h .cmp a b)
-    unfolding orderIn partsOf cmpParts cmpPart andThen named
-    greater-attribute p = simp (cmp-eq _ _ e, cmp-gt _ _ p)
-
-    pub on-to-rest :
-        a .attribute .0 ≡ b .attribute .0 →
-        named (andThen (cmpValue h (a .value) (b .value)) (compare (a .«transaction_operation» .0) (b .«transaction_operation» .0)))
-        ≡ named (orderIn Eavt h .cmp a b)
-    unfolding orderIn partsOf cmpParts cmpPart andThen
-    on-to-rest f =
-        simp (cmp-eq _ _ e, cmp-eq _ _ f)
-        (last (cmpValue h (a .value) (b .value)) (compare (a .«transaction_operation» .0) (b .«transaction_operation» .0)))
-      where
-        last : (x y : Ordering) → named (andThen x y) ≡ named (andThen x (andThen y Ordering·eq))
-        last Ordering·lt y = refl
-        last Ordering·gt y = refl
-        last Ordering·eq Ordering·lt = refl
-        last Ordering·eq Ordering·eq = refl
-        last Ordering·eq Ordering·gt = refl
+pub equal-front : (o u : Ordering) → named o ≡ Equal → named u ≡ named (andThen o u)
+unfolding andThen named
+equal-front Ordering·lt u e = absurd (apart (cc))
+equal-front Ordering·eq u e = refl
+equal-front Ordering·gt u e = absurd (apart (cc))
 
 -- by numbers
 module _ (s t : ℕ) where
@@ -59,39 +55,79 @@ module _ (s t : ℕ) where
   unfolding named
   same-number p = rw (cmp-eq s t p)
 
--- by the first of two, or by the second where that is equal
-pub less-first : (o u : Ordering) → named o ≡ Less → Less ≡ named (andThen o u)
-unfolding andThen named
-less-first Ordering·lt u e = refl
-less-first Ordering·eq u e = absurd (apart (cc))
-less-first Ordering·gt u e = absurd (apart (cc))
+-- by a part that is a number, or on to the parts behind it
+module _ (h : List ℕ) (p : Part) (ps : List Part) (a b : Datom) (x y : ℕ) (by : cmpPart h p a b ≡ compare x y) where
+  pub less-part : x < y → Less ≡ named (cmpParts h (p ∷ ps) a b)
+  unfolding cmpParts andThen named
+  less-part l = simp (by, cmp-lt x y l)
 
-pub greater-first : (o u : Ordering) → named o ≡ Greater → Greater ≡ named (andThen o u)
-unfolding andThen named
-greater-first Ordering·lt u e = absurd (apart (cc))
-greater-first Ordering·eq u e = absurd (apart (cc))
-greater-first Ordering·gt u e = refl
+  pub greater-part : y < x → Greater ≡ named (cmpParts h (p ∷ ps) a b)
+  unfolding cmpParts andThen named
+  greater-part l = simp (by, cmp-gt x y l)
 
-pub equal-first : (o u : Ordering) → named o ≡ Equal → named u ≡ named (andThen o u)
-unfolding andThen named
-equal-first Ordering·lt u e = absurd (apart (cc))
-equal-first Ordering·eq u e = refl
-equal-first Ordering·gt u e = absurd (apart (cc))
+  pub on-part : x ≡ y → named (cmpParts h ps a b) ≡ named (cmpParts h (p ∷ ps) a b)
+  unfolding cmpParts andThen
+  on-part e = simp (by, cmp-eq x y e)
 
--- by a number for each value, then by the last words
-module _ (h : List ℕ) (v w : Value) (x y : ℕ) (by : cmpValue h v w ≡ compare x y) (s t : ℕ) where
-  pub less-value : x < y → Less ≡ named (andThen (cmpValue h v w) (compare s t))
-  unfolding andThen named
-  less-value p = simp (by, cmp-lt _ _ p)
+-- the first part of an order
+module _ (i : Index) (h : List ℕ) (a b : Datom) where
+  pub less-first : wordIn (first i) a < wordIn (first i) b → Less ≡ named (orderIn i h .cmp a b)
+  unfolding orderIn
+  less-first l = rw (parts-of i) (less-part h (first i) (later i) a b _ _ (first-number h a b i) l)
 
-  pub greater-value : y < x → Greater ≡ named (andThen (cmpValue h v w) (compare s t))
-  unfolding andThen named
-  greater-value p = simp (by, cmp-gt _ _ p)
+  pub greater-first : wordIn (first i) b < wordIn (first i) a → Greater ≡ named (orderIn i h .cmp a b)
+  unfolding orderIn
+  greater-first l = rw (parts-of i) (greater-part h (first i) (later i) a b _ _ (first-number h a b i) l)
 
-  pub same-value : x ≡ y → named (compare s t) ≡ named (andThen (cmpValue h v w) (compare s t))
-  unfolding andThen
-  same-value p = simp (by, cmp-eq _ _ p)
+  pub on-to-later : wordIn (first i) a ≡ wordIn (first i) b → named (cmpParts h (later i) a b) ≡ named (orderIn i h .cmp a b)
+  unfolding orderIn
+  on-to-later e = rw (parts-of i) (on-part h (first i) (later i) a b _ _ (first-number h a b i) e)
 
--- there is one order
-pub only-eavt : (i : Index) → i ≡ Eavt
-only-eavt Eavt = refl
+  -- the first two, where the second words tell
+  pub less-two :
+      SecondTells i a b → wordIn (first i) a ≡ wordIn (first i) b → wordIn (second i) a < wordIn (second i) b →
+      Less ≡ named (orderIn i h .cmp a b)
+  less-two t e l = less-part h (second i) (third i ∷ theLast ∷ []) a b _ _ (second-number h a b i t) l ∙ on-to-later e
+
+  pub greater-two :
+      SecondTells i a b → wordIn (first i) a ≡ wordIn (first i) b → wordIn (second i) b < wordIn (second i) a →
+      Greater ≡ named (orderIn i h .cmp a b)
+  greater-two t e l = greater-part h (second i) (third i ∷ theLast ∷ []) a b _ _ (second-number h a b i t) l ∙ on-to-later e
+
+-- the values, where nothing before them is different
+module _ (h : List ℕ) (a b : Datom) where
+  abbrev pub values : Ordering
+  values = cmpValue h (a .value) (b .value)
+
+  abbrev pub last : Ordering
+  last = compare (a .«transaction_operation» .0) (b .«transaction_operation» .0)
+
+  -- then the entity, which is the same where it came before
+  pub behind-attribute :
+      (i : Index) → a .attribute .0 ≡ b .attribute .0 → (byValue i ≡ true) ⊎ (a .entity .0 ≡ b .entity .0) →
+      named (andThen values (andThen (compare (a .entity .0) (b .entity .0)) last)) ≡ named (orderIn i h .cmp a b)
+  unfolding orderIn partsOf cmpParts cmpPart andThen
+  behind-attribute Eavt f (inl v) = absurd (apart (cc))
+  behind-attribute Eavt f (inr e) = simp (cmp-eq _ _ e, cmp-eq _ _ f, then-nothing last)
+  behind-attribute Aevt f (inl v) = absurd (apart (cc))
+  behind-attribute Aevt f (inr e) = simp (cmp-eq _ _ e, cmp-eq _ _ f, then-nothing last)
+  behind-attribute Avet f t = simp (cmp-eq _ _ f, then-nothing last)
+
+  pub behind-next :
+      (i : Index) → ValueNext i a b → named (andThen values (andThen (compare (a .entity .0) (b .entity .0)) last)) ≡ named (orderIn i h .cmp a b)
+  behind-next Eavt e = behind-attribute Eavt (e .1) (inr (e .0))
+  behind-next Aevt e = behind-attribute Aevt (e .0) (inr (e .1))
+  behind-next Avet e = behind-attribute Avet (e .0) (inl refl)
+
+  -- the number before the values
+  pub less-before :
+      (i : Index) → wordIn (first i) a ≡ wordIn (first i) b → numberBefore i a < numberBefore i b → Less ≡ named (orderIn i h .cmp a b)
+  less-before Eavt e l = less-two Eavt h a b tt e l
+  less-before Aevt e l = less-two Aevt h a b tt e l
+  less-before Avet e l = absurd (omega arith)
+
+  pub greater-before :
+      (i : Index) → wordIn (first i) a ≡ wordIn (first i) b → numberBefore i b < numberBefore i a → Greater ≡ named (orderIn i h .cmp a b)
+  greater-before Eavt e l = greater-two Eavt h a b tt e l
+  greater-before Aevt e l = greater-two Aevt h a b tt e l
+  greater-before Avet e l = absurd (omega arith)

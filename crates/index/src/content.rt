@@ -2,7 +2,6 @@
 use crate::Index;
 use crate::Order;
 use datom::Datom;
-use datom::TidOp;
 use datom::Value;
 ghost use mathlib.Core.Path.{_≡_};
 ghost use Prim.Native.Nat.{_≤_, compare};
@@ -10,7 +9,6 @@ ghost use lib.ListN.{length, drop};
 ghost use mathlib.Core.Bool.{true};
 ghost use Rattle.heap.specs.Constant.{bytesAt};
 ghost use Rattle.datom.specs.Value.{content, int, str, offsetOf};
-ghost use Rattle.index.specs.declared.Index.the-variants.{Eavt};
 ghost use Rattle.index.specs.declared.Order.the-variants.{Less};
 ghost use Rattle.index.specs.Order.{andThen, cmpBytes, cmpContent, cmpValue, isLess, named, orderIn};
 ghost use Rattle.index.specs.Kinds.{kindOf};
@@ -224,51 +222,48 @@ fn texts_rise(a: Value, b: Value, heap: &[u8]) -> bool
     )
 }
 
-// Whether value, then last word, of a datom are below those of another. Where long texts rise, as they do all along a page, their first
+// Whether value, entity, last word of a datom are below those of another. Where long texts rise, as they do all along a page, their first
 // bytes tell.
-fn is_below_rest(a: Value, b: Value, s: TidOp, t: TidOp, heap: &[u8]) -> bool
-    ensures { λ r. ⌜ r ≡ isLess (andThen (cmpValue (now (heap .entry)) a b) (compare (s .0) (t .0))) ⌝ }
+fn is_below_behind(a: Value, b: Value, x: u64, y: u64, s: u64, t: u64, heap: &[u8]) -> bool
+    ensures { λ r. ⌜ r ≡ isLess (andThen (cmpValue (now (heap .entry)) a b) (andThen (compare x y) (compare s t))) ⌝ }
 {
     if texts_rise(a, b, heap) {
         return true;
     }
-    match crate::order_of_rest(a, b, s, t, heap) {
+    match crate::order_of_behind(a, b, x, y, s, t, heap) {
         Order::Less => true,
         Order::Equal => false,
         Order::Greater => false,
     }
 }
 
-// By entity, attribute, value, last word.
-fn is_below_eavt(a: Datom, b: Datom, heap: &[u8]) -> bool
-    ensures { λ r. ⌜ r ≡ isLess (orderIn Eavt (now (heap .entry)) .cmp a b) ⌝ }
-{
-    if a.entity.0 < b.entity.0 {
-        return true;
-    }
-    if b.entity.0 < a.entity.0 {
-        return false;
-    }
-    if a.attribute.0 < b.attribute.0 {
-        return true;
-    }
-    if b.attribute.0 < a.attribute.0 {
-        return false;
-    }
-    is_below_rest(
-        a.value,
-        b.value,
-        a.transaction_operation,
-        b.transaction_operation,
-        heap,
-    )
-}
-
 // Whether a datom is below another in a tree's order, by the constants of the heap in use.
 pub fn is_below(a: Datom, b: Datom, by: Index, heap: &[u8]) -> bool
     ensures { λ r. ⌜ r ≡ isLess (orderIn by (now (heap .entry)) .cmp a b) ⌝ }
 {
-    match by {
-        Index::Eavt => is_below_eavt(a, b, heap),
+    let x = crate::first_of(a, by);
+    let y = crate::first_of(b, by);
+    if x < y {
+        return true;
     }
+    if y < x {
+        return false;
+    }
+    let u = crate::number_before(a, by);
+    let w = crate::number_before(b, by);
+    if u < w {
+        return true;
+    }
+    if w < u {
+        return false;
+    }
+    is_below_behind(
+        a.value,
+        b.value,
+        a.entity.0,
+        b.entity.0,
+        a.transaction_operation.0,
+        b.transaction_operation.0,
+        heap,
+    )
 }

@@ -2,19 +2,59 @@
 pub mod content;
 
 use datom::Datom;
-use datom::TidOp;
 use datom::Value;
 ghost use mathlib.Core.Path.{_≡_};
 ghost use Prim.Native.Nat.{compare};
-ghost use mathlib.Core.Bool.{false};
-ghost use Rattle.datom.specs.Value.{isExternal};
-ghost use Rattle.index.specs.declared.Index.the-variants.{Eavt};
-ghost use Rattle.index.specs.Order.{andThen, cmpValue, orderIn, named};
+ghost use Rattle.index.specs.Order.{andThen, cmpValue, indexOf, orderIn, named};
+ghost use Rattle.index.specs.Parts.{wordIn, first, numberBefore};
+ghost use Rattle.index.specs.Front.{bothIntegers, byEntity, byValue};
 ghost use Rattle.index.specs.Key.{key, turned, swapped};
 
-// Which order a tree is in.
+// Which order a tree is in: by entity, attribute, value and last word, or by attribute first, with the entity or the value behind it.
 pub enum Index {
     Eavt,
+    Aevt,
+    Avet,
+}
+
+// What a number of an order names.
+pub enum Named {
+    By(Index),
+    Unknown,
+}
+
+// The order that a number names in a store's record.
+pub fn index_of(number: u64) -> Named
+    ensures { λ r. ⌜ r ≡ indexOf number ⌝ }
+{
+    match number {
+        0 => Named::By(Index::Eavt),
+        1 => Named::By(Index::Aevt),
+        2 => Named::By(Index::Avet),
+        _ => Named::Unknown,
+    }
+}
+
+// The word that an order goes by first.
+fn first_of(d: Datom, by: Index) -> u64
+    ensures { λ r. ⌜ r ≡ wordIn (first by) d ⌝ }
+{
+    match by {
+        Index::Eavt => d.entity.0,
+        Index::Aevt => d.attribute.0,
+        Index::Avet => d.attribute.0,
+    }
+}
+
+// The number that an order asks of behind the first part and before the values; 0 where it asks of none there.
+fn number_before(d: Datom, by: Index) -> u64
+    ensures { λ r. ⌜ r ≡ numberBefore by d ⌝ }
+{
+    match by {
+        Index::Eavt => d.attribute.0,
+        Index::Aevt => d.entity.0,
+        Index::Avet => 0,
+    }
 }
 
 // How one datom stands to another.
@@ -75,74 +115,84 @@ fn order_of_numbers(a: u64, b: u64) -> Order
     Order::Equal
 }
 
-// Value, then last word, of values that stand in the word itself.
-fn order_of_near(a: Value, b: Value, s: TidOp, t: TidOp, heap: &[u8]) -> Order
-    requires { ⌜ (isExternal a ≡ false) × (isExternal b ≡ false) ⌝ }
-    ensures { λ r. ⌜ r ≡ named (andThen (cmpValue (now (heap .entry)) a b) (compare (s .0) (t .0))) ⌝ }
+// Whether two values are integers that stand in their words. The bits of both are looked at as one number.
+fn are_integers(a: Value, b: Value) -> bool
+    ensures { λ r. ⌜ r ≡ bothIntegers a b ⌝ }
 {
-    let v = key_of(a);
-    let w = key_of(b);
-    if v < w {
-        return Order::Less;
-    }
-    if w < v {
-        return Order::Greater;
-    }
-    order_of_numbers(s.0, t.0)
+    (a.0 | b.0) < Value::TAG_EXTERNAL
 }
 
-// Value, then last word, of which one value at least is a constant or max.
-fn order_of_far(a: Value, b: Value, s: TidOp, t: TidOp, heap: &[u8]) -> Order
-    ensures { λ r. ⌜ r ≡ named (andThen (cmpValue (now (heap .entry)) a b) (compare (s .0) (t .0))) ⌝ }
+// Two values, by what they stand for. No value that stands in the word itself has the bit that marks the others.
+fn order_of_values(a: Value, b: Value, heap: &[u8]) -> Order
+    ensures { λ r. ⌜ r ≡ named (cmpValue (now (heap .entry)) a b) ⌝ }
 {
-    match content::order_of_contents(a, b, heap) {
+    if !a.is_external() {
+        if !b.is_external() {
+            return order_of_numbers(key_of(a), key_of(b));
+        }
+    }
+    content::order_of_contents(a, b, heap)
+}
+
+// Two numbers, then two others.
+fn order_of_pairs(x: u64, y: u64, s: u64, t: u64) -> Order
+    ensures { λ r. ⌜ r ≡ named (andThen (compare x y) (compare s t)) ⌝ }
+{
+    if x < y {
+        return Order::Less;
+    }
+    if y < x {
+        return Order::Greater;
+    }
+    order_of_numbers(s, t)
+}
+
+// Which word an order goes by first, and whether the value comes straight behind the attribute.
+fn is_by_entity(by: Index) -> bool
+    ensures { λ r. ⌜ r ≡ byEntity by ⌝ }
+{
+    match by {
+        Index::Eavt => true,
+        Index::Aevt => false,
+        Index::Avet => false,
+    }
+}
+
+fn is_by_value(by: Index) -> bool
+    ensures { λ r. ⌜ r ≡ byValue by ⌝ }
+{
+    match by {
+        Index::Eavt => false,
+        Index::Aevt => false,
+        Index::Avet => true,
+    }
+}
+
+// Value, entity, last word: what an order asks of behind the attribute, where the entity does not tell before. It takes words and no datoms,
+// which would have to be put into memory for the call.
+fn order_of_behind(a: Value, b: Value, x: u64, y: u64, s: u64, t: u64, heap: &[u8]) -> Order
+    ensures { λ r. ⌜ r ≡ named (andThen (cmpValue (now (heap .entry)) a b) (andThen (compare x y) (compare s t))) ⌝ }
+{
+    match order_of_values(a, b, heap) {
         Order::Less => Order::Less,
-        Order::Equal => order_of_numbers(s.0, t.0),
+        Order::Equal => order_of_pairs(x, y, s, t),
         Order::Greater => Order::Greater,
     }
 }
 
-// Value, then last word, of any values. No value that stands in the word itself has the bit that marks the others.
-fn order_of_any(a: Value, b: Value, s: TidOp, t: TidOp, heap: &[u8]) -> Order
-    ensures { λ r. ⌜ r ≡ named (andThen (cmpValue (now (heap .entry)) a b) (compare (s .0) (t .0))) ⌝ }
+// How two datoms stand to each other in a tree's order, by the constants of the heap in use: the first difference decides. The first two
+// words are compared here, as far as they tell by themselves, in one piece: the compiler puts this into every loop over datoms, and
+// nothing that is longer.
+pub fn order_of(a: Datom, b: Datom, by: Index, heap: &[u8]) -> Order
+    ensures { λ r. ⌜ r ≡ named (orderIn by (now (heap .entry)) .cmp a b) ⌝ }
 {
-    if !a.is_external() {
-        if !b.is_external() {
-            return order_of_near(a, b, s, t, heap);
+    if is_by_entity(by) {
+        if a.entity.0 < b.entity.0 {
+            return Order::Less;
         }
-    }
-    order_of_far(a, b, s, t, heap)
-}
-
-// Value, then last word. Two integers that stand in their words are compared here and all others elsewhere, so that what the compiler
-// puts into every caller of a comparison stays short.
-fn order_of_rest(a: Value, b: Value, s: TidOp, t: TidOp, heap: &[u8]) -> Order
-    ensures { λ r. ⌜ r ≡ named (andThen (cmpValue (now (heap .entry)) a b) (compare (s .0) (t .0))) ⌝ }
-{
-    if !a.is_u64() {
-        return order_of_any(a, b, s, t, heap);
-    }
-    if !b.is_u64() {
-        return order_of_any(a, b, s, t, heap);
-    }
-    if a.0 < b.0 {
-        return Order::Less;
-    }
-    if b.0 < a.0 {
-        return Order::Greater;
-    }
-    order_of_numbers(s.0, t.0)
-}
-
-// Entity, attribute, value, last word: the first difference decides.
-fn order_of_eavt(a: Datom, b: Datom, heap: &[u8]) -> Order
-    ensures { λ r. ⌜ r ≡ named (orderIn Eavt (now (heap .entry)) .cmp a b) ⌝ }
-{
-    if a.entity.0 < b.entity.0 {
-        return Order::Less;
-    }
-    if b.entity.0 < a.entity.0 {
-        return Order::Greater;
+        if b.entity.0 < a.entity.0 {
+            return Order::Greater;
+        }
     }
     if a.attribute.0 < b.attribute.0 {
         return Order::Less;
@@ -150,20 +200,30 @@ fn order_of_eavt(a: Datom, b: Datom, heap: &[u8]) -> Order
     if b.attribute.0 < a.attribute.0 {
         return Order::Greater;
     }
-    order_of_rest(
+    if is_by_value(by) {
+        if are_integers(a.value, b.value) {
+            if a.value.0 < b.value.0 {
+                return Order::Less;
+            }
+            if b.value.0 < a.value.0 {
+                return Order::Greater;
+            }
+        }
+    } else {
+        if a.entity.0 < b.entity.0 {
+            return Order::Less;
+        }
+        if b.entity.0 < a.entity.0 {
+            return Order::Greater;
+        }
+    }
+    order_of_behind(
         a.value,
         b.value,
-        a.transaction_operation,
-        b.transaction_operation,
+        a.entity.0,
+        b.entity.0,
+        a.transaction_operation.0,
+        b.transaction_operation.0,
         heap,
     )
-}
-
-// How two datoms stand to each other in a tree's order, by the constants of the heap in use.
-pub fn order_of(a: Datom, b: Datom, by: Index, heap: &[u8]) -> Order
-    ensures { λ r. ⌜ r ≡ named (orderIn by (now (heap .entry)) .cmp a b) ⌝ }
-{
-    match by {
-        Index::Eavt => order_of_eavt(a, b, heap),
-    }
 }

@@ -10,6 +10,7 @@ use index::Index;
 use memory_store::found;
 use memory_store::found::Found;
 use memory_store::found::Opened;
+use ordered::Ordered;
 use store::Extent;
 use store::PageId;
 use store::StoreRecord;
@@ -118,9 +119,13 @@ pub fn check_in(store: &[u8], extent: Extent, root: PageId, by: Index, heap: &[u
 pub fn check(store: &[u8], recorded: StoreRecord, root: PageId, heap: &[u8]) -> Check
     ensures { λ r. ⌜ r ≡ checkCall recorded (now (store .entry)) (now (heap .entry)) root ⌝ }
 {
-    if heap::is_bad(heap, recorded.heap) {
-        return Check::Refused(Refusal::BadStore);
+    let extent = recorded.extent();
+    let bad = memory_store::is_bad(store, extent);
+    match ordered::order_in(recorded, bad, heap) {
+        Ordered::Refused(refusal) => Check::Refused(refusal),
+        Ordered::By(by) => {
+            let used = heap::used_of(heap, recorded.heap);
+            check_in(store, extent, root, by, used)
+        }
     }
-    let used = heap::used_of(heap, recorded.heap);
-    check_in(store, recorded.extent(), root, Index::Eavt, used)
 }

@@ -13,6 +13,7 @@ use index::Index;
 use index::Order;
 use memory_store::found;
 use memory_store::found::Found;
+use ordered::Ordered;
 use store::Extent;
 use store::PageId;
 use store::StoreRecord;
@@ -203,17 +204,13 @@ pub fn start(
 ) -> Started
     ensures { λ r. ⌜ r ≡ startCall recorded (now (store .entry)) (now (heap .entry)) root lower upper ⌝ }
 {
-    if heap::is_bad(heap, recorded.heap) {
-        return refused(Refusal::BadStore);
+    let extent = recorded.extent();
+    let bad = memory_store::is_bad(store, extent);
+    match ordered::order_in(recorded, bad, heap) {
+        Ordered::Refused(refusal) => refused(refusal),
+        Ordered::By(by) => {
+            let used = heap::used_of(heap, recorded.heap);
+            start_in(store, extent, root, lower, upper, by, used)
+        }
     }
-    let used = heap::used_of(heap, recorded.heap);
-    start_in(
-        store,
-        recorded.extent(),
-        root,
-        lower,
-        upper,
-        Index::Eavt,
-        used,
-    )
 }

@@ -19,6 +19,7 @@ use answer::Stepped;
 use datom::Datom;
 use index::Index;
 use memory_store::access;
+use ordered::Ordered;
 use store::Extent;
 use store::PageId;
 use store::StoreRecord;
@@ -179,9 +180,13 @@ pub fn step_in(store: &[u8], extent: Extent, cursor: Cursor, by: Index, heap: &[
 pub fn step(store: &[u8], recorded: StoreRecord, cursor: Cursor, heap: &[u8]) -> Stepped
     ensures { λ r. ⌜ r ≡ stepCall recorded (now (store .entry)) (now (heap .entry)) cursor ⌝ }
 {
-    if heap::is_bad(heap, recorded.heap) {
-        return refused(cursor, Refusal::BadStore);
+    let extent = recorded.extent();
+    let bad = memory_store::is_bad(store, extent);
+    match ordered::order_in(recorded, bad, heap) {
+        Ordered::Refused(refusal) => refused(cursor, refusal),
+        Ordered::By(by) => {
+            let used = heap::used_of(heap, recorded.heap);
+            step_in(store, extent, cursor, by, used)
+        }
     }
-    let used = heap::used_of(heap, recorded.heap);
-    step_in(store, recorded.extent(), cursor, Index::Eavt, used)
 }

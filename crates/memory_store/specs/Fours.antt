@@ -3,8 +3,8 @@ use Prim.Native.Nat.{ℕ, _+_, _*_, _^_, _<_, _≤_}
 use native.Mathlib.Omega.{arith}
 use mathlib.Core.Bool.{true, false}
 use mathlib.Core.List.{List}
-use mathlib.Core.Path.{_≡_, sym, _∙_}
-use lib.Bits.{bitOr, and-le-l, and-le-r, or-add-and}
+use mathlib.Core.Logic.{_⊎_, inl, inr}
+use mathlib.Core.Path.{_≡_, refl, sym, ap, _∙_}
 use lib.ListN.{drop}
 use Rattle.store.specs.declared.PageId.{PageId}
 use Rattle.store.specs.Words.{wordAt, cells}
@@ -14,8 +14,11 @@ use Rattle.store.specs.Laws.{apart}
 use Rattle.datom.specs.declared.Datom.{Datom}
 use Rattle.datom.specs.Datom.{datomAt, datomsOf}
 use Rattle.datom.specs.Laws.{datoms-from}
-use Rattle.index.specs.declared.Order.the-variants.{Less}
-use Rattle.index.specs.Order.{DatomOrd, isLess, named}
+use Rattle.index.specs.declared.Index.{Index}
+use Rattle.index.specs.declared.Index.the-variants.{Eavt, Aevt, Avet}
+use Rattle.index.specs.Order.{DatomOrd, isLess, orderIn, Part, theEntity, theAttribute, theValue, theLast}
+use Rattle.index.specs.Parts.{wordIn, placeOf, first, second, SecondTells}
+use Rattle.index.specs.Ways.{less-first, less-two}
 use Rattle.index.specs.Named.{less-named}
 use Rattle.rules.specs.Page.{all, rising, older}
 use Rattle.memory_store.specs.Steps.{all-on, rising-on}
@@ -32,6 +35,13 @@ abbrev pub FourIntegers : List ℕ → ℕ → Type 0
 FourIntegers s at =
     (wordAt s (at + 16) < 2 ^ 62) × (wordAt s (at + 48) < 2 ^ 62) × (wordAt s (at + 80) < 2 ^ 62) × (wordAt s (at + 112) < 2 ^ 62)
 
+-- a word at p is below the one in the next datom, or is the same and one at q is; so of four
+abbrev pub WordsRise : List ℕ → ℕ → ℕ → Type 0
+WordsRise s p q = (wordAt s p < wordAt s (p + 32)) ⊎ ((wordAt s p ≡ wordAt s (p + 32)) × (wordAt s q < wordAt s (q + 32)))
+
+abbrev pub FourWordsRise : List ℕ → ℕ → ℕ → Type 0
+FourWordsRise s p q = WordsRise s p q × WordsRise s (p + 32) (q + 32) × WordsRise s (p + 64) (q + 64) × WordsRise s (p + 96) (q + 96)
+
 -- four children are none or below id
 abbrev pub FourOlder : PageId → List ℕ → ℕ → Type 0
 FourOlder id s at =
@@ -44,30 +54,65 @@ SameFrom t k s i j =
     (all (t .stored) (drop i (datomsOf k s)) ≡ all (t .stored) (drop j (datomsOf k s)))
     × (rising (t .cmp) (drop i (datomsOf k s)) ≡ rising (t .cmp) (drop j (datomsOf k s)))
 
--- a number is no larger than its bits with those of another
-pub or-left : (a b : ℕ) → a ≤ bitOr a b
-or-left a b = omega (arith, or-add-and a b, and-le-r a b)
-
-pub or-right : (a b : ℕ) → b ≤ bitOr a b
-or-right a b = omega (arith, or-add-and a b, and-le-l a b)
-
 -- a test that failed says nothing
 pub never : {A : Type 0} → false ≡ true → A
 never e = absurd (apart (cc))
 
--- of an order that goes by the entity, and by the attribute where the entity is the same
-module _ (t : DatomOrd) (s : List ℕ) (at : ℕ) where
-  pub rises-entity : ((a b : Datom) → a .entity .0 < b .entity .0 → Less ≡ named (t .cmp a b)) → wordAt s at < wordAt s (at + 32) → Rises t s at
-  unfolding datomAt
-  rises-entity by h = less-named _ (sym (by (datomAt s at) (datomAt s (at + 32)) h)) .0
+-- a part's word, where it stands among the bytes
+pub word-there : (s : List ℕ) (at : ℕ) (p : Part) → wordIn p (datomAt s at) ≡ wordAt s (at + placeOf p)
+unfolding datomAt
+word-there s at theEntity = let e : at + 0 ≡ at = omega arith in rw e
+word-there s at theAttribute = refl
+word-there s at theValue = refl
+word-there s at theLast = refl
 
-  pub rises-attribute :
-      ((a b : Datom) → a .entity .0 ≡ b .entity .0 → a .attribute .0 < b .attribute .0 → Less ≡ named (t .cmp a b)) →
-      wordAt s at ≡ wordAt s (at + 32) → wordAt s (at + 8) < wordAt s (at + 40) → Rises t s at
+-- by the first two words of an order, which stand at p and q
+module _ (i : Index) (h s : List ℕ) (at p q : ℕ) (e : p ≡ at + placeOf (first i)) (f : q ≡ at + placeOf (second i)) where
+  behind : (x : Part) → wordIn x (datomAt s (at + 32)) ≡ wordAt s (at + placeOf x + 32)
+  behind x = let z : at + 32 + placeOf x ≡ at + placeOf x + 32 = omega arith in word-there s (at + 32) x ∙ ap (wordAt s) z
+
+  pair-rises : SecondTells i (datomAt s at) (datomAt s (at + 32)) → WordsRise s p q → Rises (orderIn i h) s at
+  pair-rises t (inl l) =
+      less-named _ (sym (less-first i h (datomAt s at) (datomAt s (at + 32)) (rw (word-there s at (first i), behind (first i), ← e) l))) .0
+  pair-rises t (inr l) =
+      less-named _
+      (sym
+      (less-two i h (datomAt s at) (datomAt s (at + 32)) t (rw (word-there s at (first i), behind (first i), ← e) (l .0))
+      (rw (word-there s at (second i), behind (second i), ← f) (l .1)))) .0
+
+-- four of them, in each order
+module _ (h s : List ℕ) (at : ℕ) where
+  pub four-eavt : FourWordsRise s at (at + 8) → FourRise (orderIn Eavt h) s at
+  four-eavt w = (
+    pair-rises Eavt h s at _ _ (omega arith) (omega arith) tt (w .0),
+    pair-rises Eavt h s (at + 32) _ _ (omega arith) (omega arith) tt (w .1),
+    pair-rises Eavt h s (at + 64) _ _ (omega arith) (omega arith) tt (w .2),
+    pair-rises Eavt h s (at + 96) _ _ (omega arith) (omega arith) tt (w .3),
+  )
+
+  pub four-aevt : FourWordsRise s (at + 8) at → FourRise (orderIn Aevt h) s at
+  four-aevt w = (
+    pair-rises Aevt h s at _ _ (omega arith) (omega arith) tt (w .0),
+    pair-rises Aevt h s (at + 32) _ _ (omega arith) (omega arith) tt (w .1),
+    pair-rises Aevt h s (at + 64) _ _ (omega arith) (omega arith) tt (w .2),
+    pair-rises Aevt h s (at + 96) _ _ (omega arith) (omega arith) tt (w .3),
+  )
+
+  -- by value: those of all five are integers
+  pub four-avet : FourIntegers s at → wordAt s (at + 144) < 2 ^ 62 → FourWordsRise s (at + 8) (at + 16) → FourRise (orderIn Avet h) s at
   unfolding datomAt
-  rises-attribute by e h =
-      let k : at + 32 + 8 ≡ at + 40 = omega arith in
-      less-named _ (sym (by (datomAt s at) (datomAt s (at + 32)) e (rw k h))) .0
+  four-avet v z w =
+      let a : at + 32 + 16 ≡ at + 48 = omega arith in
+      let b : at + 32 + 32 + 16 ≡ at + 80 = omega arith in
+      let c : at + 64 + 16 ≡ at + 80 = omega arith in
+      let d : at + 64 + 32 + 16 ≡ at + 112 = omega arith in
+      let e : at + 96 + 16 ≡ at + 112 = omega arith in
+      let f : at + 96 + 32 + 16 ≡ at + 144 = omega arith in (
+        pair-rises Avet h s at _ _ (omega arith) (omega arith) (v .0, rw a (v .1)) (w .0),
+        pair-rises Avet h s (at + 32) _ _ (omega arith) (omega arith) (rw a (v .1), rw b (v .2)) (w .1),
+        pair-rises Avet h s (at + 64) _ _ (omega arith) (omega arith) (rw c (v .2), rw d (v .3)) (w .2),
+        pair-rises Avet h s (at + 96) _ _ (omega arith) (omega arith) (rw e (v .3), rw f z) (w .3),
+      )
 
 -- of an order that lets every inline integer be stored
 module _ (t : DatomOrd) (plain : (d : Datom) → d .value .0 < 2 ^ 62 → t .stored d ≡ true) (k : ℕ) (s : List ℕ) where

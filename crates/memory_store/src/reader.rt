@@ -12,48 +12,16 @@ ghost use Rattle.store.specs.Words.{wordAt, cells};
 ghost use Rattle.store.specs.Page.{page, pageOf};
 ghost use mathlib.Core.List.{List};
 ghost use Rattle.datom.specs.Datom.{datomsOf, storedDatom};
+ghost use Rattle.index.specs.declared.Index.the-variants.{Eavt, Aevt, Avet};
 ghost use Rattle.index.specs.Order.{orderIn};
 ghost use Rattle.rules.specs.Page.{nodeOf, all, rising, older, childRules, readPage};
 ghost use Rattle.memory_store.specs.Reading.{said};
-ghost use Rattle.memory_store.specs.Fours.{Rises, FourRise, FourIntegers, FourOlder, SameFrom};
+ghost use Rattle.memory_store.specs.Fours.{FourIntegers, WordsRise, FourWordsRise, FourOlder, SameFrom};
 
 // A page is unreadable by a rule, or it has a level and a count.
 pub enum Reading {
     Broken(Rule),
     Good { level: usize, count: usize },
-}
-
-// Whether the datom at byte `at` is below the one behind it by entity and attribute alone, so whatever the heap holds.
-fn pair_rises(s: &[u8], at: usize, by: Index) -> bool
-    requires { ⌜ at + 48 ≤ length (now s) ⌝ }
-    ensures { λ r. ⌜ (r ≡ true → (h : List ℕ) → Rises (orderIn by h) (now (s .entry)) at) ⌝ }
-{
-    let first = store::word(s, at);
-    let second = store::word(s, at + 32);
-    if first < second {
-        return true;
-    }
-    if first != second {
-        return false;
-    }
-    store::word(s, at + 8) < store::word(s, at + 40)
-}
-
-// Whether four datoms from byte `at` on and the one behind them do.
-fn four_rise(s: &[u8], at: usize, by: Index) -> bool
-    requires { ⌜ at + 144 ≤ length (now s) ⌝ }
-    ensures { λ r. ⌜ (r ≡ true → (h : List ℕ) → FourRise (orderIn by h) (now (s .entry)) at) ⌝ }
-{
-    if !pair_rises(s, at, by) {
-        return false;
-    }
-    if !pair_rises(s, at + 32, by) {
-        return false;
-    }
-    if !pair_rises(s, at + 64, by) {
-        return false;
-    }
-    pair_rises(s, at + 96, by)
 }
 
 // Whether the values of four datoms from byte `at` on are integers. The bits of all four are looked at as one number.
@@ -66,23 +34,107 @@ fn four_integers(s: &[u8], at: usize) -> bool
     (front | back) < Value::TAG_EXTERNAL
 }
 
-// How many of the k datoms need no further look: four at a time, for as long as they are integers and rise by entity and
-// attribute. Of most pages that leaves four datoms at most.
-fn plain_front(s: &[u8], k: usize, by: Index) -> usize
+// Whether the word at p is below the one 32 bytes behind it, or is the same and the word at q is.
+fn words_rise(s: &[u8], p: usize, q: usize) -> bool
+    requires { ⌜ (p + 40 ≤ length (now s)) × (q + 40 ≤ length (now s)) ⌝ }
+    ensures { λ r. ⌜ (r ≡ true → WordsRise (now (s .entry)) p q) ⌝ }
+{
+    let first = store::word(s, p);
+    let second = store::word(s, p + 32);
+    if first < second {
+        return true;
+    }
+    if first != second {
+        return false;
+    }
+    store::word(s, q) < store::word(s, q + 32)
+}
+
+// Whether the words at p and q of four datoms and of the one behind them do.
+fn four_words_rise(s: &[u8], p: usize, q: usize) -> bool
+    requires { ⌜ (p + 136 ≤ length (now s)) × (q + 136 ≤ length (now s)) ⌝ }
+    ensures { λ r. ⌜ (r ≡ true → FourWordsRise (now (s .entry)) p q) ⌝ }
+{
+    if !words_rise(s, p, q) {
+        return false;
+    }
+    if !words_rise(s, p + 32, q + 32) {
+        return false;
+    }
+    if !words_rise(s, p + 64, q + 64) {
+        return false;
+    }
+    words_rise(s, p + 96, q + 96)
+}
+
+// How many of the k datoms need no further look: four at a time, for as long as they are integers and rise by the first two words of the
+// order, so whatever the heap holds. Of most pages that leaves four datoms at most. A loop for each order, so that none asks in its turns
+// which it is.
+fn plain_front_eavt(s: &[u8], k: usize) -> usize
     requires { ⌜ 32 * k ≤ length (now s) ⌝ }
-    ensures { λ r. ⌜ (r ≤ k) × ((h : List ℕ) → SameFrom (orderIn by h) k (now (s .entry)) 0 r) ⌝ }
+    ensures { λ r. ⌜ (r ≤ k) × ((h : List ℕ) → SameFrom (orderIn Eavt h) k (now (s .entry)) 0 r) ⌝ }
 {
     let mut i = 0;
     while i + 4 < k {
-        if !four_rise(s, 32 * i, by) {
+        if !four_integers(s, 32 * i) {
             return i;
         }
-        if !four_integers(s, 32 * i) {
+        if !four_words_rise(s, 32 * i, 32 * i + 8) {
             return i;
         }
         i += 4;
     }
     i
+}
+
+fn plain_front_aevt(s: &[u8], k: usize) -> usize
+    requires { ⌜ 32 * k ≤ length (now s) ⌝ }
+    ensures { λ r. ⌜ (r ≤ k) × ((h : List ℕ) → SameFrom (orderIn Aevt h) k (now (s .entry)) 0 r) ⌝ }
+{
+    let mut i = 0;
+    while i + 4 < k {
+        if !four_integers(s, 32 * i) {
+            return i;
+        }
+        if !four_words_rise(s, 32 * i + 8, 32 * i) {
+            return i;
+        }
+        i += 4;
+    }
+    i
+}
+
+// By value the datom behind the four must have an integer, too: a constant may have any content.
+fn plain_front_avet(s: &[u8], k: usize) -> usize
+    requires { ⌜ 32 * k ≤ length (now s) ⌝ }
+    ensures { λ r. ⌜ (r ≤ k) × ((h : List ℕ) → SameFrom (orderIn Avet h) k (now (s .entry)) 0 r) ⌝ }
+{
+    let mut i = 0;
+    while i + 4 < k {
+        if !four_integers(s, 32 * i) {
+            return i;
+        }
+        if Value::TAG_EXTERNAL <= store::word(s, 32 * i + 144) {
+            return i;
+        }
+        if !four_words_rise(s, 32 * i + 8, 32 * i + 16) {
+            return i;
+        }
+        i += 4;
+    }
+    i
+}
+
+// The same in a tree's order.
+fn plain_front(s: &[u8], k: usize, by: Index) -> usize
+    requires { ⌜ 32 * k ≤ length (now s) ⌝ }
+    ensures { λ r. ⌜ (r ≤ k) × ((h : List ℕ) → SameFrom (orderIn by h) k (now (s .entry)) 0 r) ⌝ }
+{
+    match by {
+        Index::Eavt => plain_front_eavt(s, k),
+        Index::Aevt => plain_front_aevt(s, k),
+        Index::Avet => plain_front_avet(s, k),
+    }
 }
 
 // Every one of the k datoms from index `from` on may be stored: only their values are looked at.

@@ -533,7 +533,7 @@ each-told = refl
 
 -- a store of 256-byte pages, of a page count and a heap length
 abbrev recorded : ℕ → ℕ → StoreRecord
-recorded n used = record { size = 256; count = n; heap = used }
+recorded n used = record { size = 256; count = n; heap = used; order = 0 }
 
 -- "the replicator's four words stay": 7, the given root, no pages, page 2; and the insert that tells the fault says Level, 1
 words-stay :

@@ -9,6 +9,9 @@ use Rattle.store.specs.Page.{page, none}
 use Rattle.store.specs.Size.{capacity}
 use Rattle.datom.specs.declared.Datom.{Datom}
 use Rattle.datom.specs.Datom.{datomOf}
+use Rattle.index.specs.declared.Index.{Index}
+use Rattle.index.specs.declared.Named.{Named}
+use Rattle.index.specs.declared.Named.the-variants.{By, Unknown}
 use Rattle.index.specs.declared.Order.{Order}
 use Rattle.index.specs.declared.Order.the-variants.{Less, Equal, Greater}
 use Rattle.index.specs.Order.{DatomOrd, named}
@@ -21,6 +24,11 @@ use Rattle.probe.specs.declared.Look.the-variants.{Unread, Good}
 
 abbrev pub nothing : ℕ
 nothing = 0xffff_ffff_ffff_ffff
+
+-- in the order that a number names, or what is said of one that is unknown
+abbrev pub inOrder : {A : Type 0} → A → (Index → A) → Named → A
+inOrder otherwise f (By i) = f i
+inOrder otherwise f Unknown = otherwise
 
 -- a page that is not readable, with the number of the first broken rule, or what it holds
 pub data Seen : Type 0 where

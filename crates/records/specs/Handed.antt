@@ -22,7 +22,7 @@ use Rattle.answer.specs.declared.Refusal.the-variants.{BadStore, TooMany}
 use Rattle.rules.specs.Lookup.{Finding, clear, found}
 use Rattle.rules.specs.Store.{orElse, badStore, badScratch}
 use Rattle.rules.specs.Insert.{Outcome, refuse, storeFault, countFault, insertCounted, initialiseCounted, bytesFault, batchOf, insert, insertBytes, initialise, initialiseBytes}
-use Rattle.rules.specs.Calls.{extentOf, ordOf, heapFault, insertCall, initialiseCall, insertBytesCall, initialiseBytesCall}
+use Rattle.rules.specs.Calls.{extentOf, ordOf, recordFault, badRoom, insertCall, initialiseCall, insertBytesCall, initialiseBytesCall}
 use Rattle.records.specs.Laid.{laidCount, Laid, laid-all, laid-fits, firstOf, first-length}
 
 -- the bytes of n records, or of 129 for any number of them over 128
@@ -161,18 +161,18 @@ pub insert-first :
 insert-first x st n ds s L t root =
     ap (λ (k : ℕ). insertBytes t x st (length s) root (handedBytes k s)) (sym (first-length n ds)) ∙ insert-handed x st (firstOf n ds) s L t root
 
--- the calls: a bad heap is refused of the bytes and of the records alike
+-- the calls: what the record brings is refused of the bytes and of the records alike
 module _ (r : StoreRecord) (st h : List ℕ) (ds : List Datom) (s : List ℕ) (L : Laid ds s) where
   pub insert-call-handed : (root : PageId) → insertBytesCall r st h (length s) root (handedBytes (length ds) s) ≡ insertCall r st h (length s) root ds
   unfolding insertBytesCall insertCall
-  insert-call-handed root = ap (orElse refuse (heapFault r h)) (insert-handed (extentOf r) st ds s L (ordOf r h) root)
+  insert-call-handed root = ap (orElse refuse (recordFault r h (badRoom r st (length s)))) (insert-handed (extentOf r) st ds s L (ordOf r h) root)
 
   pub initialise-call-handed : initialiseBytesCall r st h (length s) (handedBytes (length ds) s) ≡ initialiseCall r st h (length s) ds
   unfolding initialiseBytesCall initialiseCall
-  initialise-call-handed = ap (orElse refuse (heapFault r h)) (initialise-handed (extentOf r) st ds s L (ordOf r h))
+  initialise-call-handed = ap (orElse refuse (recordFault r h (badRoom r st (length s)))) (initialise-handed (extentOf r) st ds s L (ordOf r h))
 
 pub insert-call-first :
     (r : StoreRecord) (st h : List ℕ) (n : ℕ) (ds : List Datom) (s : List ℕ) → Laid (firstOf n ds) s → (root : PageId) →
     insertBytesCall r st h (length s) root (handedBytes n s) ≡ insertCall r st h (length s) root (firstOf n ds)
 unfolding insertBytesCall insertCall
-insert-call-first r st h n ds s L root = ap (orElse refuse (heapFault r h)) (insert-first (extentOf r) st n ds s L (ordOf r h) root)
+insert-call-first r st h n ds s L root = ap (orElse refuse (recordFault r h (badRoom r st (length s)))) (insert-first (extentOf r) st n ds s L (ordOf r h) root)

@@ -41,6 +41,8 @@ const NAMED: u64 = 8;
 
 const HEAP: u64 = 9;
 
+const STORED: u64 = 10;
+
 // Both oracles gave the answer.
 const BOTH: u64 = 3;
 
@@ -80,7 +82,7 @@ fn after(
     at: usize,
     area: &[u8; 32],
     place: usize,
-    counts: &mut [u64; 14],
+    counts: &mut [u64; 16],
 ) -> StoreRecord
     requires { ⌜ at ≤ 600 ⌝ }
 {
@@ -92,6 +94,7 @@ fn after(
         size: stored.size,
         count: std::num::wrapping_add_u64(stored.count, pages),
         heap: stored.heap,
+        order: stored.order,
     }
 }
 
@@ -101,7 +104,7 @@ fn initialise(
     scratch: &mut [u8],
     stored: StoreRecord,
     recorded: &[u8],
-    counts: &mut [u64; 14],
+    counts: &mut [u64; 16],
 ) -> StoreRecord {
     let mut area = [0u8; 32];
     let block = lent::block(stored);
@@ -133,7 +136,7 @@ fn insert(
     scratch: &mut [u8],
     stored: StoreRecord,
     recorded: &[u8],
-    counts: &mut [u64; 14],
+    counts: &mut [u64; 16],
 ) -> StoreRecord {
     let mut area = [0u8; 32];
     let block = lent::block(stored);
@@ -209,7 +212,7 @@ fn is_listed(
     next_datom(store, heap, stored, cursor, &mut datom) == 32
 }
 
-fn list(store: &[u8], heap: &[u8], stored: StoreRecord, recorded: &[u8], counts: &mut [u64; 14]) {
+fn list(store: &[u8], heap: &[u8], stored: StoreRecord, recorded: &[u8], counts: &mut [u64; 16]) {
     let mut area = [0u8; 32];
     let block = lent::block(stored);
     let mut cursor = [0u8; 264];
@@ -234,7 +237,7 @@ fn list(store: &[u8], heap: &[u8], stored: StoreRecord, recorded: &[u8], counts:
 }
 
 // Sound is 0 with 0 for its page, Unsound 33 with the page of the first fault.
-fn check(store: &[u8], heap: &[u8], stored: StoreRecord, recorded: &[u8], counts: &mut [u64; 14]) {
+fn check(store: &[u8], heap: &[u8], stored: StoreRecord, recorded: &[u8], counts: &mut [u64; 16]) {
     let mut area = [0u8; 32];
     let block = lent::block(stored);
     let root = record::word(recorded, 2);
@@ -253,7 +256,7 @@ fn check(store: &[u8], heap: &[u8], stored: StoreRecord, recorded: &[u8], counts
 }
 
 // The page of a record goes into the store: damage, or its repair.
-fn poke(store: &mut [u8], stored: StoreRecord, recorded: &[u8], counts: &mut [u64; 14]) {
+fn poke(store: &mut [u8], stored: StoreRecord, recorded: &[u8], counts: &mut [u64; 16]) {
     let at = bytes_of(stored.size, record::word(recorded, 1));
     let page = record::part(recorded, 16, bytes_of(stored.size, 1));
     if (store.len() as u64) < at + (page.len() as u64) {
@@ -265,19 +268,20 @@ fn poke(store: &mut [u8], stored: StoreRecord, recorded: &[u8], counts: &mut [u6
 }
 
 // The page count and all pages at the end of a history.
-fn end(store: &[u8], stored: StoreRecord, recorded: &[u8], counts: &mut [u64; 14]) {
+fn end(store: &[u8], stored: StoreRecord, recorded: &[u8], counts: &mut [u64; 16]) {
     let all = record::part(store, 0, bytes_of(stored.size, stored.count));
     let is_same = stored.count == record::word(recorded, 1)
         && record::digest(0, all) == record::word(recorded, 2);
     tally::settle(counts, is_same, tally::ENDED);
 }
 
-fn begin(recorded: &[u8], counts: &mut [u64; 14]) -> StoreRecord {
+fn begin(recorded: &[u8], counts: &mut [u64; 16]) -> StoreRecord {
     tally::add(counts, tally::HISTORIES, 1);
     StoreRecord {
         size: record::word(recorded, 1),
         count: 0,
         heap: 0,
+        order: 0,
     }
 }
 
@@ -287,7 +291,7 @@ fn look(
     heap: &[u8],
     stored: StoreRecord,
     recorded: &[u8],
-    counts: &mut [u64; 14],
+    counts: &mut [u64; 16],
 ) {
     let kind = record::word(recorded, 0);
     if kind == LIST {
@@ -321,7 +325,7 @@ fn lay(
     heap: &mut [u8],
     stored: StoreRecord,
     recorded: &[u8],
-    counts: &mut [u64; 14],
+    counts: &mut [u64; 16],
 ) -> StoreRecord {
     let at = record::word(recorded, 1);
     let bytes = record::behind(recorded, 16);
@@ -339,6 +343,17 @@ fn lay(
         size: stored.size,
         count: stored.count,
         heap: later(stored.heap, end),
+        order: stored.order,
+    }
+}
+
+// What the store's record says from here on, true or not.
+fn said(recorded: &[u8]) -> StoreRecord {
+    StoreRecord {
+        size: record::word(recorded, 1),
+        count: record::word(recorded, 2),
+        heap: record::word(recorded, 3),
+        order: record::word(recorded, 4),
     }
 }
 
@@ -349,14 +364,20 @@ fn answered(
     scratch: &mut [u8],
     stored: StoreRecord,
     recorded: &[u8],
-    counts: &mut [u64; 14],
+    counts: &mut [u64; 16],
 ) -> StoreRecord {
     let kind = record::word(recorded, 0);
     if kind == BEGIN {
         return begin(recorded, counts);
     }
+    if kind == STORED {
+        return said(recorded);
+    }
     if kind < POKE && record::word(recorded, 1) == BOTH {
         tally::add(counts, tally::BY_BOTH, 1);
+    }
+    if kind < POKE {
+        tally::add_order(counts, stored.order);
     }
     if kind == INITIALISE {
         return initialise(store, heap, scratch, stored, recorded, counts);
@@ -380,7 +401,7 @@ pub fn replay(
     scratch: &mut [u8],
     stored: StoreRecord,
     recorded: &[u8],
-    counts: &mut [u64; 14],
+    counts: &mut [u64; 16],
 ) -> StoreRecord {
     if record::word(recorded, 0) == HEAP {
         return lay(heap, stored, recorded, counts);

@@ -22,7 +22,7 @@ fn replay_next(
     scratch: &mut [u8],
     recorded: &mut [u8],
     stored: StoreRecord,
-    counts: &mut [u64; 14],
+    counts: &mut [u64; 16],
 ) -> Turn {
     let n = record::next(recorded);
     if n == 0 {
@@ -44,7 +44,7 @@ fn replay_all(
     heap: &mut [u8; lent::HEAP],
     scratch: &mut [u8; lent::SCRATCH],
     recorded: &mut [u8; 65536],
-    counts: &mut [u64; 14],
+    counts: &mut [u64; 16],
 ) {
     let mut turns: u64 = 1000000;
     let mut turn = Turn {
@@ -53,6 +53,7 @@ fn replay_all(
             size: 0,
             count: 0,
             heap: 0,
+            order: 0,
         },
     };
     while 0 < turns && turn.is_any {
@@ -67,7 +68,7 @@ fn main() {
     let mut heap = [0u8; lent::HEAP];
     let mut scratch = [0u8; lent::SCRATCH];
     let mut recorded = [0u8; 65536];
-    let mut counts = [0u64; 14];
+    let mut counts = [0u64; 16];
     replay_all(
         &mut store,
         &mut heap,

@@ -28,22 +28,36 @@ pub const HELD: usize = 12;
 
 pub const NAMED: usize = 13;
 
+pub const IN_AEVT: usize = 14;
+
+pub const IN_AVET: usize = 15;
+
 // How many counts there are.
-pub const PLACES: usize = 14;
+pub const PLACES: usize = 16;
 
 // n more at a place.
-pub fn add(counts: &mut [u64; 14], place: usize, n: u64) {
+pub fn add(counts: &mut [u64; 16], place: usize, n: u64) {
     if place < PLACES {
         counts[place] = std::num::wrapping_add_u64(counts[place], n);
     }
 }
 
 // One more at this place if what was answered is what was recorded, and else one more that differs.
-pub fn settle(counts: &mut [u64; 14], is_same: bool, place: usize) {
+pub fn settle(counts: &mut [u64; 16], is_same: bool, place: usize) {
     if is_same {
         add(counts, place, 1);
     } else {
         add(counts, DIFFERENT, 1);
+    }
+}
+
+// One more answer in a further order.
+pub fn add_order(counts: &mut [u64; 16], order: u64) {
+    if order == 1 {
+        add(counts, IN_AEVT, 1);
+    }
+    if order == 2 {
+        add(counts, IN_AVET, 1);
     }
 }
 
@@ -52,7 +66,7 @@ pub fn line(n: u64, what: &[u8]) {
     io::write_all(1, what);
 }
 
-pub fn print(counts: &[u64; 14]) {
+pub fn print(counts: &[u64; 16]) {
     line(counts[HISTORIES], b" histories begun\n");
     line(counts[ENDED], b" histories ended with the recorded store\n");
     line(counts[INITIALISED], b" initialise\n");
@@ -78,5 +92,7 @@ pub fn print(counts: &[u64; 14]) {
         counts[BY_BOTH],
         b" answers by both oracles, the others by the patched one\n",
     );
+    line(counts[IN_AEVT], b" answers by attribute, entity, value\n");
+    line(counts[IN_AVET], b" answers by attribute, value, entity\n");
     line(counts[DIFFERENT], b" differ\n");
 }

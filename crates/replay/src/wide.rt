@@ -21,6 +21,7 @@ fn stored(tree: Tree) -> StoreRecord {
         size: SIZE,
         count: tree.pages,
         heap: 0,
+        order: 0,
     }
 }
 

@@ -12,13 +12,15 @@ use Rattle.store.specs.Page.{page, none}
 use Rattle.datom.specs.declared.Datom.{Datom}
 use Rattle.answer.specs.declared.Fault.the-variants.{Missing, Breaks, OutOfBounds}
 use Rattle.answer.specs.declared.Rule.the-variants.{Level, Count, Form, Order, LeafChild, LastChild, ChildId}
-use Rattle.answer.specs.declared.Refusal.the-variants.{BadStore, NoPage, Damaged, TooTall, NoRoom}
+use Rattle.answer.specs.declared.Refusal.the-variants.{BadStore, NoPage, Damaged, TooTall, NoRoom, BadOrder}
 use Rattle.answer.specs.declared.Answer.the-variants.{Refused}
 use Rattle.answer.specs.declared.Check.the-variants.{Sound, Unsound}
+use Rattle.answer.specs.declared.Check.the-variants as check
 use Rattle.rules.specs.Page.{Node, Read, broken, good, readPage, encodePage}
 use Rattle.rules.specs.Tree.{faulty, Env, stop, go, put}
 use Rattle.rules.specs.Insert.{insert, insertBytes}
 use Rattle.rules.specs.Entry.{insertReply}
+use Rattle.rules.specs.Calls.{insertBytesCall, checkCall}
 use Rattle.rules.specs.Listing.{Listed, whole, cut, startList, listing}
 use Rattle.rules.specs.Check.{checkTree}
 use Rattle.rules.specs.Table.{d, eavt, run, scratch, Place, calls, small}
@@ -153,7 +155,28 @@ store-first = refl
 
 -- a record with an empty heap
 abbrev recordOf : Extent → StoreRecord
-recordOf x = record { size = x .size; count = x .count; heap = 0 }
+recordOf x = record { size = x .size; count = x .count; heap = 0; order = 0 }
+
+-- document 02, Three: "13 BadOrder for an unknown order number, straight after 1", so behind a page size that is unknown and scratch that
+-- is too short, and before a batch of one byte and a root that is no page
+abbrev unordered : ℕ → StoreRecord
+unordered size = record { size = size; count = 0; heap = 0; order = 3 }
+
+bad-size-first : checkCall (unordered 257) [] [] (page 5) ≡ check.Refused BadStore
+unfolding rules
+bad-size-first = refl
+
+scratch-first : insertBytesCall (unordered 256) [] [] 7 (page 5) (0 ∷ []) ≡ record { answer = Refused BadStore; pages = [] }
+unfolding rules
+scratch-first = refl
+
+order-before-batch : insertBytesCall (unordered 256) [] [] scratch (page 5) (0 ∷ []) ≡ record { answer = Refused BadOrder; pages = [] }
+unfolding rules
+order-before-batch = refl
+
+order-before-root : checkCall (unordered 256) [] [] (page 5) ≡ check.Refused BadOrder
+unfolding rules
+order-before-root = refl
 
 -- four words: 6, the given root, 0 pages, index 0, of d7 sent again after example e
 words-repeated :

@@ -11,6 +11,7 @@ pub mod Check
 pub mod Held
 pub mod Append
 pub mod Calls
+pub mod Recorded
 pub mod Table
 pub mod Open
 pub mod Starred

@@ -37,6 +37,8 @@ pub struct StoreRecord {
     pub count: u64,
     // The bytes of the heap in use; those past them are free.
     pub heap: u64,
+    // The order of the tree, by its number.
+    pub order: u64,
 }
 
 // What of the record is about pages.

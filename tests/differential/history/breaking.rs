@@ -1,6 +1,6 @@
 //! Pages that cannot be read: each rule of document 01's "Readable" is the first to be broken about as often.
 
-use harness::{bad_value, capacity, relevel, Datom, Heap, Node, Random, Rule, NONE};
+use harness::{bad_value, capacity, relevel, Datom, Node, Pages, Random, Rule, NONE};
 
 /// How often another level is tried for a page that is to stay readable.
 const ATTEMPTS: usize = 8;
@@ -16,7 +16,8 @@ pub struct Broken {
 
 impl Broken {
     /// A rule of a readable page is broken, now and then some of those behind it too, and now and then the level is another besides.
-    pub fn of(old: &[u8], id: u64, heap: &Heap, random: &mut Random) -> Broken {
+    pub fn of(pages: &Pages, id: u64, random: &mut Random) -> Broken {
+        let old = pages.page(id).expect("a page in use");
         let mut node = Node::decode(old).expect("a readable page");
         let level = node.level;
         if random.one_in(4) {
@@ -27,20 +28,21 @@ impl Broken {
         // The first rule comes last: what it needs of the page is not undone.
         let chosen: Vec<Rule> = Rule::ALL[first + 1..].iter().copied().filter(|_| !is_alone && random.one_in(3)).collect();
         for &rule in chosen.iter().rev().chain([&Rule::ALL[first]]) {
-            break_rule(&mut node, id, rule, heap, random);
+            break_rule(&mut node, id, rule, pages, random);
         }
         let is_elsewhere = node.level != level;
         let mut bytes = old.to_vec();
         node.encode_over(&mut bytes);
         let in_header = [Rule::ALL[first]].into_iter().chain(chosen).filter(|&rule| break_header(&mut bytes, rule, random)).count();
-        Broken { bytes, rules: in_header + broken_rules(&node, id, heap), is_elsewhere }
+        Broken { bytes, rules: in_header + broken_rules(&node, id, pages), is_elsewhere }
     }
 }
 
 /// How many of the rules about datoms and children are broken; the order of malformed datoms is not asked.
-fn broken_rules(node: &Node, id: u64, heap: &Heap) -> usize {
-    let is_malformed = node.breaks(Rule::Form, id, heap);
-    Rule::ALL.into_iter().filter(|&rule| (rule != Rule::Order || !is_malformed) && node.breaks(rule, id, heap)).count()
+fn broken_rules(node: &Node, id: u64, pages: &Pages) -> usize {
+    let is_broken = |rule: Rule| node.breaks(rule, id, pages.order(), pages.heap());
+    let is_malformed = is_broken(Rule::Form);
+    Rule::ALL.into_iter().filter(|&rule| (rule != Rule::Order || !is_malformed) && is_broken(rule)).count()
 }
 
 /// Whether it is one of the two rules about the header, which is then broken.
@@ -56,13 +58,13 @@ fn break_header(page: &mut [u8], rule: Rule, random: &mut Random) -> bool {
 }
 
 /// Breaks a rule about datoms or children. A page of which it asks nothing is made one of which it does.
-fn break_rule(node: &mut Node, id: u64, rule: Rule, heap: &Heap, random: &mut Random) {
+fn break_rule(node: &mut Node, id: u64, rule: Rule, pages: &Pages, random: &mut Random) {
     match rule {
         Rule::Level | Rule::Count => {}
         Rule::Form => {
             at_least(node, 1);
             let place = random.below(node.datoms.len());
-            node.datoms[place][2] = bad_value(heap, random);
+            node.datoms[place][2] = bad_value(pages.heap(), random);
         }
         Rule::Order => {
             at_least(node, 2);
@@ -102,13 +104,14 @@ fn at_least(node: &mut Node, count: usize) {
 }
 
 /// A page of another level that can be read; nothing where none is found, as of page 0, which can have no child.
-pub fn misplaced(old: &[u8], id: u64, heap: &Heap, random: &mut Random) -> Option<Vec<u8>> {
+pub fn misplaced(pages: &Pages, id: u64, random: &mut Random) -> Option<Vec<u8>> {
+    let old = pages.page(id)?;
     let level = Node::decode(old)?.level;
     (0..ATTEMPTS).find_map(|_| {
         let mut node = Node::decode(old)?;
         relevel(&mut node, id, random);
         let mut bytes = old.to_vec();
         node.encode_over(&mut bytes);
-        if node.level != level && node.is_readable(id, heap) { Some(bytes) } else { None }
+        if node.level != level && node.is_readable(id, pages.order(), pages.heap()) { Some(bytes) } else { None }
     })
 }

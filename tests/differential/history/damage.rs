@@ -3,7 +3,7 @@
 use std::collections::BTreeSet;
 use std::rc::Rc;
 
-use harness::{capacity, readable_damage, spoiled, Answer, Datom, Heap, Node, Oracle, Plan, Verdict, Which, NONE};
+use harness::{capacity, readable_damage, spoiled, Answer, Datom, Heap, Node, Oracle, Order, Plan, Verdict, Which, NONE};
 
 use super::breaking::{misplaced, Broken};
 use super::reading::Reading;
@@ -67,7 +67,7 @@ impl History<'_> {
         };
         self.damage(page, new);
         self.reading = Some(Reading::Check(root));
-        let oracle = Oracle { which: Which::Patched, order: self.shape.order };
+        let oracle = Oracle { which: Which::Patched, by: self.shape.by };
         let by_rust = match oracle.check(&self.patched, root) {
             Verdict::Sound => None,
             // The message names bounds and a page, or the two levels that it compared.
@@ -105,7 +105,7 @@ impl History<'_> {
         }
         let mut new = self.patched.page(page)?.to_vec();
         node.encode_over(&mut new);
-        if node.is_readable(page, self.patched.heap()) { Some((page, new)) } else { None }
+        if node.is_readable(page, self.patched.order(), self.patched.heap()) { Some((page, new)) } else { None }
     }
 
     /// A page that breaks one of the rules of a readable one.
@@ -138,7 +138,7 @@ impl History<'_> {
         let heap = spoiled(&sound, word, &mut self.random);
         self.tally.spoiled += 1;
         self.set_heap(heap, Some(&sound));
-        self.read_spoiled(at)?;
+        self.read_otherwise(at)?;
         self.set_heap(Heap::clone(&sound), None);
         Ok(())
     }
@@ -153,8 +153,21 @@ impl History<'_> {
         let heap = Heap::of_bytes(&self.heap.shown(64)[..other]);
         self.tally.other_lengths += 1;
         self.set_heap(heap, None);
-        self.read_spoiled(at)?;
+        self.read_otherwise(at)?;
         self.set_heap(Heap::clone(&sound), None);
+        Ok(())
+    }
+
+    /// The store is said to have another order than the one that it was written in: what is damaged then, and what happens to be readable, by
+    /// the rules.
+    pub(super) fn other_order(&mut self) -> Result<(), Difference> {
+        let at = self.some_tree();
+        let others: Vec<Order> = Order::ALL.into_iter().filter(|&order| order != self.shape.order).collect();
+        let other = self.random.pick(&others);
+        self.tally.other_orders[other as usize] += 1;
+        self.patched.set_order(other);
+        self.read_otherwise(at)?;
+        self.patched.set_order(self.shape.order);
         Ok(())
     }
 
@@ -166,7 +179,7 @@ impl History<'_> {
         self.patched.set_heap(&Rc::new(heap));
     }
 
-    fn read_spoiled(&mut self, at: usize) -> Result<(), Difference> {
+    fn read_otherwise(&mut self, at: usize) -> Result<(), Difference> {
         let root = self.trees[at].root;
         self.reading = Some(Reading::Check(root));
         self.reader().check(root)?;
@@ -194,10 +207,12 @@ impl History<'_> {
     /// A batch whose lookups do not come to their end: 6 and 7 in whichever order they are met.
     fn look_up_damaged(&mut self, at: usize) -> Result<(), Difference> {
         let entry = Entry::Insert(self.trees[at].root);
-        let Some(datoms) = self.some_batch(at) else {
+        let Some(mut datoms) = self.some_batch(at) else {
             return Ok(());
         };
-        if let Some((number, index)) = batch_fault(self.patched.heap(), &datoms) {
+        // The store may be read in another order than it was written in.
+        datoms.sort_by(|left, right| self.patched.compare(left, right));
+        if let Some((number, index)) = batch_fault(self.patched.order(), self.patched.heap(), &datoms) {
             return self.refuse(entry, &datoms, number, index);
         }
         match (Model { pages: &self.patched }).first_met(self.trees[at].root, &datoms) {
@@ -231,8 +246,7 @@ impl History<'_> {
 
     /// Damages a page so that it cannot be read.
     fn break_page(&mut self, page: u64) {
-        let old = self.patched.page(page).expect("a page in use").to_vec();
-        let broken = Broken::of(&old, page, self.patched.heap(), &mut self.random);
+        let broken = Broken::of(&self.patched, page, &mut self.random);
         self.tally.damaged_unreadable += 1;
         self.tally.broken_twice += (broken.rules > 1) as u64;
         self.tally.broken_elsewhere += broken.is_elsewhere as u64;
@@ -241,10 +255,9 @@ impl History<'_> {
 
     /// Damages a page so that it cannot be read, or has another level where one is asked for; and what that is called.
     fn close_page(&mut self, page: u64, is_level_asked: bool) -> Result<Damaged, Difference> {
-        let old = self.patched.page(page).expect("a page in use").to_vec();
         let level = node(&self.patched, page).level as usize;
         let is_misplaced = is_level_asked && self.random.one_in(5);
-        match misplaced(&old, page, self.patched.heap(), &mut self.random).filter(|_| is_misplaced) {
+        match misplaced(&self.patched, page, &mut self.random).filter(|_| is_misplaced) {
             Some(new) => self.damage(page, new),
             None => self.break_page(page),
         }
@@ -263,7 +276,7 @@ impl History<'_> {
         for page in self.pages_beside(root, &datoms) {
             let before = self.patched.count();
             self.patched.lose(page);
-            let oracle = Oracle { which: Which::Patched, order: self.shape.order };
+            let oracle = Oracle { which: Which::Patched, by: self.shape.by };
             let outcome = ask(oracle, &mut self.patched, Entry::Insert(root), &datoms);
             self.patched.lose(NONE);
             let written = self.patched.bytes_from(before).to_vec();
@@ -300,7 +313,7 @@ impl History<'_> {
         };
         self.damage(page, new);
         let before = self.patched.count();
-        let oracle = Oracle { which: Which::Patched, order: self.shape.order };
+        let oracle = Oracle { which: Which::Patched, by: self.shape.by };
         let outcome = ask(oracle, &mut self.patched, Entry::Insert(root), &datoms);
         let written = self.patched.bytes_from(before).to_vec();
         self.patched.truncate(before);
@@ -339,7 +352,7 @@ impl History<'_> {
         if child.datoms.len() == capacity {
             return None;
         }
-        let at = child.datoms.iter().take_while(|held| self.patched.heap().compare(held, &datom).is_lt()).count();
+        let at = child.datoms.iter().take_while(|held| self.patched.compare(held, &datom).is_lt()).count();
         // The same datom, by another word where there is one.
         child.datoms.insert(at, self.supply.twin(&datom).unwrap_or(datom));
         child.children.insert(at, NONE);

@@ -23,7 +23,7 @@ impl History<'_> {
     pub(super) fn lay(&mut self) -> Result<(), Difference> {
         let (old, new) = (Rc::clone(self.patched.heap()), Rc::clone(self.supply.heap()));
         let constants = self.supply.constants()[self.laid..].to_vec();
-        let oracle = Oracle { which: Which::Patched, order: self.shape.order };
+        let oracle = Oracle { which: Which::Patched, by: self.shape.by };
         let appended = oracle.append(&old, &constants)?;
         if !appended.is_in(&new, &constants) {
             return Err(format!("the harness lays {:?} otherwise than the Rust", constants));

@@ -42,7 +42,7 @@ impl History<'_> {
         if self.trees.is_empty() {
             return Ok(());
         }
-        match self.random.below(19) {
+        match self.random.below(21) {
             0 | 1 => self.list_between(),
             2 => self.check_some(),
             11 | 12 => self.ask_some(),
@@ -55,6 +55,7 @@ impl History<'_> {
             10 => self.equal_while_writing(),
             16 | 17 => self.spoiled_constant(),
             18 => self.other_heap_length(),
+            19 | 20 => self.other_order(),
             _ => Ok(()),
         }
     }
@@ -75,7 +76,7 @@ impl History<'_> {
         }
         self.reading = Some(Reading::List(root, lower, upper));
         let put_in = self.supply.listing(&self.trees[at].held, &lower, &upper);
-        if self.patched.heap().compare(&lower, &upper).is_le() {
+        if self.patched.compare(&lower, &upper).is_le() {
             self.list_by_rust(root, &lower, &upper, &put_in)?;
         }
         let listed = self.reader().list(root, &lower, &upper, usize::MAX)?;
@@ -86,13 +87,13 @@ impl History<'_> {
     }
 
     fn list_by_rust(&mut self, root: u64, lower: &Datom, upper: &Datom, put_in: &[Datom]) -> Result<(), Difference> {
-        let order = self.shape.order;
+        let by = self.shape.by;
         for (which, pages) in [(Which::Patched, Some(&self.patched)), (Which::Plain, self.plain.as_ref())] {
             let Some(pages) = pages else {
                 continue;
             };
             let mut listed = Vec::new();
-            let ends = Oracle { which, order }.list(pages, root, lower, upper, &mut listed);
+            let ends = Oracle { which, by }.list(pages, root, lower, upper, &mut listed);
             if ends.is_err() || listed != put_in {
                 return Err(format!("the {:?} Rust lists {} datoms, {:?}, and {} were put in", which, listed.len(), ends, put_in.len()));
             }
@@ -115,7 +116,7 @@ impl History<'_> {
             window[place] = true;
         }
         let (one, other) = (self.supply.bound(&window, &mut self.random), self.supply.bound(&window, &mut self.random));
-        if self.patched.heap().compare(&one, &other).is_gt() && !self.random.one_in(8) { (other, one) } else { (one, other) }
+        if self.patched.compare(&one, &other).is_gt() && !self.random.one_in(8) { (other, one) } else { (one, other) }
     }
 
     /// A tree that these calls built is sound, by the Rust too.
@@ -124,7 +125,7 @@ impl History<'_> {
         let root = if self.random.one_in(20) { NONE } else { self.trees[at].root };
         self.reading = Some(Reading::Check(root));
         if root != NONE {
-            let oracle = Oracle { which: Which::Patched, order: self.shape.order };
+            let oracle = Oracle { which: Which::Patched, by: self.shape.by };
             if let Verdict::Unsound(page, message) = oracle.check(&self.patched, root) {
                 return Err(format!("the Rust finds a fault at page {}: {}", page, message));
             }
@@ -153,7 +154,9 @@ impl History<'_> {
 
     /// Some of the datoms by words of equal content.
     pub(super) fn ask_for(&mut self, root: u64, batch: &[usize]) -> Result<Option<Looked>, Difference> {
-        let datoms = self.by_other_words(batch);
+        let mut datoms = self.by_other_words(batch);
+        // The store may be read in another order than it was written in.
+        datoms.sort_by(|left, right| self.patched.compare(left, right));
         self.reading = Some(Reading::Held(root, datoms.clone()));
         self.reader().held(root, &datoms)
     }
@@ -300,7 +303,7 @@ impl History<'_> {
             let above = datoms(cursor.begin.pages[upper]);
             for lower in 0..upper {
                 let below = datoms(cursor.begin.pages[lower]);
-                let is_equal = |held: &Datom, datom: &Datom| self.patched.heap().compare(held, datom).is_eq();
+                let is_equal = |held: &Datom, datom: &Datom| self.patched.compare(held, datom).is_eq();
                 let shared = above.iter().enumerate().find_map(|(i, datom)| Some((i, below.iter().position(|held| is_equal(held, datom))?)));
                 if let Some((i, j)) = shared {
                     cursor.begin.indices[upper] = i as u64;

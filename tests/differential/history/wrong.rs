@@ -1,12 +1,13 @@
-//! Calls that read with wrong sizes, counts, areas, bounds, batches and roots, several at a time: the first number in document 01's order.
+//! Calls that read with wrong sizes, counts, orders, areas, bounds, batches and roots, several at a time: the first number in document 01's order.
 
-use harness::{bad_constant, capacity, Answer, Heap, Random, MALFORMED, MAX_VALUE, NONE};
+use harness::{bad_constant, capacity, Answer, Heap, Order, Random, MALFORMED, MAX_VALUE, NONE};
 
 use super::reading::Reading;
 use super::{History, MOST};
 use crate::library::{bytes_of, datoms_of, Asked, Beside, Lent, RECORD_BYTES};
 use crate::model::{batch_fault, Cursor, CURSOR_BYTES};
 use crate::reader::{same, Difference};
+use crate::tally::Asking;
 
 /// What the calls are given. Each number is 0 where a call has nothing to refuse here.
 struct Wrong<'a> {
@@ -33,6 +34,19 @@ impl Wrong<'_> {
         self.is_bad_extent() || heap_length > heap.len() as u64 || heap_length % 8 != 0
     }
 
+    /// What every call but a fetch asks of the record, or nothing where it is good: "13 BadOrder for an unknown order number, straight after 1".
+    fn record_fault(&self) -> Option<u64> {
+        match self.order() {
+            _ if self.is_bad_store() => Some(1),
+            None => Some(13),
+            Some(_) => None,
+        }
+    }
+
+    fn order(&self) -> Option<Order> {
+        Order::of_number(self.asked.beside.order)
+    }
+
     /// What the bounds and the batch name constants of.
     fn heap(&self) -> Heap {
         let Beside { heap, heap_length, .. } = self.asked.beside;
@@ -44,7 +58,7 @@ impl Wrong<'_> {
     }
 
     fn number_of_check(&self) -> u64 {
-        if self.is_bad_store() { 1 } else if self.is_bad_root() { 5 } else { 0 }
+        self.record_fault().unwrap_or(if self.is_bad_root() { 5 } else { 0 })
     }
 
     fn number_of_fetch(&self) -> u64 {
@@ -56,6 +70,8 @@ impl Wrong<'_> {
         let is_bad = |bound: &Vec<u8>| bound.len() != 32 || !datoms_of(bound).iter().all(|bound| heap.is_bound(bound));
         if self.is_bad_store() || self.cursor.len() != CURSOR_BYTES {
             1
+        } else if self.order().is_none() {
+            13
         } else if self.bounds.iter().any(is_bad) {
             10
         } else {
@@ -63,14 +79,14 @@ impl Wrong<'_> {
         }
     }
 
-    /// "after 1, 2, 3, 4 and 5", with 11 behind 3, and with the index of 3, 11 and 4.
+    /// "after 1, 2, 3, 4 and 5", with 13 behind 1 and 11 behind 3, and with the index of 3, 11 and 4.
     fn number_of_held(&self) -> (u64, u64) {
-        let datoms = datoms_of(&self.batch);
-        if self.is_bad_store() {
-            (1, 0)
+        let (datoms, order) = (datoms_of(&self.batch), self.order().unwrap_or_default());
+        if let Some(number) = self.record_fault() {
+            (number, 0)
         } else if self.batch.len() % 32 != 0 || datoms.len() > MOST {
             (2, 0)
-        } else if let Some(refused) = batch_fault(&self.heap(), &datoms) {
+        } else if let Some(refused) = batch_fault(order, &self.heap(), &datoms) {
             refused
         } else {
             (self.number_of_check(), 0)
@@ -78,7 +94,13 @@ impl Wrong<'_> {
     }
 
     fn number_of_step(&self) -> u64 {
-        (self.is_bad_store() || self.cursor.len() != CURSOR_BYTES || self.datom != 32) as u64
+        if self.is_bad_store() || self.cursor.len() != CURSOR_BYTES || self.datom != 32 {
+            1
+        } else if self.order().is_none() {
+            13
+        } else {
+            0
+        }
     }
 
     /// The answer of a refused call; an area that is not written to tells the number alone.
@@ -88,10 +110,9 @@ impl Wrong<'_> {
     }
 
     /// Makes the calls that are to be refused, and those that leave no area behind in any case; and says which numbers there were.
-    fn compare(&self, random: &mut Random) -> Result<[u64; 5], Difference> {
+    fn compare(&self, random: &mut Random) -> Result<[(Asking, u64); 5], Difference> {
         let (held, index) = self.number_of_held();
-        let numbers = [self.number_of_check(), self.number_of_fetch(), self.number_of_start(), self.number_of_step(), held];
-        let [check, fetch, start, step, _] = numbers;
+        let (check, fetch, start, step) = (self.number_of_check(), self.number_of_fetch(), self.number_of_start(), self.number_of_step());
         let refused = Answer { detail: index, ..self.refused(held, self.root) };
         refused_or_not("the answer to a batch that is asked for", &self.asked.held(self.root, &self.batch, random)?, &refused)?;
         refused_or_not("the check's answer", &self.asked.check(self.root, random)?, &self.refused(check, self.root))?;
@@ -108,14 +129,14 @@ impl Wrong<'_> {
         }
         same("the cursor of a refused call", &cursor.content(), &&self.cursor[..])?;
         same("the datom of a refused step", &datom.content(), &&before[..])?;
-        Ok(numbers)
+        Ok([(Asking::Check, check), (Asking::Fetch, fetch), (Asking::Start, start), (Asking::Step, step), (Asking::Held, held)])
     }
 }
 
 /// The answer is this refusal; where that has the number 0 it is any but one of those that are told before a page is read.
 fn refused_or_not(name: &str, answer: &Answer, refused: &Answer) -> Result<(), Difference> {
     match refused.number {
-        0 if [1, 2, 3, 4, 5, 11].contains(&answer.number) => Err(format!("{} is {:?}, and must be no refusal", name, answer)),
+        0 if [1, 2, 3, 4, 5, 11, 13].contains(&answer.number) => Err(format!("{} is {:?}, and must be no refusal", name, answer)),
         0 => Ok(()),
         _ => same(name, answer, refused),
     }
@@ -131,7 +152,8 @@ impl History<'_> {
         let random = &mut self.random;
         let (store, heap) = (self.store.shown(random.below(32)), self.heap.shown(random.below(32)));
         let (heap_length, constants) = (self.heap.count, self.patched.heap());
-        let beside = Beside { heap, page_size: size, page_count: count, heap_length, record: RECORD_BYTES };
+        let order = self.patched.order().number();
+        let beside = Beside { heap, page_size: size, page_count: count, heap_length, order, record: RECORD_BYTES };
         let mut wrong = Wrong {
             asked: Asked { store, beside, area: 32 },
             root,
@@ -142,7 +164,7 @@ impl History<'_> {
         };
         for _ in 0..1 + random.below(5) {
             let side = random.below(2);
-            match random.below(12) {
+            match random.below(14) {
                 0 => wrong.asked.beside.page_size = random.pick(&[0, 1, size - 1, size + 1, 512, 1 << 32, u64::MAX]),
                 1 => wrong.asked.beside.page_count = random.pick(&[store.len() as u64 / size + 1, 1 << 56, 1 << 63, u64::MAX]),
                 2 => wrong.asked.area = random.pick(&[0, 1, 31, 33, 40]),
@@ -156,22 +178,31 @@ impl History<'_> {
                 7 => spoil(&mut wrong.batch, constants, random),
                 8 => wrong.batch.resize(random.pick(&[1, 31, 33, 32 * MOST + 32, 32 * MOST + 1]), 7),
                 9 => wrong.asked.beside.heap_length = some_heap_length(heap_length, heap.len() as u64, random),
-                10 => wrong.asked.beside.record = random.pick(&[0, 8, 16, 23, 25, 32]),
+                10 => wrong.asked.beside.record = random.pick(&RECORDS),
+                11 | 12 => wrong.asked.beside.order = some_order(random),
                 _ => wrong.root = random.pick(&[count, count + 1, NONE - 1]),
             }
         }
-        let Beside { page_size, page_count, heap_length, record, .. } = wrong.asked.beside;
+        let Beside { page_size, page_count, heap_length, order, record, .. } = wrong.asked.beside;
         self.reading = Some(Reading::Other(format!(
-            "check, fetch, start, step and held with page size {}, count {}, heap length {} of {}, root {}, bounds {:?}, batch {:?}, \
+            "check, fetch, start, step and held with page size {}, count {}, heap length {} of {}, order {}, root {}, bounds {:?}, batch {:?}, \
              areas of {}, {} and {} bytes and a record of {}",
-            page_size, page_count, heap_length, heap.len(), wrong.root, wrong.bounds, wrong.batch, wrong.cursor.len(), wrong.datom,
+            page_size, page_count, heap_length, heap.len(), order, wrong.root, wrong.bounds, wrong.batch, wrong.cursor.len(), wrong.datom,
             wrong.asked.area, record,
         )));
-        for number in wrong.compare(random)? {
-            self.tally.answers[number as usize] += (number != 0) as u64;
+        for (asking, number) in wrong.compare(random)?.into_iter().filter(|(_, number)| *number != 0) {
+            self.tally.answered(asking, number);
         }
         Ok(())
     }
+}
+
+/// Lengths that no record has; one of 24 bytes is that of before document 02, Three.
+pub const RECORDS: [usize; 6] = [0, 8, 24, 31, 33, 40];
+
+/// A number that no order has, of some of which the low bits are those of one; now and then one that an order has.
+pub fn some_order(random: &mut Random) -> u64 {
+    random.pick(&[0, 1, 2, 3, 3, 4, 255, 256, 257, 1 << 32, (1 << 32) + 2, 1 << 63, u64::MAX, u64::MAX])
 }
 
 /// A heap length that is no multiple of 8, passes the slice, or leaves constants out.

@@ -1,6 +1,6 @@
 //! Pages for histories that show the names of faults: what is to be wrong with a page of a tree, and the bytes that it then has.
 
-use harness::{capacity, readable_damage, Datom, Heap, Node, Pages, Random, Rule, Supply, NONE};
+use harness::{capacity, readable_damage, Datom, Node, Pages, Random, Rule, Supply, NONE};
 
 use crate::breaking::{misplaced, Broken};
 use crate::model::Model;
@@ -28,19 +28,18 @@ pub type Harmed = (u64, Vec<u8>);
 impl Harm {
     /// The bytes that the page is to have; nothing where there are none of the kind, as page 0 cannot have a level over 0.
     pub fn of(self, pages: &Pages, page: u64, random: &mut Random) -> Option<Harmed> {
-        let (old, heap) = (pages.page(page).expect("a page of the tree"), pages.heap());
         let bytes = (0..ATTEMPTS).find_map(|_| match self {
-            Harm::Misplaced => misplaced(old, page, heap, random),
-            _ => Some(Broken::of(old, page, heap, random)).filter(|broken| self.is_in(broken, page, heap)).map(|broken| broken.bytes),
+            Harm::Misplaced => misplaced(pages, page, random),
+            _ => Some(Broken::of(pages, page, random)).filter(|broken| self.is_in(broken, page, pages)).map(|broken| broken.bytes),
         })?;
         Some((page, bytes))
     }
 
-    fn is_in(self, broken: &Broken, page: u64, heap: &Heap) -> bool {
-        let first = Node::read(&broken.bytes, page, heap).expect_err("a page that cannot be read");
+    fn is_in(self, broken: &Broken, page: u64, pages: &Pages) -> bool {
+        let first = Node::read(&broken.bytes, page, pages.order(), pages.heap()).expect_err("a page that cannot be read");
         match self {
             Harm::One(rule) => first == rule && broken.rules == 1 && (needs_level(rule) || !broken.is_elsewhere),
-            Harm::Two(rule, behind) => first == rule && is_broken_too(broken, behind, page, heap),
+            Harm::Two(rule, behind) => first == rule && is_broken_too(broken, behind, page, pages),
             Harm::Elsewhere(rule) => first == rule && broken.is_elsewhere,
             Harm::Misplaced => false,
         }
@@ -58,9 +57,9 @@ pub const PAIRS: [(Rule, Rule); 6] = [
 ];
 
 /// Whether a page breaks a rule behind its first. What a page with a count over C holds is known only where it was broken.
-fn is_broken_too(broken: &Broken, rule: Rule, page: u64, heap: &Heap) -> bool {
+fn is_broken_too(broken: &Broken, rule: Rule, page: u64, pages: &Pages) -> bool {
     match Node::decode(&broken.bytes) {
-        Some(node) => node.breaks(rule, page, heap),
+        Some(node) => node.breaks(rule, page, pages.order(), pages.heap()),
         None => rule == Rule::Count || broken.rules > 1,
     }
 }
@@ -88,7 +87,7 @@ pub fn doubled(pages: &Pages, root: u64, random: &mut Random) -> Option<Harmed> 
     sent.retain(|&(_, page)| read(pages, page).datoms.len() < capacity);
     let (datom, page) = if sent.is_empty() { return None } else { random.pick(&sent) };
     let mut child = read(pages, page);
-    let at = child.datoms.iter().take_while(|held| pages.heap().compare(held, &datom).is_lt()).count();
+    let at = child.datoms.iter().take_while(|held| pages.compare(held, &datom).is_lt()).count();
     child.datoms.insert(at, datom);
     child.children.insert(at, NONE);
     let mut bytes = pages.page(page)?.to_vec();

@@ -3,10 +3,10 @@
 use std::rc::Rc;
 
 use harness::{
-    readable_damage, Datom, Held, Kind, Oracle, Order, Pages, Panic, Plan, Random, Supply, Verdict, Which, NONE,
+    readable_damage, By, Datom, Held, Kind, Oracle, Order, Pages, Panic, Plan, Random, Supply, Verdict, Which, NONE,
 };
 
-use crate::recording::{datom_bytes, digest, heap_records, Carried, Record, Who, Written, LONGEST_RECORD};
+use crate::recording::{datom_bytes, digest, heap_records, Carried, Record, Stored, Who, Written, LONGEST_RECORD};
 
 /// A reader may keep a history's store in memory.
 const LARGEST_STORE: usize = 1 << 20;
@@ -24,13 +24,14 @@ const CANDIDATES: usize = 60;
 /// One in so many constants of a batch is laid anew before it, so that the heap grows with the trees.
 const LAID_ANEW: usize = 4;
 
-const PATCHED: Oracle = Oracle { which: Which::Patched, order: Order::Eavt };
-const PLAIN: Oracle = Oracle { which: Which::Plain, order: Order::Eavt };
+const PATCHED: Oracle = Oracle { which: Which::Patched, by: By::Noblit };
+const PLAIN: Oracle = Oracle { which: Which::Plain, by: By::Noblit };
 
 /// How a history is made.
 #[derive(Clone, Copy)]
 pub struct Shape {
     pub page_size: usize,
+    pub order: Order,
     pub kind: Kind,
     pub plan: Plan,
     /// How many different datoms there are.
@@ -76,15 +77,18 @@ pub fn record_history(number: u64, seed: u64, shape: Shape) -> Vec<Record> {
     let mut random = Random::new(seed.wrapping_mul(1_000_003).wrapping_add(number));
     let mut history = History {
         shape,
-        supply: Supply::new(shape.kind, shape.supply, &mut random),
+        supply: Supply::new(shape.kind, shape.supply, shape.order, &mut random),
         random,
-        patched: Pages::new(shape.page_size),
-        plain: Some(Pages::new(shape.page_size)),
+        patched: Pages::new(shape.page_size, shape.order),
+        plain: Some(Pages::new(shape.page_size, shape.order)),
         laid: 0,
         trees: Vec::new(),
         is_damaged: false,
         records: Vec::new(),
     };
+    if shape.order != Order::Eavt {
+        history.records.push(Record::Stored(Stored::of(&history.patched)));
+    }
     history.lay();
     history.initialise(shape.first);
     history.look();
@@ -217,7 +221,7 @@ impl History {
         let tree = &self.trees[at];
         let one = self.supply.bound(&tree.held, &mut self.random);
         let other = self.supply.bound(&tree.held, &mut self.random);
-        let (lower, upper) = if self.supply.heap().compare(&one, &other).is_le() { (one, other) } else { (other, one) };
+        let (lower, upper) = if self.supply.compare(&one, &other).is_le() { (one, other) } else { (other, one) };
         let listed = listing(PATCHED, &self.patched, tree.root, &lower, &upper);
         assert_eq!(listed, self.supply.listing(&tree.held, &lower, &upper), "a tree lists what was put in");
         if let Some(plain) = &self.plain {

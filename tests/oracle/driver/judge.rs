@@ -1,22 +1,27 @@
 //! What a call that names faults answers over any store, by the model of documents 01 and 02. Where the Rust has an answer, too, it must agree.
 
-use harness::{Answer, Datom, Node, Oracle, Order, Pages, Verdict, Which, NONE};
+use harness::{capacity, Answer, By, Datom, Node, Oracle, Order, Pages, Verdict, Which, NONE};
 
 use crate::model::{batch_fault, Cursor, Looked, Model, Step, CURSOR_BYTES};
 use crate::names::{Damaged, Fault, Naming};
-use crate::recording::Question;
+use crate::recording::{Question, Stored};
 
 /// How the Rust ends a merge that meets an equal datom.
 const EQUAL_MET: &str = "Encountered duplicate datom in htree.";
 
-const PATCHED: Oracle = Oracle { which: Which::Patched, order: Order::Rule };
+const PATCHED: Oracle = Oracle { which: Which::Patched, by: By::Rule };
 
+const BAD_STORE: u64 = 1;
 const REPEATED: u64 = 6;
 const DAMAGED: u64 = 7;
 const BAD_BOUND: u64 = 10;
+const BAD_ORDER: u64 = 13;
 const NOT_HELD: u64 = 16;
 const ENDED: u64 = 32;
 const UNSOUND: u64 = 33;
+
+/// More bytes than anybody lends as a store or as a heap.
+const MOST_BYTES: u128 = 1 << 40;
 
 pub struct Judged {
     pub answer: Answer,
@@ -46,9 +51,28 @@ impl Question {
     }
 }
 
-/// The judge's answer; an error for what it has no answer to, as for an insert that would be Done.
-pub fn judge(pages: &Pages, root: u64, question: &Question) -> Result<Judged, String> {
+/// The number that a record is refused by, whatever is lent beside it: "straight after 1".
+pub fn record_fault(stored: &Stored) -> Option<u64> {
+    let Stored { page_size, page_count, heap_length, order } = *stored;
+    let is_too_long = page_count as u128 * page_size as u128 > MOST_BYTES || heap_length as u128 > MOST_BYTES;
+    if capacity(page_size as usize).is_none() || is_too_long || heap_length % 8 != 0 {
+        Some(BAD_STORE)
+    } else if Order::of_number(order).is_none() {
+        Some(BAD_ORDER)
+    } else {
+        None
+    }
+}
+
+/// The judge's answer; an error for what it has no answer to, as for an insert that would be Done. The store's record is refused, or is true.
+pub fn judge(stored: &Stored, pages: &Pages, root: u64, question: &Question) -> Result<Judged, String> {
     let model = Model { pages };
+    if let Some(number) = record_fault(stored) {
+        return Ok(Judged::quiet(number, root, 0));
+    }
+    if *stored != Stored::of(pages) {
+        return Err(format!("{:?} is not the store's, and not refused whatever is lent", stored));
+    }
     if let Some(judged) = given_wrong(pages, root, question) {
         return Ok(judged);
     }
@@ -82,7 +106,7 @@ fn given_wrong(pages: &Pages, root: u64, question: &Question) -> Option<Judged> 
             Some(Judged::quiet(BAD_BOUND, root, 0))
         }
         Question::Held { batch } | Question::InsertNamed { batch } => {
-            batch_fault(pages.heap(), batch).map(|(number, index)| Judged::quiet(number, root, index))
+            batch_fault(pages.order(), pages.heap(), batch).map(|(number, index)| Judged::quiet(number, root, index))
         }
         Question::Check | Question::Start { .. } | Question::Step { .. } => None,
     }
@@ -130,5 +154,5 @@ fn check(pages: &Pages, root: u64) -> Result<Judged, String> {
 }
 
 pub fn is_readable(pages: &Pages, page: u64) -> bool {
-    pages.page(page).is_some_and(|bytes| Node::read(bytes, page, pages.heap()).is_ok())
+    pages.page(page).is_some_and(|bytes| Node::read(bytes, page, pages.order(), pages.heap()).is_ok())
 }

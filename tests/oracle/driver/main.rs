@@ -23,8 +23,8 @@ use std::process::exit;
 
 const USAGE: &str = "usage:
   oracle run [--echo]   answer the commands on standard input
-  oracle selftest       compare noblit's order and heap with those written to the documents, and the format of records with its text
-  oracle record FILE    record the fixed list of answers, behind it those with names of faults, and both with long values
+  oracle selftest       compare noblit's orders and heap with those written to the documents, and the format of records with its text
+  oracle record FILE    record the fixed list of answers, behind it those with names of faults, both with long values, and both in the further orders
   oracle replay FILE    replay a recorded list on both oracles, and the names of faults on the model";
 
 fn main() {

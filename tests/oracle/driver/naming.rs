@@ -3,15 +3,18 @@
 
 use std::rc::Rc;
 
-use harness::{bad_constant, spoiled, Datom, Heap, Held, Kind, Node, Oracle, Order, Pages, Plan, Random, Rule, Supply, Which, Word, MAX_VALUE, NONE};
+use harness::{
+    bad_constant, spoiled, By, Datom, Heap, Held, Kind, Node, Oracle, Order, Pages, Plan, Random, Rule, Supply, Which, Word, MALFORMED, MAX_VALUE,
+    NONE,
+};
 
 use crate::harm::{doubled, out_of_bounds, read, real_children, Harm, Harmed, PAIRS};
 use crate::judge::judge;
 use crate::model::{Cursor, Model, Step};
 use crate::names::{Fault, Names};
-use crate::recording::{digest, heap_records, Carried, Question, Record, Who, Written};
+use crate::recording::{digest, heap_records, Carried, Question, Record, Stored, Who, Written};
 
-const PATCHED: Oracle = Oracle { which: Which::Patched, order: Order::Eavt };
+const PATCHED: Oracle = Oracle { which: Which::Patched, by: By::Noblit };
 
 /// Among so many bounds or batches one is sought that meets the damage.
 const CANDIDATES: usize = 200;
@@ -25,8 +28,14 @@ const DOUBLINGS: usize = 20;
 /// How many bounds have a constant that is not valid.
 const BAD_BOUNDS: usize = 24;
 
+/// How often the calls are made in each of the other orders.
+const OTHER_LOOKS: usize = 4;
+
 /// How many constants are spoiled.
 const SPOILED: usize = 12;
+
+/// Numbers that no order has; of some the low bits are those of one.
+const UNKNOWN_ORDERS: [u64; 4] = [3, 256, 1 << 32, u64::MAX];
 
 const LOWEST: Datom = [0; 4];
 const HIGHEST: Datom = [u64::MAX, u64::MAX, MAX_VALUE, u64::MAX];
@@ -35,10 +44,15 @@ const HIGHEST: Datom = [u64::MAX, u64::MAX, MAX_VALUE, u64::MAX];
 #[derive(Clone, Copy)]
 pub struct Planted {
     pub page_size: usize,
+    pub order: Order,
     pub kind: Kind,
     /// The sizes of the batches, the first one's that of initialise. There are two or more, so that the root is not page 0.
     pub batches: &'static [usize],
     pub height: usize,
+    /// Whether the calls are also made in the other orders, and in those that there are not.
+    pub in_all_orders: bool,
+    /// Whether its pages are damaged.
+    pub is_harmed: bool,
 }
 
 struct Scene<'a> {
@@ -47,6 +61,8 @@ struct Scene<'a> {
     pages: Pages,
     root: u64,
     held: Held,
+    /// What the store's record says, where every call refuses it.
+    refused: Option<Stored>,
     /// Those of a listing of the whole tree, before any damage.
     cursors: Vec<Cursor>,
     records: Vec<Record>,
@@ -56,8 +72,8 @@ struct Scene<'a> {
 /// Records the history with this number, which also seeds its random numbers.
 pub fn record_names(number: u64, seed: u64, planted: Planted, names: &mut Names) -> Vec<Record> {
     let mut random = Random::new(seed.wrapping_mul(1_000_003).wrapping_add(number));
-    let supply = Supply::new(planted.kind, 3 * planted.batches.iter().sum::<usize>(), &mut random);
-    let mut scene = Scene::new(planted.page_size, supply, random, names);
+    let supply = Supply::new(planted.kind, 3 * planted.batches.iter().sum::<usize>(), planted.order, &mut random);
+    let mut scene = Scene::new(Pages::new(planted.page_size, planted.order), supply, random, names);
     scene.plant(planted);
     scene.ask_all(1);
     scene.ask_at_none();
@@ -65,11 +81,17 @@ pub fn record_names(number: u64, seed: u64, planted: Planted, names: &mut Names)
     if planted.kind.is_long() {
         scene.ask_constants();
     }
-    for (page, bytes) in scene.harms(planted.height) {
-        scene.harmed(page, bytes);
+    if planted.in_all_orders {
+        scene.ask_in_other_orders();
+        scene.ask_in_no_order();
     }
-    if planted.kind.is_long() {
-        scene.spoil();
+    if planted.is_harmed {
+        for (page, bytes) in scene.harms(planted.height) {
+            scene.harmed(page, bytes);
+        }
+        if planted.kind.is_long() {
+            scene.spoil();
+        }
     }
     scene.finish(number)
 }
@@ -79,8 +101,8 @@ pub fn record_names(number: u64, seed: u64, planted: Planted, names: &mut Names)
 pub fn record_merge(number: u64, names: &mut Names) -> Vec<Record> {
     let example = |k: u64| [k, 1, k, 3];
     let mut random = Random::new(number);
-    let supply = Supply::new(Kind::Counted, 8, &mut random);
-    let mut scene = Scene::new(256, supply, random, names);
+    let supply = Supply::new(Kind::Counted, 8, Order::Eavt, &mut random);
+    let mut scene = Scene::new(Pages::new(256, Order::Eavt), supply, random, names);
     scene.write((0..7).map(example).collect());
     scene.write(vec![example(7)]);
     let node = Node { level: 1, datoms: vec![example(0), example(3)], children: vec![NONE, 0, 1] };
@@ -97,12 +119,32 @@ pub fn record_merge(number: u64, names: &mut Names) -> Vec<Record> {
 }
 
 impl<'a> Scene<'a> {
-    fn new(page_size: usize, supply: Supply, random: Random, names: &'a mut Names) -> Scene<'a> {
-        let (pages, held) = (Pages::new(page_size), supply.nothing_held());
+    fn new(pages: Pages, supply: Supply, random: Random, names: &'a mut Names) -> Scene<'a> {
+        let (order, held) = (pages.order(), supply.nothing_held());
         let heap = Rc::clone(supply.heap());
-        let mut scene = Scene { random, supply, pages, root: NONE, held, cursors: Vec::new(), records: Vec::new(), names };
+        let mut scene = Scene { random, supply, pages, root: NONE, held, refused: None, cursors: Vec::new(), records: Vec::new(), names };
+        if order != Order::Eavt {
+            scene.set_order(order);
+        }
         scene.set_heap(&heap);
         scene
+    }
+
+    /// The store's record says this order from here on.
+    fn set_order(&mut self, order: Order) {
+        self.pages.set_order(order);
+        self.refused = None;
+        self.records.push(Record::Stored(self.stored()));
+    }
+
+    /// The store's record is this one from here on, which every call refuses.
+    fn refuse(&mut self, stored: Stored) {
+        self.refused = Some(stored);
+        self.records.push(Record::Stored(stored));
+    }
+
+    fn stored(&self) -> Stored {
+        self.refused.unwrap_or(Stored::of(&self.pages))
     }
 
     /// The heap is this one from here on, which is as long or longer.
@@ -237,7 +279,7 @@ impl<'a> Scene<'a> {
             let is_beside = self.random.one_in(beside_every);
             for is_naming in [true, false] {
                 let fits = |(root, question): &&(u64, Question)| {
-                    judge(&self.pages, *root, question).is_ok_and(|judged| judged.named.is_some() == is_naming)
+                    judge(&self.stored(), &self.pages, *root, question).is_ok_and(|judged| judged.named.is_some() == is_naming)
                 };
                 if let Some((root, question)) = questions.iter().find(fits).filter(|_| is_naming || is_beside) {
                     self.ask(*root, question.clone()).expect("an answer, as before");
@@ -257,7 +299,7 @@ impl<'a> Scene<'a> {
         (0..CANDIDATES).map(|_| {
             let one = self.supply.bound(&self.held, &mut self.random);
             let other = self.supply.bound(&self.held, &mut self.random);
-            let (lower, upper) = if self.pages.heap().compare(&one, &other).is_le() { (one, other) } else { (other, one) };
+            let (lower, upper) = if self.pages.compare(&one, &other).is_le() { (one, other) } else { (other, one) };
             (self.root, Question::Start { lower, upper })
         }).collect()
     }
@@ -287,7 +329,10 @@ impl<'a> Scene<'a> {
         (0..CANDIDATES).map(|i| {
             let left_out = [&not_held, &self.held, &none][i % 3];
             let size = 1 + self.random.below(4);
-            self.supply.datoms(&self.supply.batch(left_out, Plan::Scattered, size, &mut self.random))
+            let mut batch = self.supply.datoms(&self.supply.batch(left_out, Plan::Scattered, size, &mut self.random));
+            // It rises in the order that the store is read in, which may be another than the supply's.
+            batch.sort_by(|left, right| self.pages.compare(left, right));
+            batch
         }).collect()
     }
 
@@ -320,6 +365,59 @@ impl<'a> Scene<'a> {
         for batch in batches {
             self.ask(self.root, Question::Held { batch: batch.clone() }).expect("an answer to any batch");
             self.ask(self.root, Question::InsertNamed { batch }).expect("an insert that is refused");
+        }
+    }
+
+    /// The tree as it is, in each of the orders that it was not built in: what is damaged then, and what happens to be readable.
+    fn ask_in_other_orders(&mut self) {
+        let own = self.pages.order();
+        for order in Order::ALL.into_iter().filter(|&order| order != own) {
+            self.set_order(order);
+            for _ in 0..OTHER_LOOKS {
+                self.ask_all(1);
+            }
+        }
+        self.set_order(own);
+    }
+
+    /// Orders that there are not, of a store that is refused by 1 or is not: "13 BadOrder for an unknown order number, straight after 1". What
+    /// the calls are given is good, or would be refused behind 13.
+    fn ask_in_no_order(&mut self) {
+        let good = self.stored();
+        for order in UNKNOWN_ORDERS {
+            self.refuse(Stored { order, ..good });
+            self.ask_whatever();
+        }
+        let order = UNKNOWN_ORDERS[0];
+        for stored in [
+            Stored { page_size: 512, order, ..good },
+            Stored { page_count: u64::MAX, order, ..good },
+            Stored { heap_length: good.heap_length + 4, order, ..good },
+        ] {
+            self.refuse(stored);
+            self.ask_whatever();
+        }
+        self.set_order(self.pages.order());
+    }
+
+    /// Each call, with what is good and with what another number is for: 5, 10, 3, and a cursor that is too high.
+    fn ask_whatever(&mut self) {
+        let (good, malformed) = (self.supply.any(&mut self.random), [1, 1, MAX_VALUE, 1]);
+        let past = self.pages.count();
+        let asked = [
+            (self.root, Question::Check),
+            (past, Question::Check),
+            (self.root, Question::Start { lower: LOWEST, upper: HIGHEST }),
+            (self.root, Question::Start { lower: LOWEST, upper: [1, 1, MALFORMED[1], 1] }),
+            step_of(self.cursors[0]),
+            step_of(Cursor { height: 9, ..Cursor::default() }),
+            (self.root, Question::Held { batch: vec![good] }),
+            (past, Question::Held { batch: vec![malformed] }),
+            (self.root, Question::InsertNamed { batch: vec![good] }),
+            (past, Question::InsertNamed { batch: vec![malformed] }),
+        ];
+        for (root, question) in asked {
+            self.ask(root, question).expect("an answer of any record");
         }
     }
 
@@ -372,7 +470,7 @@ impl<'a> Scene<'a> {
 
     /// Records what the judge answers.
     fn ask(&mut self, root: u64, question: Question) -> Result<(), String> {
-        let judged = judge(&self.pages, root, &question)?;
+        let judged = judge(&self.stored(), &self.pages, root, &question)?;
         if let Some(damaged) = judged.named {
             self.names.add(question.naming(), damaged.fault);
         }

@@ -2,7 +2,7 @@
 
 use std::fs;
 
-use harness::{Kind, Plan};
+use harness::{Kind, Order, Plan};
 
 use crate::history::{record_history, Shape};
 use crate::names::Names;
@@ -26,7 +26,7 @@ const GROWN_8192: [(usize, usize, &[usize]); 8] =
     [(128, 1, &[75]), (128, 1, &[76]), (128, 1, &[77]), (128, 1, &[78]), (128, 1, &[79]), (128, 4, &[70]), (127, 3, &[94]), (128, 3, &[94])];
 
 /// What came later stands behind what was there, so that the bytes of before stay: first the oracles' answers, then names of faults, then
-/// both for pages of 8192 bytes, then both with long values, on a heap.
+/// both for pages of 8192 bytes, then both with long values, on a heap, then both in the two further orders.
 pub fn record(file: &str) -> Result<(), String> {
     let mut recording = Recording::default();
     recording.add_histories(shapes());
@@ -39,13 +39,16 @@ pub fn record(file: &str) -> Result<(), String> {
     let before_long = recording.bytes.len();
     recording.add_histories(long());
     recording.add_names(planted_long());
+    let before_orders = recording.bytes.len();
+    recording.add_histories(ordered());
+    recording.add_names(planted_ordered());
     let bytes = recording.finish()?;
     fs::write(file, &bytes).map_err(|error| format!("{}: {}", file, error))?;
-    let (named, wide, long) = (before_wide - by_oracles, before_long - before_wide, bytes.len() - before_long);
+    let (named, wide, long) = (before_wide - by_oracles, before_long - before_wide, before_orders - before_long);
     println!("{} bytes recorded with seed {} in {}", bytes.len(), SEED, file);
     println!(
-        "{} by the oracles, then {} with names of faults, then {} of pages of 8192 bytes, then {} with long values",
-        by_oracles, named, wide, long,
+        "{} by the oracles, then {} with names of faults, then {} of pages of 8192 bytes, then {} with long values, then {} in the further orders",
+        by_oracles, named, wide, long, bytes.len() - before_orders,
     );
     Ok(())
 }
@@ -96,9 +99,13 @@ impl Recording {
     }
 }
 
+/// A tree in the first order, whose pages are damaged.
+fn plant(page_size: usize, kind: Kind, batches: &'static [usize], height: usize) -> Planted {
+    Planted { page_size, order: Order::Eavt, kind, batches, height, in_all_orders: false, is_harmed: true }
+}
+
 /// Trees of one to three levels, the higher ones with pending datoms above the leaves.
 fn planted() -> Vec<Planted> {
-    let plant = |page_size, kind, batches, height| Planted { page_size, kind, batches, height };
     vec![
         plant(256, Kind::Counted, &[3, 1], 1),
         plant(256, Kind::Mixed, &[60, 3, 2], 3),
@@ -109,12 +116,11 @@ fn planted() -> Vec<Planted> {
 
 /// The same in pages of 8192 bytes.
 fn planted_wide() -> Vec<Planted> {
-    vec![Planted { page_size: 8192, kind: Kind::Mixed, batches: &[128, 100, 3], height: 2 }]
+    vec![plant(8192, Kind::Mixed, &[128, 100, 3], 2)]
 }
 
 /// Trees with constants of a heap, at all sizes.
 fn planted_long() -> Vec<Planted> {
-    let plant = |page_size, kind, batches, height| Planted { page_size, kind, batches, height };
     vec![
         plant(256, Kind::LongMixed, &[60, 3, 2], 3),
         plant(568, Kind::LongStrings, &[128, 128, 4], 3),
@@ -145,6 +151,7 @@ fn around(page_size: usize) -> &'static [usize] {
 fn one_batch(page_size: usize, kind: Kind, plan: Plan, first: usize) -> Shape {
     Shape {
         page_size,
+        order: Order::Eavt,
         kind,
         plan,
         supply: 1500,
@@ -289,4 +296,54 @@ fn long() -> Vec<Shape> {
         damage(8192, Kind::LongMixed, 128, 4),
     ]);
     shapes
+}
+
+/// The two further orders at every page size: growth of every kind, by plans in turns, histories in which both oracles answer to the end,
+/// high trees, and damaged ones.
+fn ordered() -> Vec<Shape> {
+    [Order::Aevt, Order::Avet].into_iter().enumerate().flat_map(|(i, order)| {
+        ordered_shapes(i).into_iter().map(move |shape| Shape { order, ..shape })
+    }).collect()
+}
+
+/// In the first order, to be put into another; the plans are turned by so many places.
+fn ordered_shapes(turn: usize) -> Vec<Shape> {
+    let one = |page_size, kind, plan, first| Shape { supply: 500, raw: page_size == 256, ..one_batch(page_size, kind, plan, first) };
+    let kinds = KINDS.into_iter().chain(LONG_KINDS).enumerate();
+    let mut shapes: Vec<Shape> = kinds.flat_map(|(i, kind)| {
+        let plan = |more: usize| PLANS[(i + turn + more) % PLANS.len()];
+        let wider = match i % 3 {
+            0 => Shape { inserts: 4, ..one(568, kind, plan(1), 15) },
+            1 => Shape { inserts: 4, ..one(4096, kind, plan(1), 103) },
+            _ => Shape { inserts: 4, ..one(8192, kind, plan(1), 128) },
+        };
+        [Shape { inserts: 5, ..one(256, kind, plan(0), 7) }, wider]
+    }).collect();
+    let agree = |page_size, kind, first, inserts, damages| {
+        Shape { inserts, agreeing: true, damages, ..one(page_size, kind, Plan::Scattered, first) }
+    };
+    shapes.extend([
+        agree(256, Kind::Integers, 11, 10, 16),
+        agree(256, Kind::LongMixed, 47, 6, 12),
+        agree(568, Kind::Mixed, 15, 6, 8),
+        agree(4096, Kind::Mixed, 103, 3, 2),
+        agree(8192, Kind::Integers, 128, 3, 2),
+    ]);
+    let deep = |page_size, kind, plan| Shape { supply: 3000, inserts: 9, sizes: &[128], raw: false, ..one(page_size, kind, plan, 128) };
+    shapes.extend([deep(256, Kind::Mixed, Plan::Scattered), deep(568, Kind::Integers, Plan::Clustered)]);
+    let damage = |page_size, kind, first, damages| Shape { inserts: 2, damages, ..one(page_size, kind, Plan::Scattered, first) };
+    shapes.extend([damage(256, Kind::Mixed, 47, 30), damage(568, Kind::LongStrings, 29, 12)]);
+    shapes
+}
+
+/// Trees for the names of faults that are read in all orders, and in those that there are not, at every page size. Those of small pages are
+/// damaged, too.
+fn planted_ordered() -> Vec<Planted> {
+    let all = |order, planted: Planted| Planted { order, in_all_orders: true, is_harmed: planted.page_size < 4096 && order != Order::Eavt, ..planted };
+    Order::ALL.into_iter().flat_map(|order| [
+        all(order, plant(256, Kind::LongMixed, &[60, 3, 2], 3)),
+        all(order, plant(568, Kind::Integers, &[120, 3], 2)),
+        all(order, plant(4096, Kind::Mixed, &[120, 3], 2)),
+        all(order, plant(8192, Kind::LongStrings, &[128, 100, 3], 2)),
+    ]).collect()
 }

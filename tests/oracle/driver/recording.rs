@@ -1,6 +1,6 @@
 //! The file of recorded answers: a sequence of records of little-endian words (docs/ORACLE.md).
 
-use harness::{Answer, Datom};
+use harness::{Answer, Datom, Pages};
 
 /// A reader may keep one record in memory, so none is longer, its length word not counted.
 pub const LONGEST_RECORD: usize = 65_536;
@@ -51,6 +51,28 @@ pub enum Question {
     InsertNamed { batch: Vec<Datom> },
 }
 
+/// What the store's record says, true or not.
+#[derive(Clone, Copy, Debug, PartialEq)]
+pub struct Stored {
+    pub page_size: u64,
+    pub page_count: u64,
+    pub heap_length: u64,
+    /// Any number, of which few are orders.
+    pub order: u64,
+}
+
+impl Stored {
+    /// What is true of a store.
+    pub fn of(pages: &Pages) -> Stored {
+        Stored {
+            page_size: pages.page_size() as u64,
+            page_count: pages.count(),
+            heap_length: pages.heap().bytes().len() as u64,
+            order: pages.order().number(),
+        }
+    }
+}
+
 #[derive(Clone, Debug, PartialEq)]
 pub enum Record {
     /// The room of the heap is in bytes, and not said where it is 0.
@@ -65,6 +87,8 @@ pub enum Record {
     Named { root: u64, question: Question, answer: Answer },
     /// Bytes of the heap from an offset on; it ends behind them if it ended before.
     Heap { offset: u64, bytes: Vec<u8> },
+    /// What the store's record says from here on. A history begins with order 0.
+    Stored(Stored),
 }
 
 /// What makes one heap of another that is not longer, in as many records as it takes.
@@ -127,6 +151,9 @@ impl Record {
             Record::Heap { offset, bytes } => {
                 body.words(&[9, *offset]);
                 body.bytes.extend(bytes);
+            }
+            Record::Stored(Stored { page_size, page_count, heap_length, order }) => {
+                body.words(&[10, *page_size, *page_count, *heap_length, *order]);
             }
         }
         assert!(body.bytes.len() <= LONGEST_RECORD, "a record of {} bytes is too long", body.bytes.len());
@@ -240,6 +267,12 @@ impl<'a> Fields<'a> {
             7 => Record::End { count: self.word()?, digest: self.word()? },
             8 => self.named()?,
             9 => Record::Heap { offset: self.word()?, bytes: self.rest() },
+            10 => Record::Stored(Stored {
+                page_size: self.word()?,
+                page_count: self.word()?,
+                heap_length: self.word()?,
+                order: self.word()?,
+            }),
             kind => return Err(format!("there is no kind {}", kind)),
         })
     }

@@ -5,16 +5,16 @@ use std::fmt;
 use std::fs;
 use std::rc::Rc;
 
-use harness::{Answer, Datom, Heap, Oracle, Order, Pages, Panic, Verdict, Which, PAGE_SIZES};
+use harness::{Answer, By, Datom, Heap, Oracle, Order, Pages, Panic, Verdict, Which, PAGE_SIZES};
 
 use crate::history::LARGEST_HEAP;
-use crate::judge::{is_readable, judge};
+use crate::judge::{is_readable, judge, record_fault};
 use crate::names::{Names, Naming};
-use crate::recording::{datom_bytes, digest, Question, Record, Who, Written};
+use crate::recording::{datom_bytes, digest, Question, Record, Stored, Who, Written};
 
-// The answers were recorded with noblit's own order; here the one written to document 01 must give them too.
-const PATCHED: Oracle = Oracle { which: Which::Patched, order: Order::Rule };
-const PLAIN: Oracle = Oracle { which: Which::Plain, order: Order::Rule };
+// The answers were recorded with noblit's own comparators; here those written to the documents must give them too.
+const PATCHED: Oracle = Oracle { which: Which::Patched, by: By::Rule };
+const PLAIN: Oracle = Oracle { which: Which::Plain, by: By::Rule };
 
 pub fn replay(file: &str) -> Result<(), String> {
     let bytes = fs::read(file).map_err(|error| format!("{}: {}", file, error))?;
@@ -41,6 +41,8 @@ struct Stores {
     plain: Option<Pages>,
     /// Pages that cannot be read at present: the Rust has no such notion, and is asked nothing.
     unreadable: BTreeSet<u64>,
+    /// What the store's record says, where every call refuses it.
+    refused: Option<Stored>,
     room: u64,
     heap_room: u64,
 }
@@ -59,12 +61,12 @@ fn step(store: &mut Option<Stores>, summary: &mut Summary, record: &Record) -> R
         Record::Begin { .. } => unreachable!("answered above"),
         Record::Initialise { who, batch, written } => {
             stores.write(*who, written, |oracle, pages| oracle.initialise(pages, batch))?;
-            summary.count(*who, |counts| &mut counts.initialise);
+            summary.count(stores, *who, |counts| &mut counts.initialise);
             summary.see_height(stores, written.root);
         }
         Record::Insert { who, root, batch, written } => {
             stores.write(*who, written, |oracle, pages| oracle.insert(pages, *root, batch))?;
-            summary.count(*who, |counts| &mut counts.insert);
+            summary.count(stores, *who, |counts| &mut counts.insert);
             summary.see_height(stores, written.root);
         }
         Record::List { who, root, lower, upper, count, datoms } => {
@@ -72,7 +74,7 @@ fn step(store: &mut Option<Stores>, summary: &mut Summary, record: &Record) -> R
                 let listed = list(oracle, pages, *root, lower, upper)?;
                 expect(listed.len() as u64 == *count && datoms.stands_for(&datom_bytes(&listed)), "the listing")
             })?;
-            summary.count(*who, |counts| &mut counts.list);
+            summary.count(stores, *who, |counts| &mut counts.list);
         }
         Record::Check { who, root, fault } => {
             stores.read(*who, |oracle, pages| {
@@ -82,7 +84,7 @@ fn step(store: &mut Option<Stores>, summary: &mut Summary, record: &Record) -> R
                 };
                 expect(found == *fault, "the check")
             })?;
-            summary.count(*who, |counts| if fault.is_none() { &mut counts.sound } else { &mut counts.unsound });
+            summary.count(stores, *who, |counts| if fault.is_none() { &mut counts.sound } else { &mut counts.unsound });
         }
         Record::Poke { page, bytes } => {
             stores.poke(*page, bytes)?;
@@ -98,13 +100,17 @@ fn step(store: &mut Option<Stores>, summary: &mut Summary, record: &Record) -> R
             stores.lay(*offset, bytes)?;
             summary.laid += 1;
         }
+        Record::Stored(stored) => {
+            stores.say(stored)?;
+            summary.said += 1;
+        }
     }
     Ok(())
 }
 
 /// A call that names what is damaged, judged anew.
 fn name(stores: &Stores, summary: &mut Summary, root: u64, question: &Question, answer: &Answer) -> Result<(), String> {
-    let judged = judge(&stores.patched, root, question)?;
+    let judged = judge(&stores.stored(), &stores.patched, root, question)?;
     expect(judged.answer == *answer, "what a call names")?;
     match judged.named {
         Some(damaged) => summary.names.add(question.naming(), damaged.fault),
@@ -132,7 +138,28 @@ impl Stores {
         if heap_room > LARGEST_HEAP as u64 {
             return Err(format!("a heap of {} bytes is too long", heap_room));
         }
-        Ok(Stores { patched: Pages::new(size), plain: Some(Pages::new(size)), unreadable: BTreeSet::new(), room, heap_room })
+        let pages = Pages::new(size, Order::Eavt);
+        Ok(Stores { patched: pages.clone(), plain: Some(pages), unreadable: BTreeSet::new(), refused: None, room, heap_room })
+    }
+
+    fn stored(&self) -> Stored {
+        self.refused.unwrap_or(Stored::of(&self.patched))
+    }
+
+    /// The store's record from here on: one that every call refuses, or the store's own, in any order.
+    fn say(&mut self, stored: &Stored) -> Result<(), String> {
+        self.refused = record_fault(stored).map(|_| *stored);
+        let Some(order) = Order::of_number(stored.order).filter(|_| self.refused.is_none()) else {
+            return Ok(());
+        };
+        self.patched.set_order(order);
+        self.plain.iter_mut().for_each(|plain| plain.set_order(order));
+        self.unreadable = self.all_unreadable();
+        if *stored == Stored::of(&self.patched) { Ok(()) } else { Err(format!("{:?} is not the store's", stored)) }
+    }
+
+    fn all_unreadable(&self) -> BTreeSet<u64> {
+        (0..self.patched.count()).filter(|&page| !is_readable(&self.patched, page)).collect()
     }
 
     fn write<Call>(&mut self, who: Who, written: &Written, call: Call) -> Result<(), String>
@@ -159,6 +186,9 @@ impl Stores {
 
     /// A history's plain answers stop at the first that only the patched oracle gave.
     fn drop_plain(&mut self, who: Who) -> Result<(), String> {
+        if let Some(stored) = self.refused {
+            return Err(format!("{:?}, which every call refuses", stored));
+        }
         if let Some(page) = self.unreadable.first() {
             return Err(format!("page {} is unreadable, where the Rust has no rule", page));
         }
@@ -182,7 +212,7 @@ impl Stores {
         let heap = Rc::new(Heap::of_bytes(&heap));
         self.patched.set_heap(&heap);
         self.plain.iter_mut().for_each(|plain| plain.set_heap(&heap));
-        self.unreadable = (0..self.patched.count()).filter(|&page| !is_readable(&self.patched, page)).collect();
+        self.unreadable = self.all_unreadable();
         Ok(())
     }
 
@@ -219,6 +249,10 @@ struct Summary {
     pokes: usize,
     /// How often the heap grew or was changed.
     laid: usize,
+    /// How often the store's record was made another.
+    said: usize,
+    /// How many answers of the oracles there are in each order.
+    orders: [usize; Order::ALL.len()],
     /// How many roots of each height were written, by page size.
     heights: [BTreeMap<u8, usize>; PAGE_SIZES.len()],
     names: Names,
@@ -227,7 +261,8 @@ struct Summary {
 }
 
 impl Summary {
-    fn count(&mut self, who: Who, kind: impl Fn(&mut Counts) -> &mut usize) {
+    fn count(&mut self, stores: &Stores, who: Who, kind: impl Fn(&mut Counts) -> &mut usize) {
+        self.orders[stores.patched.order() as usize] += 1;
         *kind(&mut self.all) += 1;
         if who == Who::Both {
             *kind(&mut self.by_both) += 1;
@@ -248,10 +283,12 @@ impl fmt::Display for Summary {
         write!(
             out,
             "{} histories agree (all, of these by both oracles): initialise {}, {}; insert {}, {}; list {}, {}; \
-             sound {}, {}; unsound {}, {}; pages damaged or repaired {}; parts of heaps {}; roots by height at {:?} bytes {:?}\n\
+             sound {}, {}; unsound {}, {}; pages damaged or repaired {}; parts of heaps {}; other records {}; \
+             in the orders {:?} {:?}; roots by height at {:?} bytes {:?}\n\
              {} faults named, by call\n{}",
             self.histories, all.initialise, both.initialise, all.insert, both.insert, all.list, both.list,
-            all.sound, both.sound, all.unsound, both.unsound, self.pokes, self.laid, PAGE_SIZES, self.heights,
+            all.sound, both.sound, all.unsound, both.unsound, self.pokes, self.laid, self.said,
+            Order::ALL, self.orders, PAGE_SIZES, self.heights,
             self.names.total(), self.names,
         )?;
         for (&(call, number), times) in &self.nameless {

@@ -4,14 +4,14 @@ use std::fs;
 use std::io::{self, BufRead, Write};
 use std::rc::Rc;
 
-use harness::{capacity, Constant, Heap, Node, Oracle, Order, Pages, Panic, Verdict, Which, MAX_VALUE, NONE};
+use harness::{capacity, By, Constant, Heap, Node, Oracle, Order, Pages, Panic, Verdict, Which, MAX_VALUE, NONE};
 
 use crate::recording::digest;
 use crate::text::{
     parse_batch, parse_bytes, parse_datom, parse_number, parse_page_id, show_all, show_datom, show_page_id,
 };
 
-const COMMANDS: &str = "oracle plain|patched, order eavt|rule, size 256|568|4096|8192, new, initialise D.., \
+const COMMANDS: &str = "oracle plain|patched, by noblit|rule, order eavt|aevt|avet, size 256|568|4096|8192, new, initialise D.., \
     insert ROOT D.., grow ROOT D.., list ROOT LO HI, lists ROOT D.., check ROOT, height ROOT, page N, node N, count, digest, \
     poke PAGE OFFSET BYTE, save FILE, load FILE, compare D D, span CHILD.., inline NUMBER|\"BYTES\", append NUMBER|\"BYTES\", heap, \
     spoil OFFSET BYTE";
@@ -60,8 +60,8 @@ struct Session {
 impl Session {
     fn new() -> Session {
         Session {
-            oracle: Oracle { which: Which::Patched, order: Order::Eavt },
-            pages: Pages::new(256),
+            oracle: Oracle { which: Which::Patched, by: By::Noblit },
+            pages: Pages::new(256, Order::Eavt),
             last_root: NONE,
         }
     }
@@ -71,8 +71,9 @@ impl Session {
         match *words {
             ["oracle", "plain"] => self.choose(Which::Plain),
             ["oracle", "patched"] => self.choose(Which::Patched),
-            ["order", "eavt"] => self.order(Order::Eavt),
-            ["order", "rule"] => self.order(Order::Rule),
+            ["by", "noblit"] => self.compare_by(By::Noblit),
+            ["by", "rule"] => self.compare_by(By::Rule),
+            ["order", name] => self.order(name),
             ["size", size] => self.start(parse_number(size)? as usize),
             ["new"] => self.start(self.pages.page_size()),
             ["initialise", ref batch @ ..] => self.initialise(batch),
@@ -104,14 +105,21 @@ impl Session {
         Ok("ok".to_string())
     }
 
-    fn order(&mut self, order: Order) -> Result<String, String> {
-        self.oracle.order = order;
+    fn compare_by(&mut self, by: By) -> Result<String, String> {
+        self.oracle.by = by;
+        Ok("ok".to_string())
+    }
+
+    /// The store stays as it is, and is read in this order from here on.
+    fn order(&mut self, name: &str) -> Result<String, String> {
+        let order = Order::ALL.into_iter().find(|order| order.name() == name).ok_or_else(|| format!("there is no order {}", name))?;
+        self.pages.set_order(order);
         Ok("ok".to_string())
     }
 
     fn start(&mut self, page_size: usize) -> Result<String, String> {
         let datoms = capacity(page_size).ok_or_else(|| format!("there is no page size {}", page_size))?;
-        self.pages = Pages::new(page_size);
+        self.pages = Pages::new(page_size, self.pages.order());
         self.last_root = NONE;
         Ok(format!("new store, {} datoms a page", datoms))
     }
@@ -223,7 +231,7 @@ impl Session {
     }
 
     fn compare(&self, left: &str, right: &str) -> Result<String, String> {
-        Ok(match self.oracle.compare(self.pages.heap(), &parse_datom(left)?, &parse_datom(right)?) {
+        Ok(match self.oracle.compare(self.pages.order(), self.pages.heap(), &parse_datom(left)?, &parse_datom(right)?) {
             Ok(order) => format!("{:?}", order).to_lowercase(),
             Err(message) => refusal(&message),
         })

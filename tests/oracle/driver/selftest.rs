@@ -1,15 +1,15 @@
-//! Compares noblit's order, byte strings and heap with those written to documents 01 and 02, on random pairs and constants, and some
+//! Compares noblit's orders, byte strings and heap with those written to documents 01 and 02, on random pairs and constants, and some
 //! records with the text of their format.
 
 use std::cmp::Ordering;
 use std::rc::Rc;
 
 use harness::{
-    bad_constant, byte_string, Answer, Datom, Heap, Kind, Oracle, Order, Random, Supply, Which, Word, MALFORMED, MAX_VALUE,
+    bad_constant, byte_string, Answer, By, Datom, Heap, Kind, Oracle, Order, Random, Supply, Which, Word, MALFORMED, MAX_VALUE,
 };
 
 use crate::model::Cursor;
-use crate::recording::{Question, Record};
+use crate::recording::{Question, Record, Stored};
 use crate::text::show_datom;
 
 const SEED: u64 = 1;
@@ -24,39 +24,49 @@ const BUILDS: [Which; 2] = [Which::Plain, Which::Patched];
 
 pub fn selftest() -> Result<(), String> {
     let mut random = Random::new(SEED);
-    let (mut orders, no_heap) = (Orders::default(), Rc::default());
+    let (mut outcomes, no_heap) = (Outcomes::default(), Rc::default());
     for _ in 0..PAIRS {
         agreed_string(&bytes(&mut random))?;
         let left = bound(&mut random);
         let right = neighbour(&mut random, &left);
-        orders.count(agreed_order(&no_heap, &left, &right)?);
+        outcomes.count(agreed_orders(&no_heap, &left, &right)?);
     }
-    println!("{} pairs agree: {}", PAIRS, orders);
+    println!("{} pairs agree: {}", PAIRS, outcomes);
+    if outcomes.other == 0 {
+        return Err("no pair on which two orders differ".to_string());
+    }
     agreed_heaps(&mut random)?;
     known_constants()?;
     agreed_records()
 }
 
+/// How pairs compare, a number for each order.
 #[derive(Default)]
-struct Orders {
-    less: usize,
+struct Outcomes {
+    less: [usize; Order::ALL.len()],
     equal: usize,
-    greater: usize,
+    greater: [usize; Order::ALL.len()],
+    /// Pairs of which two orders say something else.
+    other: usize,
 }
 
-impl Orders {
-    fn count(&mut self, order: Ordering) {
-        match order {
-            Ordering::Less => self.less += 1,
-            Ordering::Equal => self.equal += 1,
-            Ordering::Greater => self.greater += 1,
+impl Outcomes {
+    fn count(&mut self, found: [Ordering; Order::ALL.len()]) {
+        for (i, outcome) in found.into_iter().enumerate() {
+            self.less[i] += outcome.is_lt() as usize;
+            self.greater[i] += outcome.is_gt() as usize;
         }
+        self.equal += found[0].is_eq() as usize;
+        self.other += found.iter().any(|outcome| *outcome != found[0]) as usize;
     }
 }
 
-impl std::fmt::Display for Orders {
+impl std::fmt::Display for Outcomes {
     fn fmt(&self, out: &mut std::fmt::Formatter) -> std::fmt::Result {
-        write!(out, "{} less, {} equal, {} greater", self.less, self.equal, self.greater)
+        write!(
+            out, "in the orders {:?} {:?} less, {:?} greater, and {} equal; {} less in one and greater in another",
+            Order::ALL, self.less, self.greater, self.equal, self.other,
+        )
     }
 }
 
@@ -73,7 +83,8 @@ fn agreed_records() -> Result<(), String> {
     agreed_record(Record::Begin { page_size: 21, room: 22, history: 23, heap_room: 0 }, &[1, 21, 22, 23])?;
     agreed_record(Record::Begin { page_size: 21, room: 22, history: 23, heap_room: 24 }, &[1, 21, 22, 23, 24])?;
     agreed_record(Record::Heap { offset: 21, bytes: vec![1, 0, 0, 0, 0, 0, 0, 0] }, &[9, 21, 1])?;
-    println!("so is the beginning of a history with a heap and without, and what goes to the heap");
+    agreed_record(Record::Stored(Stored { page_size: 21, page_count: 22, heap_length: 23, order: 24 }), &[10, 21, 22, 23, 24])?;
+    println!("so is the beginning of a history with a heap and without, what goes to the heap, and what the store's record says");
     Ok(())
 }
 
@@ -100,7 +111,7 @@ fn agreed_record(record: Record, content: &[u64]) -> Result<(), String> {
 /// Both oracles must have the word that document 01 gives a byte string.
 fn agreed_string(bytes: &[u8]) -> Result<(), String> {
     for which in BUILDS {
-        let found = Oracle { which, order: Order::Eavt }.inline_bytes(bytes);
+        let found = Oracle { which, by: By::Noblit }.inline_bytes(bytes);
         if found != Some(byte_string(bytes)) {
             return Err(format!("the {:?} Rust has {:x?} for the byte string {:x?}", which, found, bytes));
         }
@@ -108,46 +119,55 @@ fn agreed_string(bytes: &[u8]) -> Result<(), String> {
     Ok(())
 }
 
-/// What both orders say of a pair, which both oracles must say both ways round.
-fn agreed_order(heap: &Rc<Heap>, left: &Datom, right: &Datom) -> Result<Ordering, String> {
+/// What the documents say of a pair in each order: both oracles must say so both ways round. "Equal only for equal datoms", so in all orders or
+/// in none.
+fn agreed_orders(heap: &Rc<Heap>, left: &Datom, right: &Datom) -> Result<[Ordering; Order::ALL.len()], String> {
     assert!(heap.is_bound(left) && heap.is_bound(right), "the generator makes well-formed datoms only");
-    let ruled = heap.compare(left, right);
-    for which in BUILDS {
-        let oracle = Oracle { which, order: Order::Eavt };
-        for (l, r, expected) in [(left, right, ruled), (right, left, ruled.reverse())] {
-            let found = oracle.compare(heap, l, r);
-            if found != Ok(expected) {
-                return Err(format!(
-                    "{} and {} are {:?} by the documents but {:?} in the {:?} Rust, heap {:x?}",
-                    show_datom(l), show_datom(r), expected, found, which, heap.bytes(),
-                ));
-            }
+    let ruled = Order::ALL.map(|order| heap.compare(order, left, right));
+    for (order, ruled) in Order::ALL.into_iter().zip(ruled) {
+        for which in BUILDS {
+            agreed_order(which, order, heap, left, right, ruled)?;
+            agreed_order(which, order, heap, right, left, ruled.reverse())?;
         }
+    }
+    if ruled.iter().any(|outcome| outcome.is_eq()) && ruled.iter().any(|outcome| outcome.is_ne()) {
+        return Err(format!("{} and {} are equal in some orders alone: {:?}", show_datom(left), show_datom(right), ruled));
     }
     Ok(ruled)
 }
 
+fn agreed_order(which: Which, order: Order, heap: &Rc<Heap>, left: &Datom, right: &Datom, ruled: Ordering) -> Result<(), String> {
+    let found = Oracle { which, by: By::Noblit }.compare(order, heap, left, right);
+    if found == Ok(ruled) {
+        return Ok(());
+    }
+    Err(format!(
+        "{} and {} are {:?} by the documents but {:?} in {:?} of the {:?} Rust, heap {:x?}",
+        show_datom(left), show_datom(right), ruled, found, order, which, heap.bytes(),
+    ))
+}
+
 /// The same constants make the same heap and have the same words. Pairs of values on it compare alike, as do those of equal content.
 fn agreed_heaps(random: &mut Random) -> Result<(), String> {
-    let (mut orders, mut constants, mut twins, mut unread) = (Orders::default(), 0, 0, 0);
+    let (mut outcomes, mut constants, mut twins, mut unread) = (Outcomes::default(), 0, 0, 0);
     for i in 0..HEAPS {
         let kind = [Kind::LongStrings, Kind::LongIntegers, Kind::LongMixed][i % 3];
-        let supply = Supply::new(kind, LONG, random);
+        let supply = Supply::new(kind, LONG, Order::ALL[i / 3 % 3], random);
         let heap = supply.heap();
         agreed_appends(&supply)?;
         constants += supply.constants().len();
         for _ in 0..LONG_PAIRS {
             let left = supply.any(random);
             let right = long_neighbour(&supply, &left, random);
-            let order = agreed_order(heap, &left, &right)?;
-            twins += (order.is_eq() && left != right) as usize;
-            orders.count(order);
+            let found = agreed_orders(heap, &left, &right)?;
+            twins += (found[0].is_eq() && left != right) as usize;
+            outcomes.count(found);
         }
         for _ in 0..LONG {
             unread += is_unread(heap, bad_constant(heap, random))? as usize;
         }
     }
-    println!("{} constants are laid alike; {} pairs of long values agree: {}, {} of these by other words", constants, HEAPS * LONG_PAIRS, orders, twins);
+    println!("{} constants are laid alike; {} pairs of long values agree: {}, {} of these by other words", constants, HEAPS * LONG_PAIRS, outcomes, twins);
     println!("{} constants that are not valid, {} of them a panic of the Rust", HEAPS * LONG, unread);
     if twins == 0 || unread == 0 { Err("no words of equal content, or none that the Rust does not read".to_string()) } else { Ok(()) }
 }
@@ -155,7 +175,7 @@ fn agreed_heaps(random: &mut Random) -> Result<(), String> {
 fn agreed_appends(supply: &Supply) -> Result<(), String> {
     let (heap, constants) = (supply.heap(), supply.constants());
     for which in BUILDS {
-        let appended = Oracle { which, order: Order::Eavt }.append(&Heap::default(), constants)?;
+        let appended = Oracle { which, by: By::Noblit }.append(&Heap::default(), constants)?;
         if !appended.is_in(heap, constants) {
             return Err(format!("the {:?} Rust lays {:x?} as {:x?}", which, constants, appended));
         }
@@ -181,7 +201,7 @@ fn is_unread(heap: &Rc<Heap>, word: u64) -> Result<bool, String> {
     if heap.is_storable(&datom) {
         return Err(format!("{:#018x} is a constant of {:x?}", word, heap.bytes()));
     }
-    Ok(Oracle { which: Which::Patched, order: Order::Eavt }.compare(heap, &datom, &datom).is_err())
+    Ok(Oracle { which: Which::Patched, by: By::Noblit }.compare(Order::Eavt, heap, &datom, &datom).is_err())
 }
 
 /// Constants that are valid and some that are not, by document 02's text: a heap by its words, a value, whether a page may have it.

@@ -33,7 +33,7 @@ pub fn readable_damage(pages: &Pages, root: u64, supply: &Supply, random: &mut R
             page.iter_mut().for_each(|byte| *byte = random.word() as u8);
         }
         node.encode_over(&mut page);
-        if page != old && node.is_readable(id, pages.heap()) { Some((id, page)) } else { None }
+        if page != old && node.is_readable(id, pages.order(), pages.heap()) { Some((id, page)) } else { None }
     })
 }
 

@@ -1,4 +1,4 @@
-//! Datoms as words, and the form and order that documents 01 and 02 give them over a heap, written to their text and not to noblit.
+//! Datoms as words, and the form and the orders that documents 01 and 02 give them over a heap, written to their text and not to noblit.
 
 use std::cmp::Ordering;
 
@@ -9,6 +9,51 @@ pub type Datom = [u64; 4];
 
 /// The value above all others, allowed in a bound and not in a stored datom.
 pub const MAX_VALUE: u64 = u64::MAX;
+
+/// The places of a datom's words.
+const ENTITY: usize = 0;
+const ATTRIBUTE: usize = 1;
+const VALUE: usize = 2;
+const LAST: usize = 3;
+
+/// Which words of two datoms decide before which, with the number that document 02, Three, gives it.
+#[derive(Clone, Copy, Debug, Default, PartialEq)]
+pub enum Order {
+    #[default]
+    Eavt = 0,
+    Aevt = 1,
+    Avet = 2,
+}
+
+impl Order {
+    pub const ALL: [Order; 3] = [Order::Eavt, Order::Aevt, Order::Avet];
+
+    pub fn number(self) -> u64 {
+        self as u64
+    }
+
+    /// Nothing for a number that no order has.
+    pub fn of_number(number: u64) -> Option<Order> {
+        Order::ALL.into_iter().find(|order| order.number() == number)
+    }
+
+    pub fn name(self) -> &'static str {
+        match self {
+            Order::Eavt => "eavt",
+            Order::Aevt => "aevt",
+            Order::Avet => "avet",
+        }
+    }
+
+    /// The places of a datom's words, the one that decides first in front.
+    pub fn places(self) -> [usize; 4] {
+        match self {
+            Order::Eavt => [ENTITY, ATTRIBUTE, VALUE, LAST],
+            Order::Aevt => [ATTRIBUTE, ENTITY, VALUE, LAST],
+            Order::Avet => [ATTRIBUTE, VALUE, ENTITY, LAST],
+        }
+    }
+}
 
 const INLINE_INTEGERS: u64 = 1 << 62;
 const LONGEST_STRING: usize = 7;
@@ -148,12 +193,13 @@ impl Heap {
         datom[2] == MAX_VALUE || self.is_storable(datom)
     }
 
-    /// Document 01's order: entity, attribute, value, last word; values by content, of any words.
-    pub fn compare(&self, left: &Datom, right: &Datom) -> Ordering {
-        left[0].cmp(&right[0])
-            .then(left[1].cmp(&right[1]))
-            .then_with(|| self.compare_values(left[2], right[2]))
-            .then(left[3].cmp(&right[3]))
+    /// Word for word as the order has them; values by content, of any words.
+    pub fn compare(&self, order: Order, left: &Datom, right: &Datom) -> Ordering {
+        let at = |place: usize| match place {
+            VALUE => self.compare_values(left[VALUE], right[VALUE]),
+            _ => left[place].cmp(&right[place]),
+        };
+        order.places().into_iter().map(at).find(|decided| decided.is_ne()).unwrap_or(Ordering::Equal)
     }
 
     fn compare_values(&self, left: u64, right: u64) -> Ordering {

@@ -19,10 +19,10 @@ mod supply;
 
 pub use answer::Answer;
 pub use damage::{bad_constant, bad_value, readable_damage, relevel, spoiled, MALFORMED};
-pub use datom::{byte_string, is_formed, Datom, Word, MAX_VALUE};
+pub use datom::{byte_string, is_formed, Datom, Order, Word, MAX_VALUE};
 pub use heap::{Constant, Heap};
 pub use node::{capacity, Node, Rule, PAGE_SIZES};
-pub use oracle::{Appended, Oracle, Order, Verdict, Which};
+pub use oracle::{Appended, By, Oracle, Verdict, Which};
 pub use pages::{Pages, NONE};
 pub use panics::Panic;
 pub use random::Random;

@@ -2,7 +2,7 @@
 
 use std::cmp::Ordering;
 
-use crate::datom::Datom;
+use crate::datom::{Datom, Order};
 use crate::heap::Heap;
 use crate::pages::NONE;
 
@@ -81,33 +81,33 @@ impl Node {
         page[40 * cap + 9] = self.datoms.len() as u8;
     }
 
-    /// What the page with this id holds, its constants on this heap, or the first rule that it breaks.
-    pub fn read(page: &[u8], id: u64, heap: &Heap) -> Result<Node, Rule> {
+    /// What the page with this id holds, its datoms in this order and its constants on this heap, or the first rule that it breaks.
+    pub fn read(page: &[u8], id: u64, order: Order, heap: &Heap) -> Result<Node, Rule> {
         let cap = capacity(page.len()).expect("a page of known size");
         if page[40 * cap + 8] > HIGHEST_LEVEL {
             return Err(Rule::Level);
         }
         let node = Node::decode(page).ok_or(Rule::Count)?;
-        node.broken_rule(id, heap).map_or(Ok(node), Err)
+        node.broken_rule(id, order, heap).map_or(Ok(node), Err)
     }
 
     /// Document 01's "Readable" for the page with this id, apart from the count, which `decode` tests.
-    pub fn is_readable(&self, id: u64, heap: &Heap) -> bool {
-        self.broken_rule(id, heap).is_none()
+    pub fn is_readable(&self, id: u64, order: Order, heap: &Heap) -> bool {
+        self.broken_rule(id, order, heap).is_none()
     }
 
-    fn broken_rule(&self, id: u64, heap: &Heap) -> Option<Rule> {
-        Rule::ALL.into_iter().find(|&rule| self.breaks(rule, id, heap))
+    fn broken_rule(&self, id: u64, order: Order, heap: &Heap) -> Option<Rule> {
+        Rule::ALL.into_iter().find(|&rule| self.breaks(rule, id, order, heap))
     }
 
     /// Whether the page with this id breaks a rule. "All datoms' form, constants included, comes before the order of any."
-    pub fn breaks(&self, rule: Rule, id: u64, heap: &Heap) -> bool {
+    pub fn breaks(&self, rule: Rule, id: u64, order: Order, heap: &Heap) -> bool {
         let is_real = |&child: &u64| child != NONE;
         match rule {
             Rule::Level => self.level > HIGHEST_LEVEL,
             Rule::Count => false,
             Rule::Form => !self.datoms.iter().all(|datom| heap.is_storable(datom)),
-            Rule::Order => self.datoms.windows(2).any(|pair| heap.compare(&pair[0], &pair[1]) != Ordering::Less),
+            Rule::Order => self.datoms.windows(2).any(|pair| heap.compare(order, &pair[0], &pair[1]) != Ordering::Less),
             Rule::LeafChild => self.level == 0 && self.children.iter().any(is_real),
             Rule::LastChild => self.level > 0 && !self.children.last().is_some_and(is_real),
             Rule::ChildId => self.children.iter().filter(|child| is_real(child)).any(|&child| child >= id),

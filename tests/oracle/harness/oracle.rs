@@ -3,7 +3,7 @@
 use std::cmp::Ordering;
 use std::rc::Rc;
 
-use crate::datom::Datom;
+use crate::datom::{Datom, Order};
 use crate::heap::{Constant, Heap};
 use crate::pages::Pages;
 use crate::panics::{catching, Panic};
@@ -17,12 +17,12 @@ pub enum Which {
     Patched,
 }
 
-/// Which comparator the Rust's tree is given.
+/// Whose comparator the Rust's tree is given. In which order it compares is the store's matter.
 #[derive(Clone, Copy, Debug, PartialEq)]
-pub enum Order {
-    /// Noblit's own.
-    Eavt,
-    /// The one written to document 01.
+pub enum By {
+    /// Noblit's own: Eavt, Aevt or Avet.
+    Noblit,
+    /// The one written to the documents.
     Rule,
 }
 
@@ -56,7 +56,7 @@ impl Appended {
 #[derive(Clone, Copy)]
 pub struct Oracle {
     pub which: Which,
-    pub order: Order,
+    pub by: By,
 }
 
 /// Calls an operation of one of the modules below, at the build this oracle stands for.
@@ -73,28 +73,28 @@ impl Oracle {
     /// The root of a new tree with these datoms, appended to the store.
     pub fn initialise(self, pages: &mut Pages, batch: &[Datom]) -> Result<u64, Panic> {
         pages.forget_last_read();
-        let outcome = catching(|| at_build!(self, initialise(self.order, pages, batch)));
+        let outcome = catching(|| at_build!(self, initialise(self.by, pages, batch)));
         with_page_read(pages, outcome)
     }
 
     /// The root of the tree at `root` with these datoms added, appended to the store.
     pub fn insert(self, pages: &mut Pages, root: u64, batch: &[Datom]) -> Result<u64, Panic> {
         pages.forget_last_read();
-        let outcome = catching(|| at_build!(self, insert(self.order, pages, root, batch)));
+        let outcome = catching(|| at_build!(self, insert(self.by, pages, root, batch)));
         with_page_read(pages, outcome)
     }
 
     /// Appends to `listed` the datoms from `lower` on and before `upper`, as far as the Rust gets.
     pub fn list(self, pages: &Pages, root: u64, lower: &Datom, upper: &Datom, listed: &mut Vec<Datom>) -> Result<(), Panic> {
         pages.forget_last_read();
-        let outcome = catching(|| at_build!(self, list(self.order, pages, root, lower, upper, listed)));
+        let outcome = catching(|| at_build!(self, list(self.by, pages, root, lower, upper, listed)));
         with_page_read(pages, outcome)
     }
 
     /// One more than the level of the root page.
     pub fn height(self, pages: &Pages, root: u64) -> Result<u8, Panic> {
         pages.forget_last_read();
-        let outcome = catching(|| at_build!(self, height(self.order, pages, root)));
+        let outcome = catching(|| at_build!(self, height(self.by, pages, root)));
         with_page_read(pages, outcome)
     }
 
@@ -102,16 +102,16 @@ impl Oracle {
     /// none, the fault lies in the page just read (its level, or that it cannot be read at all).
     pub fn check(self, pages: &Pages, root: u64) -> Verdict {
         pages.forget_last_read();
-        let outcome = catching(|| at_build!(self, check(self.order, pages, root)));
+        let outcome = catching(|| at_build!(self, check(self.by, pages, root)));
         match with_page_read(pages, outcome) {
             Ok(()) => Verdict::Sound,
             Err(panic) => Verdict::Unsound(page_named(&panic.message).unwrap_or(panic.last_read), panic.message),
         }
     }
 
-    /// How two datoms compare, their constants on this heap.
-    pub fn compare(self, heap: &Rc<Heap>, left: &Datom, right: &Datom) -> Result<Ordering, String> {
-        catching(|| at_build!(self, compare_datoms(self.order, heap, left, right)))
+    /// How two datoms compare in an order, their constants on this heap.
+    pub fn compare(self, order: Order, heap: &Rc<Heap>, left: &Datom, right: &Datom) -> Result<Ordering, String> {
+        catching(|| at_build!(self, compare_datoms(self.by, order, heap, left, right)))
     }
 
     /// Constants appended to a heap, one after the other.
@@ -146,19 +146,30 @@ fn page_named(message: &str) -> Option<u64> {
     number.parse().ok()
 }
 
-/// Calls an operation below with the comparator and the page size as types.
+/// Calls an operation below with a comparator, and with the page size as a type.
+macro_rules! at_size {
+    ($pages:expr, $operation:ident($($argument:expr),*)) => {
+        match $pages.page_size() {
+            256 => $operation::<_, PageSize256>($($argument),*),
+            568 => $operation::<_, PageSize568>($($argument),*),
+            4096 => $operation::<_, PageSize4096>($($argument),*),
+            8192 => $operation::<_, PageSize8192>($($argument),*),
+            size => panic!("noblit has no page size {}", size),
+        }
+    };
+}
+
+/// Calls an operation below with the comparator of the store's order and its page size as types.
 macro_rules! at_order_and_size {
-    ($order:expr, $pages:expr, $operation:ident($($argument:expr),*)) => {
-        match ($order, $pages.page_size()) {
-            (Order::Eavt, 256) => $operation::<_, PageSize256>(Eavt, $($argument),*),
-            (Order::Eavt, 568) => $operation::<_, PageSize568>(Eavt, $($argument),*),
-            (Order::Eavt, 4096) => $operation::<_, PageSize4096>(Eavt, $($argument),*),
-            (Order::Eavt, 8192) => $operation::<_, PageSize8192>(Eavt, $($argument),*),
-            (Order::Rule, 256) => $operation::<_, PageSize256>(ByRule(Rc::clone($pages.heap())), $($argument),*),
-            (Order::Rule, 568) => $operation::<_, PageSize568>(ByRule(Rc::clone($pages.heap())), $($argument),*),
-            (Order::Rule, 4096) => $operation::<_, PageSize4096>(ByRule(Rc::clone($pages.heap())), $($argument),*),
-            (Order::Rule, 8192) => $operation::<_, PageSize8192>(ByRule(Rc::clone($pages.heap())), $($argument),*),
-            (_, size) => panic!("noblit has no page size {}", size),
+    ($by:expr, $pages:expr, $operation:ident($($argument:expr),*)) => {
+        match ($by, $pages.order()) {
+            (By::Noblit, Order::Eavt) => at_size!($pages, $operation(Eavt, $($argument),*)),
+            (By::Noblit, Order::Aevt) => at_size!($pages, $operation(Aevt, $($argument),*)),
+            (By::Noblit, Order::Avet) => at_size!($pages, $operation(Avet, $($argument),*)),
+            (By::Rule, order) => {
+                let rule = ByRule { order, heap: Rc::clone($pages.heap()) };
+                at_size!($pages, $operation(rule, $($argument),*))
+            }
         }
     };
 }
@@ -178,11 +189,11 @@ macro_rules! build_of_noblit {
             use $noblit::datom::{Aid, Datom as Fact, Eid, Operation, Tid, Value};
             use $noblit::heap::{Heap, HeapMut, SizedHeap};
             use $noblit::htree::{HTree, Node};
-            use $noblit::index::{DatomOrd, Eavt};
+            use $noblit::index::{Aevt, Avet, DatomOrd, Eavt};
             use $noblit::memory_store::MemoryHeap;
             use $noblit::store::{PageId, PageSize, PageSize256, PageSize4096, PageSize568, Store, StoreMut};
 
-            use super::{Appended, Constant, Datom, Heap as Constants, Order, Pages};
+            use super::{Appended, By, Constant, Datom, Heap as Constants, Order, Pages};
 
             include!("page_size_8192.rs");
 
@@ -231,11 +242,14 @@ macro_rules! build_of_noblit {
             }
 
             /// The comparator written to documents 01 and 02, which reads the heap by itself.
-            struct ByRule(Rc<Constants>);
+            struct ByRule {
+                order: Order,
+                heap: Rc<Constants>,
+            }
 
             impl DatomOrd for ByRule {
                 fn cmp(&self, left: &Fact, right: &Fact, _heap: &dyn Heap) -> Ordering {
-                    self.0.compare(&words(left), &words(right))
+                    self.heap.compare(self.order, &words(left), &words(right))
                 }
             }
 
@@ -309,31 +323,33 @@ macro_rules! build_of_noblit {
                 HTree::new(PageId(root), order, store, &*heap).height()
             }
 
-            pub fn initialise(order: Order, pages: &mut Pages, batch: &[Datom]) -> u64 {
-                at_order_and_size!(order, pages, initialise_at(pages, batch))
+            pub fn initialise(by: By, pages: &mut Pages, batch: &[Datom]) -> u64 {
+                at_order_and_size!(by, pages, initialise_at(pages, batch))
             }
 
-            pub fn insert(order: Order, pages: &mut Pages, root: u64, batch: &[Datom]) -> u64 {
-                at_order_and_size!(order, pages, insert_at(pages, root, batch))
+            pub fn insert(by: By, pages: &mut Pages, root: u64, batch: &[Datom]) -> u64 {
+                at_order_and_size!(by, pages, insert_at(pages, root, batch))
             }
 
-            pub fn list(order: Order, pages: &Pages, root: u64, lower: &Datom, upper: &Datom, listed: &mut Vec<Datom>) {
-                at_order_and_size!(order, pages, list_at(pages, root, lower, upper, listed))
+            pub fn list(by: By, pages: &Pages, root: u64, lower: &Datom, upper: &Datom, listed: &mut Vec<Datom>) {
+                at_order_and_size!(by, pages, list_at(pages, root, lower, upper, listed))
             }
 
-            pub fn check(order: Order, pages: &Pages, root: u64) {
-                at_order_and_size!(order, pages, check_at(pages, root))
+            pub fn check(by: By, pages: &Pages, root: u64) {
+                at_order_and_size!(by, pages, check_at(pages, root))
             }
 
-            pub fn height(order: Order, pages: &Pages, root: u64) -> u8 {
-                at_order_and_size!(order, pages, height_at(pages, root))
+            pub fn height(by: By, pages: &Pages, root: u64) -> u8 {
+                at_order_and_size!(by, pages, height_at(pages, root))
             }
 
-            pub fn compare_datoms(order: Order, heap: &Rc<Constants>, left: &Datom, right: &Datom) -> Ordering {
-                let by_noblit = memory_heap(heap);
-                match order {
-                    Order::Eavt => Eavt.cmp(&fact(left), &fact(right), &*by_noblit),
-                    Order::Rule => ByRule(Rc::clone(heap)).cmp(&fact(left), &fact(right), &*by_noblit),
+            pub fn compare_datoms(by: By, order: Order, heap: &Rc<Constants>, left: &Datom, right: &Datom) -> Ordering {
+                let (by_noblit, left, right) = (memory_heap(heap), fact(left), fact(right));
+                match (by, order) {
+                    (By::Noblit, Order::Eavt) => Eavt.cmp(&left, &right, &*by_noblit),
+                    (By::Noblit, Order::Aevt) => Aevt.cmp(&left, &right, &*by_noblit),
+                    (By::Noblit, Order::Avet) => Avet.cmp(&left, &right, &*by_noblit),
+                    (By::Rule, order) => ByRule { order, heap: Rc::clone(heap) }.cmp(&left, &right, &*by_noblit),
                 }
             }
 

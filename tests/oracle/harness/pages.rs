@@ -1,9 +1,11 @@
-//! A store of pages that remembers which page was read last, and the heap that its values name constants of.
+//! A store of pages that remembers which page was read last, the order that its trees have, and the heap that its values name constants of.
 
 use std::cell::Cell;
+use std::cmp::Ordering;
 use std::rc::Rc;
 use std::slice;
 
+use crate::datom::{Datom, Order};
 use crate::heap::Heap;
 
 /// The page id that means "none".
@@ -16,6 +18,7 @@ pub const NONE: u64 = u64::MAX;
 pub struct Pages {
     page_size: usize,
     words: Vec<u64>,
+    order: Order,
     heap: Rc<Heap>,
     last_read: Cell<u64>,
     lost: Cell<u64>,
@@ -23,9 +26,23 @@ pub struct Pages {
 
 impl Pages {
     /// No pages, and an empty heap.
-    pub fn new(page_size: usize) -> Pages {
+    pub fn new(page_size: usize, order: Order) -> Pages {
         assert_eq!(page_size % 8, 0, "a page is a whole number of words");
-        Pages { page_size, words: Vec::new(), heap: Rc::default(), last_read: Cell::new(NONE), lost: Cell::new(NONE) }
+        Pages { page_size, words: Vec::new(), order, heap: Rc::default(), last_read: Cell::new(NONE), lost: Cell::new(NONE) }
+    }
+
+    pub fn order(&self) -> Order {
+        self.order
+    }
+
+    /// The pages are read in this order from here on, whatever they were written in.
+    pub fn set_order(&mut self, order: Order) {
+        self.order = order;
+    }
+
+    /// In the order of the store, by content.
+    pub fn compare(&self, left: &Datom, right: &Datom) -> Ordering {
+        self.heap.compare(self.order, left, right)
     }
 
     pub fn heap(&self) -> &Rc<Heap> {

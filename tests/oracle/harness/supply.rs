@@ -1,9 +1,10 @@
 //! Datoms for histories: which there are, which go into a batch, and bounds around them.
 
+use std::cmp::Ordering;
 use std::collections::BTreeMap;
 use std::rc::Rc;
 
-use crate::datom::{byte_string, Datom, Word, MAX_VALUE};
+use crate::datom::{byte_string, Datom, Order, Word, MAX_VALUE};
 use crate::heap::{Constant, Heap};
 use crate::random::Random;
 
@@ -38,6 +39,9 @@ impl Kind {
 /// One in so many constants stands at two offsets from the start.
 const TWINS: usize = 6;
 
+/// One in so many bounds is an edge.
+const EDGES: usize = 4;
+
 /// Which of the datoms not yet held go into the next batch.
 #[derive(Clone, Copy, Debug, PartialEq)]
 pub enum Plan {
@@ -51,8 +55,10 @@ pub enum Plan {
 /// The datoms that a tree holds: a mark for each datom of the supply.
 pub type Held = Vec<bool>;
 
-/// All datoms that a history may use, in order and without repeats, and the heap with their constants.
+/// All datoms that a history may use, in its order and without repeats, and the heap with their constants.
+#[derive(Clone)]
 pub struct Supply {
+    order: Order,
     datoms: Vec<Datom>,
     heap: Rc<Heap>,
     /// Every constant of the heap, in its order.
@@ -62,16 +68,16 @@ pub struct Supply {
 }
 
 impl Supply {
-    pub fn new(kind: Kind, amount: usize, random: &mut Random) -> Supply {
+    pub fn new(kind: Kind, amount: usize, order: Order, random: &mut Random) -> Supply {
         let (mut datoms, mut values) = (Vec::new(), Values::default());
         while datoms.len() < amount {
             while datoms.len() < amount {
                 datoms.push(datom(kind, datoms.len() as u64, &mut values, random));
             }
-            datoms.sort_by(|left, right| values.heap.compare(left, right));
-            datoms.dedup_by(|right, left| values.heap.compare(left, right).is_eq());
+            datoms.sort_by(|left, right| values.heap.compare(order, left, right));
+            datoms.dedup_by(|right, left| values.heap.compare(order, left, right).is_eq());
         }
-        let mut supply = Supply { datoms, heap: Rc::new(values.heap), laid: values.laid, twins: BTreeMap::new() };
+        let mut supply = Supply { order, datoms, heap: Rc::new(values.heap), laid: values.laid, twins: BTreeMap::new() };
         for i in 0..amount {
             if supply.is_long(i) && random.one_in(TWINS) {
                 supply.lay_anew(i);
@@ -80,8 +86,20 @@ impl Supply {
         supply
     }
 
+    /// The same datoms on the same heap in another order.
+    pub fn reordered(&self, order: Order) -> Supply {
+        let mut supply = Supply { order, ..self.clone() };
+        supply.datoms.sort_by(|left, right| self.heap.compare(order, left, right));
+        supply
+    }
+
     pub fn heap(&self) -> &Rc<Heap> {
         &self.heap
+    }
+
+    /// In the order of the supply, by content.
+    pub fn compare(&self, left: &Datom, right: &Datom) -> Ordering {
+        self.heap.compare(self.order, left, right)
     }
 
     /// The constants of the heap, in its order.
@@ -118,7 +136,7 @@ impl Supply {
 
     /// The held datoms that lie in the listing between these bounds.
     pub fn listing(&self, held: &Held, lower: &Datom, upper: &Datom) -> Vec<Datom> {
-        let within = |datom: &Datom| self.heap.compare(lower, datom).is_le() && self.heap.compare(datom, upper).is_lt();
+        let within = |datom: &Datom| self.compare(lower, datom).is_le() && self.compare(datom, upper).is_lt();
         self.datoms.iter().zip(held).filter(|(datom, &is_held)| is_held && within(datom)).map(|(&datom, _)| datom).collect()
     }
 
@@ -164,6 +182,10 @@ impl Supply {
     /// the held datoms, of which there must be one. A long value may be that of another datom, or stand at another offset.
     pub fn bound(&self, held: &Held, random: &mut Random) -> Datom {
         let near = if random.one_in(6) { self.any(random) } else { self.any_held(held, random) };
+        // In the first order none is made: the recorded answers of before stay as they are.
+        if self.order != Order::Eavt && random.one_in(EDGES) {
+            return self.edge(&near, random);
+        }
         match random.below(9) {
             0 => [0; 4],
             1 => [u64::MAX, u64::MAX, MAX_VALUE, u64::MAX],
@@ -174,6 +196,15 @@ impl Supply {
             5 => [near[0], near[1], value(random), near[3]],
             _ => self.twin(&near).unwrap_or(near),
         }
+    }
+
+    /// The least or the greatest of all datoms that agree with one in the first word that decides, or in the first two: where the datoms of
+    /// an attribute begin or end, or those of an attribute and a value.
+    fn edge(&self, near: &Datom, random: &mut Random) -> Datom {
+        let (agreeing, end) = (1 + random.below(2), random.pick(&[0, u64::MAX]));
+        let mut bound = *near;
+        self.order.places()[agreeing..].iter().for_each(|&place| bound[place] = end);
+        bound
     }
 }
 

@@ -194,7 +194,7 @@ Run define_check(Words &words) {
                "Damaged and Unsound name a page and its fault, the first that was met:\n"
                "\n" + faults_text() + "\n"
                "Where there is no backup, florin list STORE --root @N --every 128 prints a root that is sound as batches, and\n"
-               "florin insert takes them into a new store.\n");
+               "florin insert takes them into a new store of the same order.\n");
     return [given](Output &out) { check(*given, out); };
 }
 

@@ -1,6 +1,7 @@
 #include "commands/command.h"
 #include "commands/options.h"
 #include "datom_text.h"
+#include "order_text.h"
 
 namespace florin {
 
@@ -9,6 +10,7 @@ namespace {
 struct Given {
     std::string path, from;
     std::uint64_t page_size = 4096, room = 64;
+    std::string order = "eavt";
     FormOption form;
     bool last_batch_open = false;
 };
@@ -25,13 +27,14 @@ Batch first_batch(const Given &given) {
 void create(const Given &given, Output &out) {
     if (given.form.binary && given.from.empty()) throw usage_trouble("--binary goes with --from");
     Batch batch = given.from.empty() ? Batch{} : first_batch(given);
-    const florinwick::Answer answer = StoreFile::create(given.path, given.page_size, given.room, batch);
+    const florinwick::Order order = order_named(given.order);
+    const florinwick::Answer answer = StoreFile::create(given.path, {given.page_size, order, given.room}, batch);
     if (!answer.done()) {
         const bool of_datom = answer.carries() == florinwick::Carries::Index;
-        throw refusal(answer, of_datom ? batch.place_of(answer.detail, {}) : "");
+        throw refusal(answer, of_datom ? batch.place_of(answer.detail, {}) : "", order);
     }
-    std::string text = "created " + given.path + ", pages of " + std::to_string(given.page_size) + " bytes";
-    Json object = {{"created", given.path}, {"page_size", given.page_size}};
+    std::string text = "created " + given.path + ", pages of " + std::to_string(given.page_size) + " bytes" + order_note(order);
+    Json object = {{"created", given.path}, {"page_size", given.page_size}, {"order", order_name(order)}};
     if (!batch.bytes.empty()) {
         text += "; its first batch is in: " + counted(batch.datoms(), "datom") + ", " + counted(answer.pages, "page") + " written, root " +
                 page_text(answer.root);
@@ -48,11 +51,18 @@ Run define_create(Words &words) {
     const auto given = std::make_shared<Given>();
     words.word("STORE", given->path, "the file to make; none may stand there");
     words.number("--page-size", given->page_size, "BYTES", page_sizes_text() + "; 4096 if not given");
+    words.one_of("--order", given->order, "ORDER", order_names(), order_names_text() + ", as below; eavt if not given");
     words.number("--room", given->room, "PAGES", "room for so many at first; the file grows by itself");
     words.text("--from", given->from, "FILE", "its first batch, in any order");
     given->form.define(words, "FILE is binary");
     words.flag("--last-batch-open", given->last_batch_open, "the end of FILE ends the batch too");
-    words.footer(kDatomsHelp);
+    words.footer(std::string("The order stays. It is that of every tree of the store: batches rise in it, and listings go by it.\n"
+                             "\n"
+                             "  eavt    by entity, attribute, value, transaction: all of one entity\n"
+                             "  aevt    by attribute, entity, value, transaction: one attribute of all entities\n"
+                             "  avet    by attribute, value, entity, transaction: the entities with a value, or with one between two\n"
+                             "\n") +
+                 kDatomsHelp);
     return [given](Output &out) { create(*given, out); };
 }
 

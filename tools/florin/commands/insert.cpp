@@ -61,13 +61,13 @@ public:
 
     void take(const Batches &batches, Batch &batch) {
         const bool back = root_ != store_.head().root();
-        const Answer answer = store_.insert(root_, batch, {!given_.no_grow, back ? Receipt::kBack : 0, {}});
+        const Answer answer = store_.insert(root_, batch, {!given_.no_grow, back ? Receipt::kBack : 0, {}, given_.input.sort});
         if (answer.done()) {
             receive(batch, answer, back);
         } else if (answer.number == Number::Repeated) {
-            repeat(batches.refused(answer, batch, store_.heap()), batch);
+            repeat(batches.refused(answer, batch, store_.reader()), batch);
         } else {
-            throw batches.refused(answer, batch, store_.heap());
+            throw batches.refused(answer, batch, store_.reader());
         }
         progress_.tell([this] { return counted(feed_.batches, "batch") + " with " + counted(feed_.datoms, "datom") + " in"; });
     }

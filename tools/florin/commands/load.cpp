@@ -2,6 +2,7 @@
 #include "commands/options.h"
 #include "datom_text.h"
 #include "dump_text.h"
+#include "order_text.h"
 #include "progress.h"
 
 namespace florin {
@@ -81,13 +82,14 @@ void load(const Given &given, Output &out) {
     DumpReader dump(given.dump);
     const std::uint64_t page_size = given.page_size.value_or(dump.page_size());
     Loading loading(dump, page_size);
-    const Answer answer = StoreFile::build(given.path, page_size, 64, [&](StoreFile &store) { return loading.fill(store); });
+    const Answer answer = StoreFile::build(given.path, {page_size, dump.order()}, [&](StoreFile &store) { return loading.fill(store); });
     if (!answer.done()) throw refusal(answer, "");
     const Loaded &loaded = loading.loaded();
-    out.tell("loaded " + given.path + ", pages of " + std::to_string(page_size) + " bytes: " + counted(loaded.batches, "batch") + " with " +
-                 counted(loaded.datoms, "datom") + ", " + counted(loaded.pages, "page") + ", root " + page_text(loaded.root),
-             {{"loaded", given.path}, {"page_size", page_size}, {"batches", loaded.batches}, {"datoms", loaded.datoms},
-              {"pages", loaded.pages}, {"root", page_json(loaded.root)}});
+    out.tell("loaded " + given.path + ", pages of " + std::to_string(page_size) + " bytes" + order_note(dump.order()) + ": " +
+                 counted(loaded.batches, "batch") + " with " + counted(loaded.datoms, "datom") + ", " + counted(loaded.pages, "page") + ", root " +
+                 page_text(loaded.root),
+             {{"loaded", given.path}, {"page_size", page_size}, {"order", order_name(dump.order())}, {"batches", loaded.batches},
+              {"datoms", loaded.datoms}, {"pages", loaded.pages}, {"root", page_json(loaded.root)}});
 }
 
 }  // namespace
@@ -97,7 +99,7 @@ Run define_load(Words &words) {
     words.word("NEW", given->path, "the store to make; no file may stand there");
     words.word_or_not("FILE", given->dump, "what florin dump wrote; the standard input if not given, or -");
     words.number("--page-size", given->page_size, "BYTES", page_sizes_text() + "; that of the dump if not given");
-    words.footer("Batches, times, branches and checksums are those of the dump. So are roots and pages, if the page size is: each is\n"
+    words.footer("Order, batches, times, branches and checksums are those of the dump. So are roots and pages, if the page size is: each is\n"
                "compared, and a store that came out in another way is not kept. A dump that was changed or cut off is refused.\n"
                "Batches that florin upgrade has brought over get the checksum of their datoms that they lacked.\n");
     return [given](Output &out) { load(*given, out); };

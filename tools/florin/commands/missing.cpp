@@ -24,6 +24,7 @@ void missing(const Given &given, Output &out) {
     while (batches->next(batch)) {
         datoms += batch.datoms();
         store->put_aside(batch);
+        if (given.input.sort) batch.sort(store->by_content());
         Batch rest;
         for (std::uint64_t at : missing_of(store->reader(), root, batch)) rest.add(batch.datom(at));
         missed += rest.datoms();

@@ -11,7 +11,7 @@ namespace florin {
 using florinwick::Datom;
 
 const char kDatomsHelp[] =
-    "Datoms as text, one to a line, in batches that rise:\n"
+    "Datoms as text, one to a line, in batches that rise in the order of the store:\n"
     "\n"
     "  # entity attribute value transaction assert|retract     (+ and - for the last word do too)\n"
     "  1001 1 25000 2 assert\n"
@@ -27,7 +27,15 @@ const char kDatomsHelp[] =
 
 const char kBoundsHelp[] =
     "A BOUND is a datom of 1 to 5 words; max may stand for any of the first four, and what is left out is\n"
-    "the least: --from \"1001\" --to \"1002\" is entity 1001. Its value may be of any length.\n";
+    "the least: --from \"1001\" --to \"1002\" is entity 1001. Its value may be of any length.\n"
+    "\n"
+    "Its words have the places of a datom's, and it is compared in the order of the store, which florin stat\n"
+    "shows. Where that begins with the attribute, 0 stands for an entity that is not asked for:\n"
+    "\n"
+    "  aevt, avet   attribute 2 of all entities            --from \"0 2\" --to \"0 3\"\n"
+    "  aevt         attribute 2 of entities 1001 to 1010   --from \"1001 2\" --to \"1011 2\"\n"
+    "  avet         attribute 2 with the value 500         --from \"0 2 500\" --to \"max 2 500 max\"\n"
+    "  avet         attribute 2, from 500 to below 600     --from \"0 2 500\" --to \"0 2 600\"\n";
 
 std::uint64_t number_word(const std::string &word, const std::string &what) {
     try {
@@ -114,6 +122,7 @@ void InputOptions::define(Words &words) {
     form.define(words, "the input is binary");
     words.number("--every", cut.every, "N", "cut the input into batches of N", 1, FLORINWICK_BATCH_MAX);
     words.flag("--last-batch-open", cut.last_may_be_open, "the end of the input ends a batch too");
+    words.flag("--sort", sort, "sort each batch into the order of the store first");
 }
 
 std::unique_ptr<Batches> InputOptions::open() const {

@@ -57,11 +57,12 @@ struct FormOption {
     Form form() const { return binary ? Form::Binary : Form::Text; }
 };
 
-// FILE, --binary, --every and --last-batch-open.
+// FILE, --binary, --every, --last-batch-open and --sort.
 struct InputOptions {
     std::string path = "-";
     FormOption form;
     Batches::Cut cut;
+    bool sort = false;   // each batch, into the order of the store
 
     void define(Words &words);
     std::unique_ptr<Batches> open() const;

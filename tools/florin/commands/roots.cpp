@@ -55,9 +55,9 @@ void roots(const StoreToRead &given, Output &out) {
 Run define_roots(Words &words) {
     const auto given = std::make_shared<StoreToRead>();
     given->define(words);
-    words.footer("The checksum is XXH64 of the batch's datoms, ascending, 32 bytes each: xxh64sum prints it of such a file. A long value\n"
-                 "has no offset there, only the two top bits of its word, and stands behind its datom: an integer in 8 bytes, a string as\n"
-                 "its length in 8 bytes, its bytes, and zeros to a multiple of 8.\n");
+    words.footer("The checksum is XXH64 of the batch's datoms, ascending in the order of the store, 32 bytes each: xxh64sum prints it of\n"
+                 "such a file. A long value has no offset there, only the two top bits of its word, and stands behind its datom: an\n"
+                 "integer in 8 bytes, a string as its length in 8 bytes, its bytes, and zeros to a multiple of 8.\n");
     return [given](Output &out) { roots(*given, out); };
 }
 

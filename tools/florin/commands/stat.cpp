@@ -1,6 +1,7 @@
 #include "commands/command.h"
 #include "commands/options.h"
 #include "datom_text.h"
+#include "order_text.h"
 #include "walk.h"
 
 namespace florin {
@@ -39,14 +40,16 @@ void stat(const StoreToRead &given, Output &out) {
     const Shape shape = Shape::of(store->reader(), head.root());
     const std::uint64_t reached = pages_under(store->reader(), head.root()).size(), older = head.page_count - reached;
     if (out.json()) {
-        out.tell("", {{"store", given.path}, {"bytes", store->file_size()}, {"page_size", head.page_size}, {"pages", head.page_count},
-                      {"free_pages", store->free_pages()}, {"root", page_json(head.root())}, {"batches", head.receipts}, {"datoms", shape.datoms()},
-                      {"pending", shape.pending}, {"height", shape.height()}, {"levels", levels_json(shape)}, {"pages_of_older_roots", older},
+        out.tell("", {{"store", given.path}, {"bytes", store->file_size()}, {"page_size", head.page_size},
+                      {"order", order_name(head.order)}, {"pages", head.page_count}, {"free_pages", store->free_pages()},
+                      {"root", page_json(head.root())}, {"batches", head.receipts}, {"datoms", shape.datoms()}, {"pending", shape.pending},
+                      {"height", shape.height()}, {"levels", levels_json(shape)}, {"pages_of_older_roots", older},
                       {"heap_bytes", head.heap_length}});
         return;
     }
     print_rows({{"store", given.path + ", " + counted(store->file_size(), "byte")},
                 {"page size", std::to_string(head.page_size) + " bytes"},
+                {"order", order_name(head.order) + ": by " + order_text(head.order)},
                 {"pages", grouped(head.page_count) + " in use, room for " + grouped(store->free_pages()) + " more before the file grows"},
                 {"root", page_text(head.root())},
                 {"batches", grouped(head.receipts)},

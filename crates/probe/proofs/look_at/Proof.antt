@@ -1,6 +1,5 @@
 -- `look_at` meets its contract. Assumes nothing.
 use mathlib.Core.Path.{sym, _∙_, ap}
-use Rattle.index.specs.declared.Index.the-variants.{Eavt}
 use Rattle.index.specs.Order.{orderIn}
 use Rattle.memory_store.specs.Reading.{said}
 use Rattle.probe.specs.Seen.{shown, unread}
@@ -32,13 +31,13 @@ unfolding shown
 returns-2 c =
     let a = c .before .before .before .before .before .before .before .before .before .args in
     ap unread (c .number .ensures)
-    ∙ look-broken (orderIn Eavt (a .heap .now)) (a .bytes .now) (a .id) _ (c .before .before .before .before .before .before .capacity-of .ensures) (c .before .before .before .before .before .if1 .left) _
+    ∙ look-broken (orderIn (a .by) (a .heap .now)) (a .bytes .now) (a .id) _ (c .before .before .before .before .before .before .capacity-of .ensures) (c .before .before .before .before .before .if1 .left) _
     (sym (ap (said _ (a .bytes .now)) (c .before .before .rule .given .1)) ∙ c .before .before .before .before .read-page .ensures)
 
 returns-3 : tie.Need-returns-3
 returns-3 c =
     let a = c .before .before .before .before .before .before .before .before .args in
-    look-good (orderIn Eavt (a .heap .now)) (a .bytes .now) (a .id) _ (c .before .before .before .before .before .capacity-of .ensures) (c .before .before .before .before .if1 .left) _ _
+    look-good (orderIn (a .by) (a .heap .now)) (a .bytes .now) (a .id) _ (c .before .before .before .before .before .capacity-of .ensures) (c .before .before .before .before .if1 .left) _ _
     (sym (ap (said _ (a .bytes .now)) (c .before .level .given .1)) ∙ c .before .before .before .read-page .ensures)
 
 pub look-at-spec : {M : Type 1} → statement M

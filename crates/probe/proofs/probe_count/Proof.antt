@@ -1,32 +1,27 @@
--- `probe_count` meets its contract. Assumes nothing.
+-- `probe_count` meets its contract: in the order that the number names. Assumes nothing.
 use mathlib.Core.Path.{sym, _∙_}
-use lib.ListN.{length}
-use Rattle.store.specs.Laws.{cells-length}
-use Rattle.datom.specs.Datom.{datomOf}
-use Rattle.rules.specs.Page.{nodeOf}
-use Rattle.probe.specs.Laws.{of-unread, of-good}
 use borrow.Author.Needs.{needs}
 use Rattle.probe.proofs.probe_count.Statement.{statement}
 use Rattle.probe.proofs.probe_count.Tie as tie
 
-look-at-requires : tie.Need-look-at-requires
-look-at-requires c κs = search needs
+index-of-requires : tie.Need-index-of-requires
+index-of-requires c κs = search needs
 
-enum-known-count : tie.Need-enum-known-count
-enum-known-count c = search needs
+enum-known-by : tie.Need-enum-known-by
+enum-known-by c = search needs
+
+count-in-requires : tie.Need-count-in-requires
+count-in-requires c κs = search needs
 
 enum-told : tie.Need-enum-told
 enum-told c = search needs
 
 returns : tie.Need-returns
-returns c = of-unread _ _ _ _ (c .enum-told .given .1) (c .before .before .look-at .ensures)
+returns c = rw (sym (c .before .before .before .before .index-of .ensures) ∙ c .before .before .by .given .1) (c .count-in .ensures)
 
 returns-2 : tie.Need-returns-2
-unfolding nodeOf
-returns-2 c =
-    sym (cells-length datomOf 32 _ (c .before .before .before .before .before .before .args .bytes .now))
-    ∙ of-good _ _ _ (c .before .count .given .1) (c .before .before .before .look-at .ensures) (λ n. length (n .datoms))
+returns-2 c = rw (sym (c .before .before .index-of .ensures) ∙ c .enum-told .given .1)
 
 pub probe-count-spec : {M : Type 1} → statement M
 probe-count-spec =
-    tie.close (tie.spec look-at-requires enum-known-count enum-told returns returns-2)
+    tie.close (tie.spec index-of-requires enum-known-by count-in-requires enum-told returns returns-2)

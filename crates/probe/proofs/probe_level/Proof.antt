@@ -1,26 +1,27 @@
--- `probe_level` meets its contract. Assumes nothing.
-use Rattle.rules.specs.Page.{nodeOf}
-use Rattle.probe.specs.Laws.{of-unread, of-good}
+-- `probe_level` meets its contract: in the order that the number names. Assumes nothing.
+use mathlib.Core.Path.{sym, _∙_}
 use borrow.Author.Needs.{needs}
 use Rattle.probe.proofs.probe_level.Statement.{statement}
 use Rattle.probe.proofs.probe_level.Tie as tie
 
-look-at-requires : tie.Need-look-at-requires
-look-at-requires c κs = search needs
+index-of-requires : tie.Need-index-of-requires
+index-of-requires c κs = search needs
 
-enum-known-level : tie.Need-enum-known-level
-enum-known-level c = search needs
+enum-known-by : tie.Need-enum-known-by
+enum-known-by c = search needs
+
+level-in-requires : tie.Need-level-in-requires
+level-in-requires c κs = search needs
 
 enum-told : tie.Need-enum-told
 enum-told c = search needs
 
 returns : tie.Need-returns
-returns c = of-unread _ _ _ _ (c .enum-told .given .1) (c .before .before .look-at .ensures)
+returns c = rw (sym (c .before .before .before .before .index-of .ensures) ∙ c .before .before .by .given .1) (c .level-in .ensures)
 
 returns-2 : tie.Need-returns-2
-unfolding nodeOf
-returns-2 c = of-good _ _ _ (c .before .level .given .1) (c .before .before .before .look-at .ensures) (λ n. n .level)
+returns-2 c = rw (sym (c .before .before .index-of .ensures) ∙ c .enum-told .given .1)
 
 pub probe-level-spec : {M : Type 1} → statement M
 probe-level-spec =
-    tie.close (tie.spec look-at-requires enum-known-level enum-told returns returns-2)
+    tie.close (tie.spec index-of-requires enum-known-by level-in-requires enum-told returns returns-2)

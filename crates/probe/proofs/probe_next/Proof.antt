@@ -1,70 +1,27 @@
--- `probe_next` meets its contract. Assumes nothing.
-use native.Mathlib.Omega.{arith}
-use mathlib.Core.Path.{sym, _∙_, ap}
-use lib.ListN.{drop}
-use Rattle.answer.specs.declared.NextMidpoint.{NextMidpoint}
-use Rattle.rules.specs.Page.{nodeOf}
-use Rattle.rules.specs.Node.{nextMidpoint}
-use Rattle.rules.specs.Lookup.{childOf}
-use Rattle.probe.specs.Laws.{of-unread, of-good, good-held}
+-- `probe_next` meets its contract: in the order that the number names. Assumes nothing.
+use mathlib.Core.Path.{sym, _∙_}
 use borrow.Author.Needs.{needs}
 use Rattle.probe.proofs.probe_next.Statement.{statement}
 use Rattle.probe.proofs.probe_next.Tie as tie
 
-look-at-requires : tie.Need-look-at-requires
-look-at-requires c κs = search needs
+index-of-requires : tie.Need-index-of-requires
+index-of-requires c κs = search needs
 
-enum-known-count : tie.Need-enum-known-count
-enum-known-count c = search needs
+enum-known-by : tie.Need-enum-known-by
+enum-known-by c = search needs
+
+next-in-requires : tie.Need-next-in-requires
+next-in-requires c κs = search needs
 
 enum-told : tie.Need-enum-told
 enum-told c = search needs
 
 returns : tie.Need-returns
-returns c = of-unread _ _ _ _ (c .enum-told .given .1) (c .before .before .look-at .ensures)
-
-capacity-of-requires : tie.Need-capacity-of-requires
-capacity-of-requires c κs = search needs
-
-next-midpoint-requires : tie.Need-next-midpoint-requires
-next-midpoint-requires c κs =
-    let h = good-held _ _ _ (c .before .before .count .given .1) (c .before .before .before .before .look-at .ensures) in
-    let e = c .capacity-of .ensures in
-    (omega arith, omega arith)
-
-enum-known-child : tie.Need-enum-known-child
-enum-known-child c = search needs
-
-enum-told-2 : tie.Need-enum-told-2
-enum-told-2 c = search needs
+returns c = rw (sym (c .before .before .before .before .index-of .ensures) ∙ c .before .before .by .given .1) (c .next-in .ensures)
 
 returns-2 : tie.Need-returns-2
-unfolding nodeOf
-returns-2 c =
-    let a = c .before .before .before .before .before .before .before .before .before .before .before .args in
-    let e = rw (c .before .before .before .before .capacity-of .ensures) at (c .before .before .before .next-midpoint .ensures) in
-    ap (λ (m : NextMidpoint). childOf m .0) (sym (c .before .child .given .1) ∙ e)
-    ∙ of-good _ _ _ (c .before .before .before .before .before .before .count .given .1) (c .before .before .before .before .before .before .before .before .look-at .ensures) (λ n. childOf (nextMidpoint (drop (a .from) (n .children))) .0)
-
-returns-3 : tie.Need-returns-3
-unfolding nodeOf
-returns-3 c =
-    let a = c .before .before .before .before .before .before .before .before .before .before .args in
-    let e = rw (c .before .before .before .capacity-of .ensures) at (c .before .before .next-midpoint .ensures) in
-    ap (λ (m : NextMidpoint). childOf m .0) (sym (c .enum-told2 .given .1) ∙ e)
-    ∙ of-good _ _ _ (c .before .before .before .before .before .count .given .1) (c .before .before .before .before .before .before .before .look-at .ensures) (λ n. childOf (nextMidpoint (drop (a .from) (n .children))) .0)
+returns-2 c = rw (sym (c .before .before .index-of .ensures) ∙ c .enum-told .given .1)
 
 pub probe-next-spec : {M : Type 1} → statement M
 probe-next-spec =
-    tie.close
-    (tie.spec
-    look-at-requires
-    enum-known-count
-    enum-told
-    returns
-    capacity-of-requires
-    next-midpoint-requires
-    enum-known-child
-    enum-told-2
-    returns-2
-    returns-3)
+    tie.close (tie.spec index-of-requires enum-known-by next-in-requires enum-told returns returns-2)

@@ -1,26 +1,27 @@
--- `probe_rule` meets its contract. Assumes nothing.
-use mathlib.Core.Path.{sym, _∙_, ap}
-use Rattle.probe.specs.Seen.{shown, ruleOf}
+-- `probe_rule` meets its contract: in the order that the number names. Assumes nothing.
+use mathlib.Core.Path.{sym, _∙_}
 use borrow.Author.Needs.{needs}
 use Rattle.probe.proofs.probe_rule.Statement.{statement}
 use Rattle.probe.proofs.probe_rule.Tie as tie
 
-look-at-requires : tie.Need-look-at-requires
-look-at-requires c κs = search needs
+index-of-requires : tie.Need-index-of-requires
+index-of-requires c κs = search needs
 
-enum-known-rule : tie.Need-enum-known-rule
-enum-known-rule c = search needs
+enum-known-by : tie.Need-enum-known-by
+enum-known-by c = search needs
+
+rule-in-requires : tie.Need-rule-in-requires
+rule-in-requires c κs = search needs
 
 enum-told : tie.Need-enum-told
 enum-told c = search needs
 
 returns : tie.Need-returns
-unfolding shown
-returns c = ap ruleOf (ap (shown _) (sym (c .before .rule .given .1)) ∙ c .before .before .before .look-at .ensures)
+returns c = rw (sym (c .before .before .before .before .index-of .ensures) ∙ c .before .before .by .given .1) (c .rule-in .ensures)
 
 returns-2 : tie.Need-returns-2
-unfolding shown
-returns-2 c = ap ruleOf (ap (shown _) (sym (c .enum-told .given .1)) ∙ c .before .before .look-at .ensures)
+returns-2 c = rw (sym (c .before .before .index-of .ensures) ∙ c .enum-told .given .1)
 
 pub probe-rule-spec : {M : Type 1} → statement M
-probe-rule-spec = tie.close (tie.spec look-at-requires enum-known-rule enum-told returns returns-2)
+probe-rule-spec =
+    tie.close (tie.spec index-of-requires enum-known-by rule-in-requires enum-told returns returns-2)

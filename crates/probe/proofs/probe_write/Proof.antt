@@ -1,56 +1,38 @@
--- `probe_write` meets its contract. Assumes nothing.
-use native.Mathlib.Omega.{arith}
-use mathlib.Core.Path.{_∙_}
-use Rattle.index.specs.declared.Index.the-variants.{Eavt}
-use Rattle.index.specs.Order.{orderIn}
-use Rattle.probe.specs.Laws.{good-held, not-written, no-place, written}
+-- `probe_write` meets its contract: in the order that the number names. Assumes nothing.
+use mathlib.Core.Path.{refl, sym, _∙_}
 use borrow.Author.Needs.{needs}
 use Rattle.probe.proofs.probe_write.Statement.{statement}
 use Rattle.probe.proofs.probe_write.Tie as tie
 
-look-at-requires : tie.Need-look-at-requires
-look-at-requires c κs = search needs
+index-of-requires : tie.Need-index-of-requires
+index-of-requires c κs = search needs
 
-enum-known-level : tie.Need-enum-known-level
-enum-known-level c = search needs
+enum-known-by : tie.Need-enum-known-by
+enum-known-by c = search needs
+
+write-in-requires : tie.Need-write-in-requires
+write-in-requires c κs = search needs
 
 enum-told : tie.Need-enum-told
 enum-told c = search needs
 
-returns : tie.Need-returns
-returns c = not-written _ _ _ _ (c .enum-told .given .1) (c .before .before .look-at .ensures)
-
-returns-2 : tie.Need-returns-2
-returns-2 c = no-place _ _ _ _ (c .before .before .level .given .1) (c .before .before .before .before .look-at .ensures) (c .if1 .taken)
-
-capacity-of-requires : tie.Need-capacity-of-requires
-capacity-of-requires c κs = search needs
-
-write-page-requires : tie.Need-write-page-requires
-write-page-requires c κs =
-    let h = good-held _ _ _ (c .before .before .before .before .level .given .1) (c .before .before .before .before .before .before .look-at .ensures) in
-    let e = c .before .capacity-of .ensures in
-    (omega arith, omega arith, omega arith, omega arith, omega arith, omega arith, omega arith, omega arith)
-
 same-length : tie.Need-same-length
 same-length c = search needs
 
-returns-3 : tie.Need-returns-3
-returns-3 c =
-    let a = c .before .before .before .before .before .before .before .before .before .before .before .before .before .args in
-    let w = written (orderIn Eavt (a .heap .now)) (a .bytes .now) (a .free .now) (a .id) (c .before .before .before .before .before .before .before .level .given .1) (c .before .before .before .before .before .before .before .before .before .look-at .ensures) (omega arith) in
-    (w .0, c .before .before .write-page .ensures ∙ (rw (c .before .before .before .before .capacity-of .ensures) (w .1)))
+returns : tie.Need-returns
+returns c = rw (sym (c .before .before .before .before .before .before .before .index-of .ensures) ∙ c .before .before .before .before .before .by .given .1) (c .before .before .write-in .ensures)
+
+returns-2 : tie.Need-returns-2
+returns-2 c = rw (sym (c .before .before .index-of .ensures) ∙ c .enum-told .given .1) (refl, refl)
 
 pub probe-write-spec : {M : Type 1} → statement M
 probe-write-spec =
     tie.close
     (tie.spec
-    look-at-requires
-    enum-known-level
+    index-of-requires
+    enum-known-by
+    write-in-requires
     enum-told
-    returns
-    returns-2
-    capacity-of-requires
-    write-page-requires
     same-length
-    returns-3)
+    returns
+    returns-2)

@@ -47,6 +47,9 @@ enum-told-11 c = search needs
 enum-told-12 : tie.Need-enum-told-12
 enum-told-12 c = search needs
 
+enum-told-13 : tie.Need-enum-told-13
+enum-told-13 c = search needs
+
 returns : tie.Need-returns
 returns c = c .number .ensures ∙ sym (ap faultIn (c .before .before .self .given .1))
 
@@ -86,6 +89,9 @@ returns-12 c = search needs
 returns-13 : tie.Need-returns-13
 returns-13 c = search needs
 
+returns-14 : tie.Need-returns-14
+returns-14 c = search needs
+
 pub fault-spec : {M : Type 1} → statement M
 fault-spec =
     tie.close
@@ -104,6 +110,7 @@ fault-spec =
     enum-told-10
     enum-told-11
     enum-told-12
+    enum-told-13
     returns
     returns-2
     returns-3
@@ -116,4 +123,5 @@ fault-spec =
     returns-10
     returns-11
     returns-12
-    returns-13)
+    returns-13
+    returns-14)

@@ -4,7 +4,7 @@ use Prim.Native.Nat.{_^_, _<_}
 use native.Mathlib.Omega.{arith}
 use borrow.Author.Tests.{ltb-true}
 use lib.Bits.{bitOr}
-use Rattle.memory_store.specs.Fours.{or-left, or-right}
+use Rattle.index.specs.Compare.{or-left, or-right}
 use Rattle.memory_store.proofs.reader.four_integers.Statement.{statement}
 use Rattle.memory_store.proofs.reader.four_integers.Tie as tie
 

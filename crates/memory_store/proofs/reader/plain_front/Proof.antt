@@ -1,80 +1,45 @@
--- `plain_front` meets its contract: both rules on the rest of the list are the rules on the whole. Assumes nothing.
+-- `plain_front` meets its contract: one loop for each order. Assumes nothing.
 use borrow.Author.Needs.{needs}
-use Prim.Native.Nat.{ℕ, _-_, _≤_}
-use native.Mathlib.Omega.{arith}
-use mathlib.Core.List.{List}
-use mathlib.Core.Path.{refl, _∙_}
-use borrow.Author.Tests.{not-false}
-use Rattle.index.specs.Order.{orderIn}
-use Rattle.index.specs.Form.{order-plain}
-use Rattle.memory_store.specs.Fours.{SameFrom, four-on}
 use Rattle.memory_store.proofs.reader.plain_front.Statement.{statement}
 use Rattle.memory_store.proofs.reader.plain_front.Tie as tie
 
-abbrev Inv-loop : tie.InvT-loop
-Inv-loop s k by i₀ i = (i ≤ k) × ((h : List ℕ) → SameFrom (orderIn by h) k s 0 i)
+enum-told : tie.Need-enum-told
+enum-told c = search needs
 
-abbrev μ-loop : tie.MeasureT-loop
-μ-loop s k by i₀ i = k - i
+plain-front-eavt-requires : tie.Need-plain-front-eavt-requires
+plain-front-eavt-requires c κs = search needs
 
-loop-holds : tie.Need-loop-holds Inv-loop μ-loop
-loop-holds c = (search needs, λ h. (refl, refl))
+enum-told-2 : tie.Need-enum-told-2
+enum-told-2 c = search needs
 
-add-loop : tie.Need-add-loop Inv-loop μ-loop
-add-loop c = search needs
+plain-front-aevt-requires : tie.Need-plain-front-aevt-requires
+plain-front-aevt-requires c κs = search needs
 
-mul-four-rise : tie.Need-mul-four-rise Inv-loop μ-loop
-mul-four-rise c = search needs
+enum-told-3 : tie.Need-enum-told-3
+enum-told-3 c = search needs
 
-four-rise-requires : tie.Need-four-rise-requires Inv-loop μ-loop
-four-rise-requires c κs = search needs
+plain-front-avet-requires : tie.Need-plain-front-avet-requires
+plain-front-avet-requires c κs = search needs
 
-returns : tie.Need-returns Inv-loop μ-loop
-returns c = c .before .before .before .loop .inv
+returns : tie.Need-returns
+returns c = rw (c .before .enum-told .given .1) (c .plain-front-eavt .ensures)
 
-mul-four-integers : tie.Need-mul-four-integers Inv-loop μ-loop
-mul-four-integers c = search needs
+returns-2 : tie.Need-returns-2
+returns-2 c = rw (c .before .enum-told2 .given .1) (c .plain-front-aevt .ensures)
 
-four-integers-requires : tie.Need-four-integers-requires Inv-loop μ-loop
-four-integers-requires c κs = search needs
-
-returns-2 : tie.Need-returns-2 Inv-loop μ-loop
-returns-2 c = c .before .before .before .before .before .loop .inv
-
-add-i : tie.Need-add-i Inv-loop μ-loop
-add-i c = search needs
-
-loop-less : tie.Need-loop-less Inv-loop μ-loop
-loop-less c = search needs
-
-loop-again : tie.Need-loop-again Inv-loop μ-loop
-loop-again c =
-    let a = c .before .before .before .before .before .before .before .args in
-    let l = c .before .before .before .before .before .loop in (
-      omega arith,
-      λ h.
-          let s = four-on (orderIn (a .by) h) (order-plain (a .by) h) (a .k) (a .s .now) (l .i) (omega arith) (c .before .before .before .four-rise .ensures (not-false _ (c .before .before .if1 .left)) h) (c .before .four-integers .ensures (not-false _ (c .if2 .left))) in
-          (l .inv .1 h .0 ∙ s .0, l .inv .1 h .1 ∙ s .1),
-    )
-
-returns-3 : tie.Need-returns-3 Inv-loop μ-loop
-returns-3 c = c .before .loop .inv
+returns-3 : tie.Need-returns-3
+returns-3 c = rw (c .before .enum-told3 .given .1) (c .plain-front-avet .ensures)
 
 pub plain-front-spec : {M : Type 1} → statement M
 plain-front-spec =
     tie.close
     (tie.spec
-    Inv-loop
-    μ-loop
-    loop-holds
-    add-loop
-    mul-four-rise
-    four-rise-requires
+    enum-told
+    plain-front-eavt-requires
+    enum-told-2
+    plain-front-aevt-requires
+    enum-told-3
+    plain-front-avet-requires
     returns
-    mul-four-integers
-    four-integers-requires
     returns-2
-    add-i
-    loop-less
-    loop-again
     returns-3)

@@ -1,0 +1,49 @@
+-- What the first two words of an order tell by themselves, and when they do.
+use Prim.Native.Nat.{_^_, _<_}
+use native.Mathlib.Omega.{arith}
+use mathlib.Core.Bool.{Bool, true, false}
+use mathlib.Core.Path.{_≡_, refl}
+use borrow.Author.Tests.{ltb-true}
+use lib.Bits.{bitOr}
+use lib.Dec.{ltb}
+use Rattle.store.specs.Laws.{apart}
+use Rattle.datom.specs.declared.Value.{Value}
+use Rattle.index.specs.declared.Index.{Index}
+use Rattle.index.specs.declared.Index.the-variants.{Eavt, Aevt, Avet}
+use Rattle.index.specs.Compare.{or-left, or-right}
+
+-- two values are integers in their words
+abbrev pub bothIntegers : Value → Value → Bool
+bothIntegers v w = ltb (bitOr (v .0) (w .0)) (2 ^ 62)
+
+pub both-small : (v w : Value) → bothIntegers v w ≡ true → (v .0 < 2 ^ 62) × (w .0 < 2 ^ 62)
+both-small v w e =
+    let both : bitOr (v .0) (w .0) < 2 ^ 62 = ltb-true _ _ e in
+    (omega (arith, both, or-left (v .0) (w .0)), omega (arith, both, or-right (v .0) (w .0)))
+
+-- the entity comes first; the value comes straight behind the attribute
+abbrev pub byEntity : Index → Bool
+byEntity Eavt = true
+byEntity Aevt = false
+byEntity Avet = false
+
+abbrev pub byValue : Index → Bool
+byValue Eavt = false
+byValue Aevt = false
+byValue Avet = true
+
+-- so each order is known by the two
+pub the-eavt : (i : Index) → byEntity i ≡ true → i ≡ Eavt
+the-eavt Eavt e = refl
+the-eavt Aevt e = absurd (apart (cc))
+the-eavt Avet e = absurd (apart (cc))
+
+pub the-aevt : (i : Index) → byEntity i ≡ false → byValue i ≡ false → i ≡ Aevt
+the-aevt Eavt e f = absurd (apart (cc))
+the-aevt Aevt e f = refl
+the-aevt Avet e f = absurd (apart (cc))
+
+pub the-avet : (i : Index) → byValue i ≡ true → i ≡ Avet
+the-avet Eavt e = absurd (apart (cc))
+the-avet Aevt e = absurd (apart (cc))
+the-avet Avet e = refl

@@ -1,0 +1,2 @@
+-- The order that a record names, against the rules.
+pub mod Ways

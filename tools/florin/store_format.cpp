@@ -48,8 +48,9 @@ bool has_mark(const std::uint8_t *slot, const char *mark) { return std::memcmp(s
 void encode_head(const Head &head, std::uint8_t *slot) {
     std::memset(slot, 0, kSlotBytes);
     std::memcpy(slot, kMark, 8);
-    const std::uint64_t words[] = {head.sequence, head.page_size, head.page_count, head.heap_length,
-                                   static_cast<std::uint64_t>(head.order), head.parties, head.allowances[0], head.allowances[1], head.roots[0], head.roots[1], head.receipts, head.chain, head.extents.size()};
+    const std::uint64_t order = static_cast<std::uint64_t>(head.order);
+    const std::uint64_t words[] = {head.sequence, head.page_size, head.page_count, head.heap_length, order, head.parties, head.allowances[0],
+                                   head.allowances[1], head.roots[0], head.roots[1], head.receipts, head.chain, head.extents.size()};
     static_assert(sizeof words / sizeof words[0] == kHeadWords, "every word has its place");
     for (int i = 0; i < kHeadWords; ++i) put_word(slot + 8 + 8 * i, words[i]);
     std::uint8_t *at = slot + kExtentsAt;

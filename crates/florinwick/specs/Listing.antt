@@ -1,6 +1,6 @@
 -- What the entries of a listing return and leave: the answer's words, the cursor's bytes, and the datom that a step yields.
 use Prim.Native.Nat.{ℕ}
-use mathlib.Core.Bool.{true, false, _&&_, not, cond}
+use mathlib.Core.Bool.{false, _&&_, not, cond}
 use mathlib.Core.List.{List, append-nil}
 use mathlib.Core.Path.{_≡_, sym, _∙_}
 use borrow.Author.Tests.{eq-eqb, ne-eqb}

@@ -8,7 +8,6 @@ use mathlib.Core.Path.{_≡_, refl, _∙_}
 use lib.ListN.{take, drop}
 use lib.Seq.{take-add}
 use Rattle.store.specs.declared.StoreRecord.{StoreRecord}
-use Rattle.datom.specs.declared.Datom.{Datom}
 use Rattle.index.specs.Order.{DatomOrd}
 use Rattle.index.specs.Laws.{Preorder, order-preorder}
 use Rattle.index.specs.Form.{order-may}

@@ -2,10 +2,9 @@
 -- rules, computed.
 use Prim.Native.Nat.{ℕ}
 use native.Mathlib.Omega.{arith}
-use mathlib.Core.Bool.{true}
-use mathlib.Core.List.{List, [], _∷_}
+use mathlib.Core.List.{[], _∷_}
 use mathlib.Core.Logic.{inl}
-use mathlib.Core.Path.{_≡_, refl}
+use mathlib.Core.Path.{refl}
 use Rattle.store.specs.declared.StoreRecord.{StoreRecord}
 use Rattle.store.specs.Words.{zeros}
 use Rattle.datom.specs.declared.Datom.{Datom}
@@ -15,7 +14,7 @@ use Rattle.index.specs.Order.{orderIn}
 use Rattle.index.specs.Numbers.{indexNumber}
 use Rattle.rules.specs.Recorded.{order-known}
 use Rattle.rules.specs.Open.{rules}
-use Rattle.history.specs.Statement.{Known, Moment, noRoot, Start, beginning, after, calls, now, next, Later, History, HandsOut}
+use Rattle.history.specs.Statement.{Known, Moment, noRoot, Start, beginning, after, calls, now, next, History, HandsOut}
 use Rattle.history.specs.Sort.{within}
 use Rattle.history.specs.Example.{At, no-heap, initialising, grown, lent, lists, order-at}
 

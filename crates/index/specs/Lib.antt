@@ -10,6 +10,7 @@ pub mod Front
 pub mod Parts
 pub mod Named
 pub mod Ways
+pub mod Below
 pub mod Form
 pub mod Strings
 pub mod Eight

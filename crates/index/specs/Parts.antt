@@ -1,10 +1,13 @@
 -- The parts of an order one by one: which comes when, in which word of a datom it stands, and when it is a number.
-use Prim.Native.Nat.{ℕ, _^_, _<_, compare}
+use Prim.Native.Nat.{ℕ, _+_, _^_, _<_, _≤_, compare}
+use native.Mathlib.Omega.{arith}
 use mathlib.Core.List.{List, [], _∷_}
 use mathlib.Core.Bool.{false}
 use mathlib.Core.Path.{_≡_, refl}
 use Rattle.store.specs.Laws.{apart}
+use Rattle.store.specs.Words.{wordAt}
 use Rattle.datom.specs.declared.Datom.{Datom}
+use Rattle.datom.specs.Datom.{datomAt}
 use Rattle.index.specs.declared.Index.{Index}
 use Rattle.index.specs.declared.Index.the-variants.{Eavt, Aevt, Avet}
 use Rattle.index.specs.Order.{Part, theEntity, theAttribute, theValue, theLast, cmpPart, partsOf}
@@ -23,6 +26,20 @@ placeOf theEntity = 0
 placeOf theAttribute = 8
 placeOf theValue = 16
 placeOf theLast = 24
+
+pub place-fits : (p : Part) → placeOf p ≤ 24
+place-fits theEntity = omega arith
+place-fits theAttribute = omega arith
+place-fits theValue = omega arith
+place-fits theLast = omega arith
+
+-- a part's word, where it stands among the bytes
+pub word-there : (s : List ℕ) (at : ℕ) (p : Part) → wordIn p (datomAt s at) ≡ wordAt s (at + placeOf p)
+unfolding datomAt
+word-there s at theEntity = let e : at + 0 ≡ at = omega arith in rw e
+word-there s at theAttribute = refl
+word-there s at theValue = refl
+word-there s at theLast = refl
 
 -- the parts of each order, one by one
 abbrev pub first : Index → Part
@@ -50,16 +67,6 @@ parts-of Eavt = refl
 parts-of Aevt = refl
 parts-of Avet = refl
 
--- the number that stands before the values, behind the first part; 0 where there is none
-abbrev pub numberBefore : Index → Datom → ℕ
-numberBefore Eavt d = d .attribute .0
-numberBefore Aevt d = d .entity .0
-numberBefore Avet d = 0
-
--- nothing that comes before the values is different
-abbrev pub ValueNext : Index → Datom → Datom → Type 0
-ValueNext i a b = (wordIn (first i) a ≡ wordIn (first i) b) × (numberBefore i a ≡ numberBefore i b)
-
 -- the attribute comes first where the entity does not
 pub attribute-first : (i : Index) (d : Datom) → byEntity i ≡ false → wordIn (first i) d ≡ d .attribute .0
 attribute-first Eavt d e = absurd (apart (cc))
@@ -71,6 +78,12 @@ abbrev pub SecondTells : Index → Datom → Datom → Type 0
 SecondTells Eavt a b = Unit {0}
 SecondTells Aevt a b = Unit {0}
 SecondTells Avet a b = (a .value .0 < 2 ^ 62) × (b .value .0 < 2 ^ 62)
+
+-- as small numbers do in every order
+pub small-tells : (i : Index) (a b : Datom) → wordIn (second i) a < 2 ^ 62 → wordIn (second i) b < 2 ^ 62 → SecondTells i a b
+small-tells Eavt a b p q = tt
+small-tells Aevt a b p q = tt
+small-tells Avet a b p q = (p, q)
 
 -- the first part is a number in every order
 module _ (h : List ℕ) (a b : Datom) where

@@ -4,7 +4,7 @@ use native.Mathlib.Omega.{arith}
 use mathlib.Core.List.{List, [], _∷_}
 use mathlib.Core.Bool.{true}
 use mathlib.Core.Logic.{_⊎_, inl, inr}
-use mathlib.Core.Path.{_≡_, refl, sym, _∙_}
+use mathlib.Core.Path.{_≡_, refl, _∙_}
 use Rattle.store.specs.Laws.{apart}
 use Rattle.datom.specs.declared.Datom.{Datom}
 use Rattle.index.specs.declared.Index.{Index}
@@ -13,7 +13,7 @@ use Rattle.index.specs.declared.Order.the-variants.{Less, Equal, Greater
 use Rattle.index.specs.Order.{andThen, cmpValue, Part, theLast, cmpPart, cmpParts, partsOf, orderIn, named}
 use Rattle.index.specs.Compare.{cmp-lt, cmp-gt, cmp-eq}
 use Rattle.index.specs.Front.{byValue}
-use Rattle.index.specs.Parts.{wordIn, first, second, third, later, parts-of, numberBefore, ValueNext, SecondTells, first-number, second-number}
+use Rattle.index.specs.Parts.{wordIn, first, second, third, later, parts-of, SecondTells, first-number, second-number}
 
 -- nothing behind it
 then-nothing : (o : Ordering) → andThen o Ordering·eq ≡ o
@@ -112,22 +112,3 @@ module _ (h : List ℕ) (a b : Datom) where
   behind-attribute Aevt f (inl v) = absurd (apart (cc))
   behind-attribute Aevt f (inr e) = simp (cmp-eq _ _ e, cmp-eq _ _ f, then-nothing last)
   behind-attribute Avet f t = simp (cmp-eq _ _ f, then-nothing last)
-
-  pub behind-next :
-      (i : Index) → ValueNext i a b → named (andThen values (andThen (compare (a .entity .0) (b .entity .0)) last)) ≡ named (orderIn i h .cmp a b)
-  behind-next Eavt e = behind-attribute Eavt (e .1) (inr (e .0))
-  behind-next Aevt e = behind-attribute Aevt (e .0) (inr (e .1))
-  behind-next Avet e = behind-attribute Avet (e .0) (inl refl)
-
-  -- the number before the values
-  pub less-before :
-      (i : Index) → wordIn (first i) a ≡ wordIn (first i) b → numberBefore i a < numberBefore i b → Less ≡ named (orderIn i h .cmp a b)
-  less-before Eavt e l = less-two Eavt h a b tt e l
-  less-before Aevt e l = less-two Aevt h a b tt e l
-  less-before Avet e l = absurd (omega arith)
-
-  pub greater-before :
-      (i : Index) → wordIn (first i) a ≡ wordIn (first i) b → numberBefore i b < numberBefore i a → Greater ≡ named (orderIn i h .cmp a b)
-  greater-before Eavt e l = greater-two Eavt h a b tt e l
-  greater-before Aevt e l = greater-two Aevt h a b tt e l
-  greater-before Avet e l = absurd (omega arith)

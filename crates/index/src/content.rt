@@ -1,7 +1,5 @@
 // Values by what they stand for: integers before byte strings, these before max. Only here does a comparison read the heap.
-use crate::Index;
 use crate::Order;
-use datom::Datom;
 use datom::Value;
 ghost use mathlib.Core.Path.{_≡_};
 ghost use Prim.Native.Nat.{_≤_, compare};
@@ -10,7 +8,7 @@ ghost use mathlib.Core.Bool.{true};
 ghost use Rattle.heap.specs.Constant.{bytesAt};
 ghost use Rattle.datom.specs.Value.{content, int, str, offsetOf};
 ghost use Rattle.index.specs.declared.Order.the-variants.{Less};
-ghost use Rattle.index.specs.Order.{andThen, cmpBytes, cmpContent, cmpValue, isLess, named, orderIn};
+ghost use Rattle.index.specs.Order.{andThen, cmpBytes, cmpContent, cmpValue, isLess, named};
 ghost use Rattle.index.specs.Kinds.{kindOf};
 
 // The kinds of content, in their order.
@@ -222,9 +220,9 @@ fn texts_rise(a: Value, b: Value, heap: &[u8]) -> bool
     )
 }
 
-// Whether value, entity, last word of a datom are below those of another. Where long texts rise, as they do all along a page, their first
-// bytes tell.
-fn is_below_behind(a: Value, b: Value, x: u64, y: u64, s: u64, t: u64, heap: &[u8]) -> bool
+// Whether value, entity, last word of a datom are below those of another: what is left of every order behind its first words. Where long
+// texts rise, as they do all along a page, their first bytes tell.
+pub fn is_below_behind(a: Value, b: Value, x: u64, y: u64, s: u64, t: u64, heap: &[u8]) -> bool
     ensures { λ r. ⌜ r ≡ isLess (andThen (cmpValue (now (heap .entry)) a b) (andThen (compare x y) (compare s t))) ⌝ }
 {
     if texts_rise(a, b, heap) {
@@ -235,35 +233,4 @@ fn is_below_behind(a: Value, b: Value, x: u64, y: u64, s: u64, t: u64, heap: &[u
         Order::Equal => false,
         Order::Greater => false,
     }
-}
-
-// Whether a datom is below another in a tree's order, by the constants of the heap in use.
-pub fn is_below(a: Datom, b: Datom, by: Index, heap: &[u8]) -> bool
-    ensures { λ r. ⌜ r ≡ isLess (orderIn by (now (heap .entry)) .cmp a b) ⌝ }
-{
-    let x = crate::first_of(a, by);
-    let y = crate::first_of(b, by);
-    if x < y {
-        return true;
-    }
-    if y < x {
-        return false;
-    }
-    let u = crate::number_before(a, by);
-    let w = crate::number_before(b, by);
-    if u < w {
-        return true;
-    }
-    if w < u {
-        return false;
-    }
-    is_below_behind(
-        a.value,
-        b.value,
-        a.entity.0,
-        b.entity.0,
-        a.transaction_operation.0,
-        b.transaction_operation.0,
-        heap,
-    )
 }

@@ -1,4 +1,4 @@
-// The order of datoms, after index.rs of the Rust. Its rule and its laws stand in specs/.
+// The orders of datoms, after index.rs of the Rust. Their rule and its laws stand in specs/.
 pub mod content;
 
 use datom::Datom;
@@ -6,8 +6,8 @@ use datom::Value;
 ghost use mathlib.Core.Path.{_≡_};
 ghost use Prim.Native.Nat.{compare};
 ghost use Rattle.index.specs.Order.{andThen, cmpValue, indexOf, orderIn, named};
-ghost use Rattle.index.specs.Parts.{wordIn, first, numberBefore};
-ghost use Rattle.index.specs.Front.{bothIntegers, byEntity, byValue};
+ghost use Rattle.index.specs.Parts.{placeOf, first, second};
+ghost use Rattle.index.specs.Front.{bothIntegers, byEntity, byValue, secondDecides};
 ghost use Rattle.index.specs.Key.{key, turned, swapped};
 
 // Which order a tree is in: by entity, attribute, value and last word, or by attribute first, with the entity or the value behind it.
@@ -35,25 +35,24 @@ pub fn index_of(number: u64) -> Named
     }
 }
 
-// The word that an order goes by first.
-fn first_of(d: Datom, by: Index) -> u64
-    ensures { λ r. ⌜ r ≡ wordIn (first by) d ⌝ }
+// Where the first two words that an order goes by stand in a datom's bytes.
+pub fn first_place(by: Index) -> usize
+    ensures { λ r. ⌜ r ≡ placeOf (first by) ⌝ }
 {
     match by {
-        Index::Eavt => d.entity.0,
-        Index::Aevt => d.attribute.0,
-        Index::Avet => d.attribute.0,
+        Index::Eavt => 0,
+        Index::Aevt => 8,
+        Index::Avet => 8,
     }
 }
 
-// The number that an order asks of behind the first part and before the values; 0 where it asks of none there.
-fn number_before(d: Datom, by: Index) -> u64
-    ensures { λ r. ⌜ r ≡ numberBefore by d ⌝ }
+pub fn second_place(by: Index) -> usize
+    ensures { λ r. ⌜ r ≡ placeOf (second by) ⌝ }
 {
     match by {
-        Index::Eavt => d.attribute.0,
-        Index::Aevt => d.entity.0,
-        Index::Avet => 0,
+        Index::Eavt => 8,
+        Index::Aevt => 0,
+        Index::Avet => 16,
     }
 }
 
@@ -166,6 +165,20 @@ fn is_by_value(by: Index) -> bool
         Index::Aevt => false,
         Index::Avet => true,
     }
+}
+
+// Whether the second words of an order are different and tell which datom is below: small ones tell whatever they are, and of the others those
+// that are no values.
+pub fn second_decides(u: u64, v: u64, by: Index) -> bool
+    ensures { λ r. ⌜ r ≡ secondDecides by u v ⌝ }
+{
+    if u == v {
+        return false;
+    }
+    if (u | v) < Value::TAG_EXTERNAL {
+        return true;
+    }
+    !is_by_value(by)
 }
 
 // Value, entity, last word: what an order asks of behind the attribute, where the entity does not tell before. It takes words and no datoms,

@@ -4,7 +4,7 @@ use native.Mathlib.Omega.{arith}
 use mathlib.Core.Bool.{true, false}
 use mathlib.Core.List.{List}
 use mathlib.Core.Logic.{_⊎_, inl, inr}
-use mathlib.Core.Path.{_≡_, refl, sym, ap, _∙_}
+use mathlib.Core.Path.{_≡_, sym, ap, _∙_}
 use lib.ListN.{drop}
 use Rattle.store.specs.declared.PageId.{PageId}
 use Rattle.store.specs.Words.{wordAt, cells}
@@ -16,12 +16,13 @@ use Rattle.datom.specs.Datom.{datomAt, datomsOf}
 use Rattle.datom.specs.Laws.{datoms-from}
 use Rattle.index.specs.declared.Index.{Index}
 use Rattle.index.specs.declared.Index.the-variants.{Eavt, Aevt, Avet}
-use Rattle.index.specs.Order.{DatomOrd, isLess, orderIn, Part, theEntity, theAttribute, theValue, theLast}
-use Rattle.index.specs.Parts.{wordIn, placeOf, first, second, SecondTells}
+use Rattle.index.specs.Order.{DatomOrd, isLess, orderIn}
+use Rattle.index.specs.Parts.{placeOf, word-there, first, second, SecondTells}
 use Rattle.index.specs.Ways.{less-first, less-two}
 use Rattle.index.specs.Named.{less-named}
 use Rattle.rules.specs.Page.{all, rising, older}
 use Rattle.memory_store.specs.Steps.{all-on, rising-on}
+use Rattle.memory_store.specs.Rises.{word-behind}
 
 -- the datom at byte `at` is below the one behind it; so are four
 abbrev pub Rises : DatomOrd → List ℕ → ℕ → Type 0
@@ -58,27 +59,16 @@ SameFrom t k s i j =
 pub never : {A : Type 0} → false ≡ true → A
 never e = absurd (apart (cc))
 
--- a part's word, where it stands among the bytes
-pub word-there : (s : List ℕ) (at : ℕ) (p : Part) → wordIn p (datomAt s at) ≡ wordAt s (at + placeOf p)
-unfolding datomAt
-word-there s at theEntity = let e : at + 0 ≡ at = omega arith in rw e
-word-there s at theAttribute = refl
-word-there s at theValue = refl
-word-there s at theLast = refl
-
 -- by the first two words of an order, which stand at p and q
 module _ (i : Index) (h s : List ℕ) (at p q : ℕ) (e : p ≡ at + placeOf (first i)) (f : q ≡ at + placeOf (second i)) where
-  behind : (x : Part) → wordIn x (datomAt s (at + 32)) ≡ wordAt s (at + placeOf x + 32)
-  behind x = let z : at + 32 + placeOf x ≡ at + placeOf x + 32 = omega arith in word-there s (at + 32) x ∙ ap (wordAt s) z
-
   pair-rises : SecondTells i (datomAt s at) (datomAt s (at + 32)) → WordsRise s p q → Rises (orderIn i h) s at
   pair-rises t (inl l) =
-      less-named _ (sym (less-first i h (datomAt s at) (datomAt s (at + 32)) (rw (word-there s at (first i), behind (first i), ← e) l))) .0
+      less-named _ (sym (less-first i h (datomAt s at) (datomAt s (at + 32)) (rw (word-there s at (first i), word-behind s at (first i), ← e) l))) .0
   pair-rises t (inr l) =
       less-named _
       (sym
-      (less-two i h (datomAt s at) (datomAt s (at + 32)) t (rw (word-there s at (first i), behind (first i), ← e) (l .0))
-      (rw (word-there s at (second i), behind (second i), ← f) (l .1)))) .0
+      (less-two i h (datomAt s at) (datomAt s (at + 32)) t (rw (word-there s at (first i), word-behind s at (first i), ← e) (l .0))
+      (rw (word-there s at (second i), word-behind s at (second i), ← f) (l .1)))) .0
 
 -- four of them, in each order
 module _ (h s : List ℕ) (at : ℕ) where

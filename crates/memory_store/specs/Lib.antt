@@ -2,6 +2,7 @@
 pub mod Reading
 pub mod RankLaws
 pub mod Steps
+pub mod Rises
 pub mod Fours
 pub mod FetchLaws
 pub mod Readable

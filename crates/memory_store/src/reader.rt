@@ -11,9 +11,9 @@ ghost use lib.ListN.{length, drop};
 ghost use Rattle.store.specs.Words.{wordAt, cells};
 ghost use Rattle.store.specs.Page.{page, pageOf};
 ghost use mathlib.Core.List.{List};
-ghost use Rattle.datom.specs.Datom.{datomsOf, storedDatom};
+ghost use Rattle.datom.specs.Datom.{datomAt, datomsOf, storedDatom};
 ghost use Rattle.index.specs.declared.Index.the-variants.{Eavt, Aevt, Avet};
-ghost use Rattle.index.specs.Order.{orderIn};
+ghost use Rattle.index.specs.Order.{isLess, orderIn};
 ghost use Rattle.rules.specs.Page.{nodeOf, all, rising, older, childRules, readPage};
 ghost use Rattle.memory_store.specs.Reading.{said};
 ghost use Rattle.memory_store.specs.Fours.{FourIntegers, WordsRise, FourWordsRise, FourOlder, SameFrom};
@@ -153,6 +153,35 @@ fn all_stored(s: &[u8], from: usize, k: usize, heap: &[u8]) -> bool
     true
 }
 
+// Whether the datom at byte `at` is below the one behind it. Both are looked at where they lie: the places of the order's words do not change, so
+// that no turn of a loop asks which order it is.
+fn rises_at(s: &[u8], at: usize, by: Index, heap: &[u8]) -> bool
+    requires { ⌜ at + 64 ≤ length (now s) ⌝ }
+    ensures { λ r. ⌜ r ≡ isLess (orderIn by (now (heap .entry)) .cmp (datomAt (now (s .entry)) at) (datomAt (now (s .entry)) (at + 32))) ⌝ }
+{
+    let p = at + index::first_place(by);
+    let x = store::word(s, p);
+    let y = store::word(s, p + 32);
+    if x != y {
+        return x < y;
+    }
+    let q = at + index::second_place(by);
+    let u = store::word(s, q);
+    let v = store::word(s, q + 32);
+    if index::second_decides(u, v, by) {
+        return u < v;
+    }
+    index::content::is_below_behind(
+        Value(store::word(s, at + 16)),
+        Value(store::word(s, at + 48)),
+        store::word(s, at),
+        store::word(s, at + 32),
+        store::word(s, at + 24),
+        store::word(s, at + 56),
+        heap,
+    )
+}
+
 // The k datoms from index `from` on rise. Each is compared with the next where they lie, so that nothing is carried from turn to turn.
 fn all_rising(s: &[u8], from: usize, k: usize, by: Index, heap: &[u8]) -> bool
     requires { ⌜ (from ≤ k) × (32 * k ≤ length (now s)) ⌝ }
@@ -160,9 +189,7 @@ fn all_rising(s: &[u8], from: usize, k: usize, by: Index, heap: &[u8]) -> bool
 {
     let mut i = from;
     while i + 1 < k {
-        let first = datom::datom_at(s, 32 * i);
-        let second = datom::datom_at(s, 32 * i + 32);
-        if !index::content::is_below(first, second, by, heap) {
+        if !rises_at(s, 32 * i, by, heap) {
             return false;
         }
         i += 1;

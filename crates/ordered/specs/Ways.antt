@@ -2,11 +2,10 @@
 use Prim.Native.Nat.{ℕ}
 use mathlib.Core.Bool.{Bool, true, false}
 use mathlib.Core.List.{List}
-use mathlib.Core.Path.{_≡_, refl, sym, _∙_}
+use mathlib.Core.Path.{_≡_, refl}
 use Rattle.store.specs.declared.StoreRecord.{StoreRecord}
 use Rattle.store.specs.Laws.{apart}
 use Rattle.index.specs.declared.Index.{Index}
-use Rattle.index.specs.declared.Named.{Named}
 use Rattle.index.specs.declared.Named.the-variants as named
 use Rattle.index.specs.Order.{indexOf}
 use Rattle.answer.specs.declared.Refusal.{Refusal}

@@ -1,8 +1,8 @@
 -- What the record's own refusals come to: in a known order, with a heap in order, a call goes by its own rules.
 use Prim.Native.Nat.{ℕ}
-use mathlib.Core.Bool.{Bool, true, false, _||_}
+use mathlib.Core.Bool.{Bool, true, false}
 use mathlib.Core.List.{List}
-use mathlib.Core.Path.{_≡_, refl}
+use mathlib.Core.Path.{_≡_}
 use Rattle.store.specs.declared.PageId.{PageId}
 use Rattle.store.specs.declared.StoreRecord.{StoreRecord}
 use Rattle.datom.specs.declared.Datom.{Datom}

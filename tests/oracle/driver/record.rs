@@ -147,6 +147,18 @@ fn around(page_size: usize) -> &'static [usize] {
     }
 }
 
+impl Shape {
+    /// With so many batches more, in sizes at which no split has a remainder, and so much damage at the end.
+    fn agreeing(self, inserts: usize, damages: usize) -> Shape {
+        Shape { inserts, agreeing: true, damages, ..self }
+    }
+
+    /// With so many batches more, and so much damage at the end.
+    fn damaged(self, inserts: usize, damages: usize) -> Shape {
+        Shape { inserts, damages, ..self }
+    }
+}
+
 /// A history of one batch, from which the others are varied.
 fn one_batch(page_size: usize, kind: Kind, plan: Plan, first: usize) -> Shape {
     Shape {
@@ -195,19 +207,16 @@ fn growing() -> Vec<Shape> {
 
 /// Histories without a remainder in any split, so that the plain oracle goes all the way.
 fn agreeing() -> Vec<Shape> {
-    let agree = |page_size, kind, plan, first, inserts, damages| {
-        Shape { inserts, agreeing: true, damages, ..one_batch(page_size, kind, plan, first) }
-    };
     vec![
-        agree(256, Kind::Counted, Plan::Ascending, 7, 20, 0),
-        agree(256, Kind::Strings, Plan::Scattered, 11, 16, 20),
-        agree(256, Kind::Mixed, Plan::Clustered, 47, 16, 20),
-        agree(256, Kind::Integers, Plan::Descending, 7, 16, 20),
-        agree(568, Kind::Mixed, Plan::Scattered, 15, 10, 20),
-        agree(568, Kind::Strings, Plan::Ascending, 25, 10, 0),
-        agree(568, Kind::LastWords, Plan::Clustered, 17, 10, 20),
-        agree(4096, Kind::Mixed, Plan::Scattered, 103, 4, 5),
-        agree(4096, Kind::Strings, Plan::Ascending, 105, 4, 0),
+        one_batch(256, Kind::Counted, Plan::Ascending, 7).agreeing(20, 0),
+        one_batch(256, Kind::Strings, Plan::Scattered, 11).agreeing(16, 20),
+        one_batch(256, Kind::Mixed, Plan::Clustered, 47).agreeing(16, 20),
+        one_batch(256, Kind::Integers, Plan::Descending, 7).agreeing(16, 20),
+        one_batch(568, Kind::Mixed, Plan::Scattered, 15).agreeing(10, 20),
+        one_batch(568, Kind::Strings, Plan::Ascending, 25).agreeing(10, 0),
+        one_batch(568, Kind::LastWords, Plan::Clustered, 17).agreeing(10, 20),
+        one_batch(4096, Kind::Mixed, Plan::Scattered, 103).agreeing(4, 5),
+        one_batch(4096, Kind::Strings, Plan::Ascending, 105).agreeing(4, 0),
     ]
 }
 
@@ -233,17 +242,15 @@ fn deep() -> Vec<Shape> {
 
 /// Trees of two and three levels, then damaged.
 fn damaged() -> Vec<Shape> {
-    let damage = |page_size, kind, first, inserts, damages| {
-        Shape { inserts, damages, ..one_batch(page_size, kind, Plan::Scattered, first) }
-    };
+    let scattered = |page_size, kind, first| one_batch(page_size, kind, Plan::Scattered, first);
     vec![
-        damage(256, Kind::Counted, 7, 2, 40),
-        damage(256, Kind::Mixed, 47, 2, 60),
-        damage(256, Kind::Strings, 128, 2, 60),
-        damage(256, Kind::LastWords, 35, 3, 60),
-        damage(568, Kind::Mixed, 29, 2, 30),
-        damage(568, Kind::Strings, 128, 2, 30),
-        damage(4096, Kind::Integers, 128, 1, 8),
+        scattered(256, Kind::Counted, 7).damaged(2, 40),
+        scattered(256, Kind::Mixed, 47).damaged(2, 60),
+        scattered(256, Kind::Strings, 128).damaged(2, 60),
+        scattered(256, Kind::LastWords, 35).damaged(3, 60),
+        scattered(568, Kind::Mixed, 29).damaged(2, 30),
+        scattered(568, Kind::Strings, 128).damaged(2, 30),
+        scattered(4096, Kind::Integers, 128).damaged(1, 8),
     ]
 }
 
@@ -278,22 +285,19 @@ fn long() -> Vec<Shape> {
             });
         }
     }
-    let agree = |page_size, kind, first, inserts, damages| {
-        Shape { inserts, agreeing: true, damages, ..one(page_size, kind, Plan::Scattered, first) }
-    };
+    let scattered = |page_size, kind, first| one(page_size, kind, Plan::Scattered, first);
     shapes.extend([
-        agree(256, Kind::LongMixed, 11, 12, 16),
-        agree(256, Kind::LongStrings, 47, 8, 16),
-        agree(568, Kind::LongStrings, 15, 8, 12),
-        agree(4096, Kind::LongMixed, 103, 3, 4),
+        scattered(256, Kind::LongMixed, 11).agreeing(12, 16),
+        scattered(256, Kind::LongStrings, 47).agreeing(8, 16),
+        scattered(568, Kind::LongStrings, 15).agreeing(8, 12),
+        scattered(4096, Kind::LongMixed, 103).agreeing(3, 4),
     ]);
     shapes.push(Shape { supply: 1500, inserts: 9, sizes: &[128], raw: false, ..one(256, Kind::LongMixed, Plan::Scattered, 128) });
-    let damage = |page_size, kind, first, damages| Shape { inserts: 2, damages, ..one(page_size, kind, Plan::Scattered, first) };
     shapes.extend([
-        damage(256, Kind::LongStrings, 47, 30),
-        damage(256, Kind::LongIntegers, 35, 20),
-        damage(568, Kind::LongMixed, 29, 16),
-        damage(8192, Kind::LongMixed, 128, 4),
+        scattered(256, Kind::LongStrings, 47).damaged(2, 30),
+        scattered(256, Kind::LongIntegers, 35).damaged(2, 20),
+        scattered(568, Kind::LongMixed, 29).damaged(2, 16),
+        scattered(8192, Kind::LongMixed, 128).damaged(2, 4),
     ]);
     shapes
 }
@@ -319,20 +323,17 @@ fn ordered_shapes(turn: usize) -> Vec<Shape> {
         };
         [Shape { inserts: 5, ..one(256, kind, plan(0), 7) }, wider]
     }).collect();
-    let agree = |page_size, kind, first, inserts, damages| {
-        Shape { inserts, agreeing: true, damages, ..one(page_size, kind, Plan::Scattered, first) }
-    };
+    let scattered = |page_size, kind, first| one(page_size, kind, Plan::Scattered, first);
     shapes.extend([
-        agree(256, Kind::Integers, 11, 10, 16),
-        agree(256, Kind::LongMixed, 47, 6, 12),
-        agree(568, Kind::Mixed, 15, 6, 8),
-        agree(4096, Kind::Mixed, 103, 3, 2),
-        agree(8192, Kind::Integers, 128, 3, 2),
+        scattered(256, Kind::Integers, 11).agreeing(10, 16),
+        scattered(256, Kind::LongMixed, 47).agreeing(6, 12),
+        scattered(568, Kind::Mixed, 15).agreeing(6, 8),
+        scattered(4096, Kind::Mixed, 103).agreeing(3, 2),
+        scattered(8192, Kind::Integers, 128).agreeing(3, 2),
     ]);
     let deep = |page_size, kind, plan| Shape { supply: 3000, inserts: 9, sizes: &[128], raw: false, ..one(page_size, kind, plan, 128) };
     shapes.extend([deep(256, Kind::Mixed, Plan::Scattered), deep(568, Kind::Integers, Plan::Clustered)]);
-    let damage = |page_size, kind, first, damages| Shape { inserts: 2, damages, ..one(page_size, kind, Plan::Scattered, first) };
-    shapes.extend([damage(256, Kind::Mixed, 47, 30), damage(568, Kind::LongStrings, 29, 12)]);
+    shapes.extend([scattered(256, Kind::Mixed, 47).damaged(2, 30), scattered(568, Kind::LongStrings, 29).damaged(2, 12)]);
     shapes
 }
 

@@ -1,7 +1,6 @@
 -- `index::index_of` meets its contract: an arm for each order, and one for all other numbers. Assumes nothing.
 use borrow.Author.Tests.{ne-eqb}
 use Rattle.index.specs.Order.{indexOf}
-use borrow.Author.Needs.{needs}
 use Rattle.index.proofs.index_of.Statement.{statement}
 use Rattle.index.proofs.index_of.Tie as tie
 

@@ -25,29 +25,17 @@ loop-holds c = (search needs, refl)
 add-loop : tie.Need-add-loop Inv-loop μ-loop
 add-loop c = search needs
 
-mul-datom-at : tie.Need-mul-datom-at Inv-loop μ-loop
-mul-datom-at c = search needs
+mul-rises-at : tie.Need-mul-rises-at Inv-loop μ-loop
+mul-rises-at c = search needs
 
-datom-at-requires : tie.Need-datom-at-requires Inv-loop μ-loop
-datom-at-requires c κs = search needs
-
-mul-datom-at-2 : tie.Need-mul-datom-at-2 Inv-loop μ-loop
-mul-datom-at-2 c = search needs
-
-add-datom-at : tie.Need-add-datom-at Inv-loop μ-loop
-add-datom-at c = search needs
-
-datom-at-requires-2 : tie.Need-datom-at-requires-2 Inv-loop μ-loop
-datom-at-requires-2 c κs = search needs
-
-is-below-requires : tie.Need-is-below-requires Inv-loop μ-loop
-is-below-requires c κs = search needs
+rises-at-requires : tie.Need-rises-at-requires Inv-loop μ-loop
+rises-at-requires c κs = search needs
 
 returns : tie.Need-returns Inv-loop μ-loop
 returns c =
-    let a = c .before .before .before .before .before .before .before .before .args in
-    let l = c .before .before .before .before .before .loop in
-    let e : isLess (orderIn (a .by) (a .heap .now) .cmp (datomAt (a .s .now) (32 * l .i)) (datomAt (a .s .now) (32 * l .i + 32))) ≡ false = cc (c .before .is-below .ensures, not-true (c .before .is-below .result) (c .if1 .taken)) in
+    let a = c .before .before .before .before .before .before .args in
+    let l = c .before .before .before .loop in
+    let e : isLess (orderIn (a .by) (a .heap .now) .cmp (datomAt (a .s .now) (32 * l .i)) (datomAt (a .s .now) (32 * l .i + 32))) ≡ false = cc (c .before .rises-at .ensures, not-true (c .before .rises-at .result) (c .if1 .taken)) in
     sym (rising-stop (orderIn (a .by) (a .heap .now) .cmp) (a .k) (l .i) (a .s .now) (omega arith) e) ∙ l .inv .1
 
 add-i : tie.Need-add-i Inv-loop μ-loop
@@ -58,9 +46,9 @@ loop-less c = search needs
 
 loop-again : tie.Need-loop-again Inv-loop μ-loop
 loop-again c =
-    let a = c .before .before .before .before .before .before .before .before .args in
-    let l = c .before .before .before .before .before .loop in
-    let e : isLess (orderIn (a .by) (a .heap .now) .cmp (datomAt (a .s .now) (32 * l .i)) (datomAt (a .s .now) (32 * l .i + 32))) ≡ true = cc (c .before .is-below .ensures, not-false (c .before .is-below .result) (c .if1 .left)) in
+    let a = c .before .before .before .before .before .before .args in
+    let l = c .before .before .before .loop in
+    let e : isLess (orderIn (a .by) (a .heap .now) .cmp (datomAt (a .s .now) (32 * l .i)) (datomAt (a .s .now) (32 * l .i + 32))) ≡ true = cc (c .before .rises-at .ensures, not-false (c .before .rises-at .result) (c .if1 .left)) in
     (omega arith, sym (rising-on (orderIn (a .by) (a .heap .now) .cmp) (a .k) (l .i) (a .s .now) (omega arith) e) ∙ l .inv .1)
 
 returns-2 : tie.Need-returns-2 Inv-loop μ-loop
@@ -74,12 +62,8 @@ all-rising-spec =
     μ-loop
     loop-holds
     add-loop
-    mul-datom-at
-    datom-at-requires
-    mul-datom-at-2
-    add-datom-at
-    datom-at-requires-2
-    is-below-requires
+    mul-rises-at
+    rises-at-requires
     returns
     add-i
     loop-less

@@ -1,4 +1,6 @@
 // What a call may answer. specs/Table.antt gives each case the number and the four words of document 01's table.
+#![tactic(auto)]
+
 ghost use Rattle.std.specs.Prelude.{◌≡◌};
 ghost use Rattle.answer.specs.Names.{rule_number, fault_number, fault_in};
 ghost use Rattle.answer.specs.Table.{number_of, detail_of};

@@ -1,5 +1,7 @@
 // Appends to the heap of constants, after MemoryHeap of the Rust. The heap is lent as its whole slice, and beside it how many of its bytes
 // are used, which is the heap length: those past them are free. The rules stand in rules/specs/Append.antt.
+#![tactic(auto)]
+
 ghost use Rattle.std.specs.Prelude.{◌≡◌, ◌+◌, ◌≤◌, length};
 ghost use Rattle.heap.specs.Constant.{up_to8};
 ghost use Rattle.rules.specs.Append.{heap_full, constant_bytes, bytes_tag, append_constant, append_word, append_text};

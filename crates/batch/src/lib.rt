@@ -1,4 +1,6 @@
 // What is checked of a batch before anything is written. The batch is a slice of bytes, 32 for each datom.
+#![tactic(auto)]
+
 pub mod sort;
 
 ghost use Rattle.std.specs.Prelude.{◌≡◌, [], ◌+◌, ◌*◌, ◌≤◌, length};

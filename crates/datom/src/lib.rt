@@ -1,4 +1,6 @@
 // Datoms and what they are made of, after datom.rs of the Rust. Temporaries and text are left out.
+#![tactic(auto)]
+
 ghost use Rattle.std.specs.Prelude.{◌≡◌, ◌+◌, ◌^◌, ◌-◌, ◌≤◌, length};
 ghost use Rattle.store.specs.Words.{little};
 ghost use Rattle.datom.specs.Value.{max_word, is_int, is_str, is_max, is_external, offset_of, formed_value, stored_value, bound_value, inline_int, bool_int, inline_str};

@@ -1,4 +1,6 @@
 // The entries: a batch of bytes goes in whole or not at all.
+#![tactic(auto)]
+
 pub mod check;
 pub mod write;
 

@@ -1,5 +1,7 @@
 // A failover, told on a small store: a feed goes in, the replicator loses its connection and sends the last batch again, and the
 // answer is Repeated with nothing written: the texts of the orders stand on the heap once more, and equal content is what counts. The README's first command runs it; what it prints is held to the file stdout.
+#![tactic(auto)]
+
 pub mod fills;
 pub mod say;
 

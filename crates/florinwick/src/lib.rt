@@ -1,4 +1,6 @@
 // The library as a C or C++ program calls it: numbers and byte slices, and an area of 32 bytes for the answer's four words.
+#![tactic(auto)]
+
 pub mod appends;
 pub mod cursor;
 pub mod list;

@@ -1,5 +1,7 @@
 // The heap of constants, after heap.rs of the Rust: what stands at an offset, and whether it is a constant. The heap is lent as the
 // bytes in use; nothing here is written.
+#![tactic(auto)]
+
 ghost use Rattle.std.specs.Prelude.{◌≡◌, ◌+◌, ◌≤◌, false, length, take};
 ghost use Rattle.heap.specs.Constant.{bad_heap, word_there, bytes_there, integer_at, bytes_at, valid_int, padded, valid_str};
 

@@ -1,5 +1,7 @@
 // Whether a tree holds all datoms of a batch, of which Repeated says nothing. Document 02, Ten: "if the tree holds all its datoms". The
 // rules stand in rules/specs/Held.antt.
+#![tactic(auto)]
+
 ghost use Rattle.std.specs.Prelude.{false, ◌≡◌, ◌*◌, ◌≤◌, length};
 ghost use Rattle.store.specs.Size.{capacity};
 ghost use Rattle.datom.specs.Datom.{datoms_of};

@@ -1,4 +1,6 @@
 // The orders of datoms, after index.rs of the Rust. Their rule and its laws stand in specs/.
+#![tactic(auto)]
+
 pub mod content;
 
 ghost use Rattle.std.specs.Prelude.{◌≡◌};

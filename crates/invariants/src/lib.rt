@@ -1,5 +1,7 @@
 // The check of a tree, after check_invariants_at of the Rust: a recursive walk over children. Document 01, "Listing and check": the rules
 // stand in rules/specs/Check.antt.
+#![tactic(auto)]
+
 pub mod bound;
 
 ghost use Rattle.std.specs.Prelude.{false, ◌≡◌};

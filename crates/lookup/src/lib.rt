@@ -1,5 +1,7 @@
 // The search for a batch that repeats a datom of the tree. Document 01: "Before writing, insert looks every batch datom up along its
 // path, in batch order." And for one that the tree does not hold all of.
+#![tactic(auto)]
+
 pub mod gap;
 
 ghost use Rattle.std.specs.Prelude.{true, false, ◌≡◌, ◌*◌, ◌≤◌, ◌<◌, length, drop};

@@ -1,5 +1,7 @@
 // The lent store, after memory_store.rs of the Rust: fetching a page, reading it, and writing a free one. The store is a slice and a
 // page count; nothing here keeps a copy of a page.
+#![tactic(auto)]
+
 pub mod access;
 pub mod found;
 pub mod reader;

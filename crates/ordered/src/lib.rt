@@ -1,4 +1,6 @@
 // The order that a store's record names, behind the refusals that the record itself brings: what every call asks that takes a heap.
+#![tactic(auto)]
+
 ghost use Rattle.std.specs.Prelude.{◌≡◌};
 ghost use Rattle.ordered.specs.Ways.{ordered};
 

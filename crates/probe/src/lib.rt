@@ -1,5 +1,7 @@
 // Entries for tests: what the page reader and the access functions say of any bytes, asked from C or Rust. Each takes every input;
 // where there is nothing to say the answer is 2^64-1. The heap is the part of it that is in use.
+#![tactic(auto)]
+
 ghost use Rattle.std.specs.Prelude.{◌≡◌};
 ghost use Rattle.index.specs.Order.{index_of, order_in};
 ghost use Rattle.answer.specs.Table.{fetch_words};

@@ -1,5 +1,7 @@
 // The record entry: a batch as a slice of datom records, which are laid as bytes for the byte entry. What has a reference to a record
 // is proved by a walk of its code, by hand: it only passes the slice on, or reads one record and gives it on by value.
+#![tactic(auto)]
+
 ghost use Rattle.std.specs.Prelude.{◌≡◌, ◌+◌, ◌*◌, ◌≤◌, length};
 ghost use Rattle.store.specs.Words.{patch};
 ghost use Rattle.datom.specs.Datom.{datom_bytes};

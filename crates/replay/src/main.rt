@@ -1,5 +1,7 @@
 // Replays the recorded answers of the Rust, plain and patched, through the library's C entries, and counts what agrees. The records
 // come from standard input; docs/ORACLE.md says how they were made and what they hold.
+#![tactic(auto)]
+
 pub mod calls;
 pub mod examples;
 pub mod lent;

@@ -1,4 +1,6 @@
 // Page ids, page sizes and the store's record, after store.rs of the Rust.
+#![tactic(auto)]
+
 ghost use Rattle.std.specs.Prelude.{◌≡◌, ◌+◌, ◌-◌, ◌*◌, ◌≤◌, length};
 ghost use Rattle.store.specs.Words.{bytes_of, word_at, word_of, zeros, pad, patch};
 ghost use Rattle.store.specs.Size.{capacity};
@@ -111,7 +113,7 @@ pub fn put(s: &mut [u8], at: usize, p: &[u8])
     requires { at + length p.now ≤ length s.old }
     ensures { s.new ≡ patch s.old at p.now }
 {
-    bytes::copy(p, &mut s[at..at + p.len()]);
+    s[at..at + p.len()].copy_from_slice(p);
 }
 
 // The eight bytes of `w` go into `s` from byte `at` on.

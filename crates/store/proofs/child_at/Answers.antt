@@ -1,0 +1,6 @@
+-- `child_at` meets its contract: a word read is a page id. Assumes nothing.
+use borrow.Author.Rules.{rules}
+use Rattle.store.proofs.child_at.Goals as goal
+
+pub returns : goal.returns
+returns c = cc

@@ -1,0 +1,15 @@
+use borrow.Author.Rules.{rules}
+use Prim.Native.Nat.{ℕ, ◌-◌, ◌≤◌}
+use native.Mathlib.Omega.{arith}
+use mathlib.Core.List.{List}
+use mathlib.Core.Path.{◌≡◌, refl, ap, ◌∙◌}
+use lib.ListN.{length, set, length-set}
+use Rattle.store.specs.Words.{zeros, patch}
+use Rattle.store.specs.Padding.{cleared_none, cleared}
+use Rattle.store.proofs.clear.Given as goal
+
+abbrev pub invariant-loop-i : goal.invariant-loop-i
+invariant-loop-i l = (l.at ≤ l.i) × (l.i ≤ l.end) × (length l.s ≡ length l.initial.s) × (l.s ≡ patch l.initial.s l.at (zeros (l.i - l.at)))
+
+abbrev pub decreases-loop-i : goal.decreases-loop-i
+decreases-loop-i l = l.end - l.i

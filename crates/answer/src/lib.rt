@@ -9,7 +9,7 @@ use datom::{Datom, Value};
 use store::PageId;
 
 // The rule of a readable page that is broken first, in the order in which they are tested.
-#[derive(Drop)]
+#[derive(Clone, Copy)]
 pub enum Rule {
     Level,
     Count,
@@ -38,7 +38,7 @@ impl Rule {
 
 // What is wrong where a call is Damaged or a tree Unsound: the reader's own answer, or the name of the test that the page or the cursor
 // fails. The page is none for a cursor that is too high and for one under which nothing is left.
-#[derive(Drop)]
+#[derive(Clone, Copy)]
 pub enum Fault {
     Breaks(Rule),
     Missing,
@@ -68,7 +68,7 @@ impl Fault {
 }
 
 // Why a call is refused, with the batch index or the page that it names.
-#[derive(Drop)]
+#[derive(Clone, Copy)]
 pub enum Refusal {
     BadStore,
     TooMany,
@@ -154,42 +154,42 @@ impl Refusal {
 }
 
 // Of an insert or an initialise.
-#[derive(Drop)]
+#[derive(Clone, Copy)]
 pub enum Answer {
     Done { root: PageId, pages: u64 },
     Refused(Refusal),
 }
 
 // Of the call that asks whether a tree holds a batch: it holds all of it, or why not.
-#[derive(Drop)]
+#[derive(Clone, Copy)]
 pub enum Held {
     All,
     Refused(Refusal),
 }
 
 // Of an append to the heap: the value that names the constant, and the bytes by which the heap has grown.
-#[derive(Drop)]
+#[derive(Clone, Copy)]
 pub enum Append {
     Stored { value: Value, bytes: u64 },
     Refused(Refusal),
 }
 
 // Of the second call that names the refusal of a fetch.
-#[derive(Drop)]
+#[derive(Clone, Copy)]
 pub enum Fetch {
     Given,
     Refused(Refusal),
 }
 
 // Of the search for the next midpoint: the caller goes on only with a child.
-#[derive(Drop)]
+#[derive(Clone, Copy)]
 pub enum NextMidpoint {
     Child(PageId),
     Nothing,
 }
 
 // A listing's place: the height, and for each end an index and a page for every level.
-#[derive(Drop)]
+#[derive(Clone, Copy)]
 pub struct Cursor {
     pub height: u64,
     pub begin_indices: [u64; 8],
@@ -198,20 +198,20 @@ pub struct Cursor {
     pub end_pages: [PageId; 8],
 }
 
-#[derive(Drop)]
+#[derive(Clone, Copy)]
 pub enum Start {
     Begun,
     Refused(Refusal),
 }
 
 // Of the start of a listing. The cursor of a refused start has ended.
-#[derive(Drop)]
+#[derive(Clone, Copy)]
 pub struct Started {
     pub answer: Start,
     pub cursor: Cursor,
 }
 
-#[derive(Drop)]
+#[derive(Clone, Copy)]
 pub enum Step {
     Yields(Datom),
     Ended,
@@ -219,14 +219,14 @@ pub enum Step {
 }
 
 // Of a step: an ended or refused one returns its cursor as it was.
-#[derive(Drop)]
+#[derive(Clone, Copy)]
 pub struct Stepped {
     pub answer: Step,
     pub cursor: Cursor,
 }
 
 // Of the check.
-#[derive(Drop)]
+#[derive(Clone, Copy)]
 pub enum Check {
     Sound,
     Unsound(PageId, Fault),

@@ -15,14 +15,14 @@ use answer::Refusal;
 use index::{Index, Order};
 
 // Of a check: nothing, or the refusal to give.
-#[derive(Drop)]
+#[derive(Clone, Copy)]
 pub enum Finding {
     Clear,
     Found(Refusal),
 }
 
 // How many datoms a batch has, or why it is none.
-#[derive(Drop)]
+#[derive(Clone, Copy)]
 pub enum Count {
     Datoms(usize),
     Refused(Refusal),

@@ -12,7 +12,7 @@ const MAX_WORD: u64 = 0xffff_ffff_ffff_ffff;
 
 // Entity id.
 #[repr(C)]
-#[derive(Drop)]
+#[derive(Clone, Copy)]
 pub struct Eid(pub u64);
 
 impl Eid {
@@ -31,7 +31,7 @@ impl Eid {
 
 // Attribute id.
 #[repr(C)]
-#[derive(Drop)]
+#[derive(Clone, Copy)]
 pub struct Aid(pub u64);
 
 impl Aid {
@@ -49,7 +49,7 @@ impl Aid {
 }
 
 // Transaction number: an even one.
-#[derive(Drop)]
+#[derive(Clone, Copy)]
 pub struct Tid(pub u64);
 
 impl Tid {
@@ -67,7 +67,7 @@ impl Tid {
     }
 }
 
-#[derive(Drop)]
+#[derive(Clone, Copy)]
 pub enum Operation {
     Retract,
     Assert,
@@ -75,7 +75,7 @@ pub enum Operation {
 
 // Transaction number and operation in one word.
 #[repr(C)]
-#[derive(Drop)]
+#[derive(Clone, Copy)]
 pub struct TidOp(pub u64);
 
 impl TidOp {
@@ -111,11 +111,11 @@ impl TidOp {
 
 // An integer or a byte string of up to seven bytes in one word, the offset of a longer one on the heap, or max.
 #[repr(C)]
-#[derive(Drop)]
+#[derive(Clone, Copy)]
 pub struct Value(pub u64);
 
 // A value that was to stand in the word itself.
-#[derive(Drop)]
+#[derive(Clone, Copy)]
 pub enum Inline {
     Made(Value),
     TooLarge,
@@ -286,7 +286,7 @@ fn past(n: u64) -> u64
 
 // A fact about an entity, with the transaction that asserted or retracted it. It lies in memory as a C struct of four words.
 #[repr(C)]
-#[derive(Drop)]
+#[derive(Clone, Copy)]
 pub struct Datom {
     pub entity: Eid,
     pub attribute: Aid,

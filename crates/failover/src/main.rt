@@ -12,7 +12,7 @@ use datom::{Aid, Datom, Eid, TidOp, Value};
 use store::{PageId, StoreRecord};
 
 // The store's record and the root that the last accepted batch led to.
-#[derive(Drop)]
+#[derive(Clone, Copy)]
 struct Stand {
     stored: StoreRecord,
     root: PageId,

@@ -20,7 +20,7 @@ use node::Merged;
 use store::{Extent, PageId};
 
 // A page merged with a batch into the area, of so many datoms; or what is wrong with the page.
-#[derive(Drop)]
+#[derive(Clone, Copy)]
 pub enum Loaded {
     Node(usize),
     Faulty(Fault),

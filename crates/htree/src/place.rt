@@ -12,14 +12,14 @@ use answer::Refusal;
 use store::{Extent, PageId};
 
 // A page's id, or why it is not written.
-#[derive(Drop)]
+#[derive(Clone, Copy)]
 pub enum Put {
     Placed(PageId),
     Failed(Refusal),
 }
 
 // What an insert into a page leaves in the area: how many midpoints, and how many pages past the count are written now.
-#[derive(Drop)]
+#[derive(Clone, Copy)]
 pub enum Inserted {
     Placed { datoms: usize, written: u64 },
     Failed { refusal: Refusal, written: u64 },

@@ -13,7 +13,7 @@ use answer::Refusal;
 use store::{Extent, PageId};
 
 // The root and how many pages past the count are written, or why there is none.
-#[derive(Drop)]
+#[derive(Clone, Copy)]
 pub enum Rooted {
     Root { root: PageId, written: u64 },
     Failed { refusal: Refusal, written: u64 },

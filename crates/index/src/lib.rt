@@ -13,7 +13,7 @@ ghost use Rattle.index.specs.Key.{key, turned, swapped};
 use datom::{Datom, Value};
 
 // Which order a tree is in: by entity, attribute, value and last word, or by attribute first, with the entity or the value behind it.
-#[derive(Drop)]
+#[derive(Clone, Copy)]
 pub enum Index {
     Eavt,
     Aevt,
@@ -21,7 +21,7 @@ pub enum Index {
 }
 
 // What a number of an order names.
-#[derive(Drop)]
+#[derive(Clone, Copy)]
 pub enum Named {
     By(Index),
     Unknown,
@@ -61,7 +61,7 @@ pub fn second_place(by: Index) -> usize
 }
 
 // How one datom stands to another.
-#[derive(Drop)]
+#[derive(Clone, Copy)]
 pub enum Order {
     Less,
     Equal,

@@ -8,7 +8,7 @@ ghost use Rattle.invariants.specs.Bounds.{bound_of, bound_at};
 use datom::Datom;
 use index::{Index, Order};
 
-#[derive(Drop)]
+#[derive(Clone, Copy)]
 pub enum Bound {
     Nothing,
     At(Datom),

@@ -17,7 +17,7 @@ use memory_store::access;
 use store::{Extent, PageId};
 
 // No datom so far, the smallest one and its level, or the page of the higher level of an equal pair.
-#[derive(Drop)]
+#[derive(Clone, Copy)]
 pub enum Candidate {
     Nothing,
     At { level: usize, datom: Datom },

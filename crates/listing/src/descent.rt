@@ -19,28 +19,28 @@ use memory_store::{access, found};
 use store::{Extent, PageId};
 
 // Where a page is entered: at its first datom, or at the first that is not below a bound.
-#[derive(Drop)]
+#[derive(Clone, Copy)]
 pub enum Seek {
     First,
     NotBelow(Datom),
 }
 
 // The index that is found in a page and the child that the way goes on to, if any, or what is wrong with the page.
-#[derive(Drop)]
+#[derive(Clone, Copy)]
 pub enum Placed {
     Lost(Fault),
     At { index: usize, next: NextMidpoint },
 }
 
 // Where a way ends: at level 0, or at a page that cannot be read, with what is wrong with it.
-#[derive(Drop)]
+#[derive(Clone, Copy)]
 pub enum End {
     Bottom,
     Lost(PageId, Fault),
 }
 
 // A way and where it ends; one that is lost is empty.
-#[derive(Drop)]
+#[derive(Clone, Copy)]
 pub struct Descent {
     pub end: End,
     pub way: Way,

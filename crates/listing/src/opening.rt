@@ -14,14 +14,14 @@ use memory_store::found::Opened;
 use store::{Extent, PageId};
 
 // Whether all pages are open, or the first that is not and what is wrong with it.
-#[derive(Drop)]
+#[derive(Clone, Copy)]
 pub enum Opening {
     Open,
     Damaged(PageId, Fault),
 }
 
 // Whether one page is open, or what is wrong with it.
-#[derive(Drop)]
+#[derive(Clone, Copy)]
 enum PageOpening {
     Open,
     Shut(Fault),

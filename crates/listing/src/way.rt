@@ -9,7 +9,7 @@ use store::PageId;
 // Document 01: "a height of at most 8", so an end has a place for each level below it.
 pub const LEVELS: usize = 8;
 
-#[derive(Drop)]
+#[derive(Clone, Copy)]
 pub struct Way {
     pub indices: [u64; LEVELS],
     pub pages: [PageId; LEVELS],

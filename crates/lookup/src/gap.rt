@@ -10,7 +10,7 @@ use index::{Index, Order};
 
 // The datoms above the one sought whose paths run through the same pages and meet an equal datom in none of them: those below the
 // least datom that stands next to it in these pages, or all of them where it is above every page.
-#[derive(Drop)]
+#[derive(Clone, Copy)]
 pub enum Gap {
     Open,
     Below(Datom),

@@ -32,7 +32,7 @@ use memory_store::{access, found};
 use store::{Extent, PageId};
 
 // Where a datom's path ends: at an equal datom, at level 0 without one, or at a page that cannot be read.
-#[derive(Drop)]
+#[derive(Clone, Copy)]
 enum Look {
     Met,
     Absent,
@@ -41,7 +41,7 @@ enum Look {
 
 // What was read on the last path, by level, so that no page is read again for the datom that comes next: the page, none where nothing
 // was read, and how many datoms it has.
-#[derive(Drop)]
+#[derive(Clone, Copy)]
 struct Path {
     pages: [PageId; 8],
     counts: [usize; 8],
@@ -60,7 +60,7 @@ impl Path {
 }
 
 // Where a path ends, what was read on it, and the gap that it leaves.
-#[derive(Drop)]
+#[derive(Clone, Copy)]
 struct Looked {
     look: Look,
     path: Path,

@@ -13,14 +13,14 @@ use index::Index;
 use store::{Extent, PageId};
 
 // What is wrong with the page, or its level and count.
-#[derive(Drop)]
+#[derive(Clone, Copy)]
 pub enum Found {
     Faulty(Fault),
     Fine { level: usize, count: usize },
 }
 
 // How many datoms a page of the level that was asked for has, or what is wrong with it.
-#[derive(Drop)]
+#[derive(Clone, Copy)]
 pub enum Opened {
     Node(usize),
     Faulty(Fault),

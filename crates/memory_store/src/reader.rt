@@ -16,7 +16,7 @@ use index::Index;
 use store::PageId;
 
 // A page is unreadable by a rule, or it has a level and a count.
-#[derive(Drop)]
+#[derive(Clone, Copy)]
 pub enum Reading {
     Broken(Rule),
     Good { level: usize, count: usize },

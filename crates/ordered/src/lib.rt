@@ -9,7 +9,7 @@ use index::{Index, Named};
 use store::StoreRecord;
 
 // The order to go by, or why the call is refused.
-#[derive(Drop)]
+#[derive(Clone, Copy)]
 pub enum Ordered {
     By(Index),
     Refused(Refusal),

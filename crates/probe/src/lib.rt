@@ -16,7 +16,7 @@ use store::{Extent, PageId};
 const NOTHING: u64 = 0xffff_ffff_ffff_ffff;
 
 // What bytes are as a page: not readable, with the number of the first broken rule, or readable with a level and a count.
-#[derive(Drop)]
+#[derive(Clone, Copy)]
 enum Look {
     Unread(u64),
     Good(usize, usize),

@@ -13,7 +13,7 @@ pub mod wide;
 use store::StoreRecord;
 
 // Whether there was a record, and the store's record after it.
-#[derive(Drop)]
+#[derive(Clone, Copy)]
 struct Turn {
     is_any: bool,
     stored: StoreRecord,

@@ -7,7 +7,7 @@ use store::StoreRecord;
 const SIZE: u64 = 8192;
 
 // A tree of d(0), d(1), ..: its root, how many pages its store has, and whether every batch went in.
-#[derive(Drop)]
+#[derive(Clone, Copy)]
 struct Tree {
     root: u64,
     pages: u64,

@@ -8,7 +8,7 @@ ghost use Rattle.store.specs.Page.{page, none, is_none};
 ghost use Rattle.store.specs.Record.{extent_of};
 
 // The number of a page, counted from the front of the store.
-#[derive(Drop)]
+#[derive(Clone, Copy)]
 pub struct PageId(pub u64);
 
 impl PageId {
@@ -31,7 +31,7 @@ impl PageId {
 }
 
 // The store's record: what a caller hands over beside the lent store and heap.
-#[derive(Drop)]
+#[derive(Clone, Copy)]
 pub struct StoreRecord {
     // The bytes of a page.
     pub size: u64,
@@ -44,7 +44,7 @@ pub struct StoreRecord {
 }
 
 // What of the record is about pages.
-#[derive(Drop)]
+#[derive(Clone, Copy)]
 pub struct Extent {
     pub size: u64,
     pub count: u64,

@@ -1,0 +1,58 @@
+-- `content::order_of_bytes` meets its contract: the rests compare as the whole does. Assumes nothing.
+use Prim.Native.Nat.{◌+◌, ◌-◌, ◌≤◌}
+use native.Mathlib.Omega.{arith}
+use mathlib.Core.Path.{◌≡◌, refl, sym, ◌∙◌, ap}
+use lib.ListN.{length, drop}
+use Rattle.store.specs.Words.{word_at}
+use Rattle.index.specs.Order.{cmp_bytes, named}
+use Rattle.index.specs.Key.{swapped}
+use Rattle.index.specs.Eight.{words_less, words_greater, words_on}
+use borrow.Author.Rules.{rules}
+use Rattle.index.proofs.content.order_of_bytes.Goals as goal
+
+pub loop-i-init : goal.loop-i-init
+loop-i-init c = (omega arith, refl)
+
+pub word-requires : goal.word-requires
+word-requires c = omega (arith, c.common_length-end.ensures)
+
+pub word-requires-in-loop-i : goal.word-requires-in-loop-i
+word-requires-in-loop-i c = omega arith
+
+pub returns-then-x-y : goal.returns-then-x-y
+returns-then-x-y c =
+    let a = c.args in
+    let l = c.loop-i in
+    words_less a.a.now a.b.now l.i (λ i. (c.shared_slice_known-1.given i).fits) (λ i. (c.shared_slice_known-2-1.given i).fits)
+    (omega arith) (omega arith)
+    (omega (arith, c.swap-x.ensures ∙ ap swapped c.word.ensures, c.swap-y.ensures ∙ ap swapped c.word-in-loop-i.ensures, c.if-x-y.true))
+    ∙ ap named l.invariant.1
+
+pub returns-then-y-x : goal.returns-then-y-x
+returns-then-y-x c =
+    let a = c.args in
+    let l = c.loop-i in
+    words_greater a.a.now a.b.now l.i (λ i. (c.shared_slice_known-1.given i).fits) (λ i. (c.shared_slice_known-2-1.given i).fits)
+    (omega arith) (omega arith)
+    (omega (arith, c.swap-x.ensures ∙ ap swapped c.word.ensures, c.swap-y.ensures ∙ ap swapped c.word-in-loop-i.ensures, c.if-y-x.true))
+    ∙ ap named l.invariant.1
+
+pub overflow_add-i : goal.overflow_add-i
+overflow_add-i c = omega arith
+
+pub loop-i-smaller : goal.loop-i-smaller
+loop-i-smaller c = omega arith
+
+pub loop-i-preserved : goal.loop-i-preserved
+loop-i-preserved c =
+    let a = c.args in
+    let l = c.loop-i in (
+      omega arith,
+      words_on a.a.now a.b.now l.i (λ i. (c.shared_slice_known-1.given i).fits) (λ i. (c.shared_slice_known-2-1.given i).fits)
+          (omega arith) (omega arith)
+          (omega (arith, c.swap-x.ensures ∙ ap swapped c.word.ensures, c.swap-y.ensures ∙ ap swapped c.word-in-loop-i.ensures, c.if-x-y.false, c.if-y-x.false))
+          ∙ l.invariant.1,
+    )
+
+pub returns : goal.returns
+returns c = c.order_of_bytes_from.ensures ∙ ap named c.loop-i.invariant.1

@@ -1,0 +1,14 @@
+use Prim.Native.Nat.{◌+◌, ◌-◌, ◌≤◌}
+use native.Mathlib.Omega.{arith}
+use mathlib.Core.Path.{◌≡◌, refl, ◌∙◌, ap}
+use lib.ListN.{length, drop}
+use Rattle.index.specs.Order.{cmp_bytes, named}
+use Rattle.index.specs.Strings.{bytes_less, bytes_greater, bytes_on, bytes_longer, bytes_ended}
+use borrow.Author.Rules.{rules}
+use Rattle.index.proofs.content.order_of_bytes_from.Given as goal
+
+abbrev pub invariant-loop-i : goal.invariant-loop-i
+invariant-loop-i l = (l.i ≤ length l.a) × (l.i ≤ length l.b) × (cmp_bytes (drop l.i l.a) (drop l.i l.b) ≡ cmp_bytes (drop l.from l.a) (drop l.from l.b))
+
+abbrev pub decreases-loop-i : goal.decreases-loop-i
+decreases-loop-i l = length l.a - l.i

@@ -1,0 +1,14 @@
+-- `index::order_of_values` meets its contract: by the keys of values that stand in their words, by the contents of all others. Assumes nothing.
+use mathlib.Core.Path.{sym, ap, ◌∙◌}
+use borrow.Author.Tests.{not-true}
+use Rattle.index.specs.Order.{named}
+use Rattle.index.specs.Keys.{keyed}
+use borrow.Author.Rules.{rules}
+use Rattle.index.proofs.order_of_values.Goals as goal
+
+pub returns-then-not-is_external-2 : goal.returns-then-not-is_external-2
+returns-then-not-is_external-2 c =
+    let near = sym c.is_external.ensures ∙ c.if-not-is_external.true in
+    let near-too = sym c.is_external-then-not-is_external.ensures ∙ c.if-not-is_external-2.true in
+    c.order_of_numbers.ensures
+    ∙ ap named (rw (c.key_of.ensures, c.key_of-then-not-is_external-2.ensures) (sym (keyed _ _ _ near near-too)))

@@ -17,6 +17,7 @@ In x [] = ⊥
 In x (y ∷ ys) = (x ≡ y) ⊎ In x ys
 
 pub in_left : {A : Type 0} (x : A) (xs ys : List A) → In x xs → In x (xs ++ ys)
+in_left {A = A} x [] ys x'' = elim x'' [ ]
 in_left x (z ∷ zs) ys (inl e) = inl e
 in_left x (z ∷ zs) ys (inr i) = inr (in_left x zs ys i)
 
@@ -37,6 +38,7 @@ in_get_d (x ∷ xs) (suc i) d h = inr (in_get_d xs i d (omega arith))
 module _ {A : Type 0} (ok : A → Bool) where
   pub all_in : (xs : List A) → all ok xs ≡ true → (x : A) → In x xs → ok x ≡ true
   unfolding all
+  all_in [] h x x4 = elim x4 [ ]
   all_in (y ∷ ys) h x (inl e) = rw e (both (ok y) (all ok ys) h).0
   all_in (y ∷ ys) h x (inr i) = all_in ys (both (ok y) (all ok ys) h).1 x i
 
@@ -77,6 +79,7 @@ module _ (cmp : Datom → Datom → Ordering) (L : Preorder cmp) where
 
   above_in : (d : Datom) (ds : List Datom) → above cmp d ds ≡ true → (x : Datom) → In x ds → cmp d x ≡ Ordering.lt
   unfolding above
+  above_in d [] h x x4 = elim x4 [ ]
   above_in d (y ∷ ys) h x (inl e) = rw e (less cmp d y (both (is_less (cmp d y)) (above cmp y ys) h).0)
   above_in d (y ∷ ys) h x (inr i) =
       let w = both (is_less (cmp d y)) (above cmp y ys) h in

@@ -118,6 +118,7 @@ module _ (l q : ℕ) where
       (m p r : ℕ) (ds : List Datom) (cs : List PageId) → q ≤ m → (0 < r → suc q ≤ m) → r ≤ suc p → suc p * suc q + r ≡ suc (length ds) →
       length cs ≡ suc (length ds) → (n : Node) → In n (parts l (suc p) (suc q) r ds cs) → Part l m n
   unfolding parts
+  parts_are m zero r ds cs f g b e c n (inr i) = elim i [ ]
   parts_are m zero r ds cs f g b e c n (inl h) =
       let k : share (suc q) r ≡ suc (length ds) = share_last q r (length ds) b e in
       rw h

@@ -1,7 +1,7 @@
 -- Demand 3 of the code as a C program meets it, proved: Caller's CallerDemand3. Rests on Called, Listed and Code.
 use Rattle.std.specs.Prelude.{ℕ, ◌≤◌, ◌<◌, true, false, List, ◌∷◌, ◌⊎◌, ◌↔◌, ◌≡◌, refl, length}
 use Rattle.std.proofs.Common.{arith, inl, inr, sym, ◌∙◌, ap, length-append}
-use Rattle.std.proofs.Math.Logic.{Iff·trans}
+use mathlib.Core.Logic.Iff as Iff
 use borrow.Author.Tests.{eq-eqb}
 use Rattle.store.specs.declared.PageId.{PageId}
 use Rattle.store.specs.declared.StoreRecord.{StoreRecord}
@@ -175,7 +175,7 @@ caller size i s m runs k j =
       stays = λ m₁ l. P.stays m₁ (runs_on size i h l);
       answered = λ b lent w scratch e q lends r s₁ a a₁ n R.
           rw (left_by m q lends (inserts k b scratch) r s₁ a a₁ n R).returns
-          (Iff·trans (six k.root (outcome_of m (inserts k b scratch)).answer) (P.answered b lent w scratch e));
+          (Iff.trans (six k.root (outcome_of m (inserts k b scratch)).answer) (P.answered b lent w scratch e));
       receipt = λ b lent w scratch e q lends r s₁ a a₁ n R.
           first_named size i m h k j b lent w scratch e s₁ a₁ r (left_by m q lends (inserts k b scratch) r s₁ a a₁ n R);
       asked = λ b w r a a₁ H. asked_call size i m h k j b w r a a₁ H;

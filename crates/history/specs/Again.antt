@@ -29,6 +29,7 @@ use Rattle.history.specs.Listing.{later_history}
 use Rattle.history.specs.Demand.{beyond}
 
 pub gathered_in : (bs : List (List ℕ)) (b : List ℕ) → In b bs → (d : Datom) → In d (batch_of b) → In d (gathered bs)
+gathered_in [] b x'' d i = elim x'' [ ]
 gathered_in (c ∷ bs) b (inl e) d i = in_left d (batch_of c) (gathered bs) (rw e at i)
 gathered_in (c ∷ bs) b (inr j) d i = in_right d (batch_of c) (gathered bs) (gathered_in bs b j d i)
 

@@ -3,7 +3,7 @@
 use Prim.Native.Nat.{ℕ, Ordering}
 use Rattle.std.specs.Prelude.{true, false, List, ◌∷◌, ◌⊎◌, ◌↔◌, ◌≡◌, refl, length}
 use Rattle.std.proofs.Common.{inl, inr, ◌∙◌, ap}
-use Rattle.std.proofs.Math.Logic.{Iff·trans, Iff·symm}
+use mathlib.Core.Logic.Iff as Iff
 use Rattle.store.specs.declared.PageId.{PageId}
 use Rattle.store.specs.declared.Extent.{Extent}
 use Rattle.store.specs.Size.{capacity}
@@ -54,7 +54,7 @@ pub between_once :
     (cmp : Datom → Datom → Ordering) → Preorder cmp → (lo hi : Datom) (u ds es : List Datom) → Between cmp lo hi u ds →
     Between cmp lo hi u es → ds ≡ es
 between_once cmp L lo hi u ds es D E =
-    rising_once cmp L ds es D.ascending E.ascending (λ x. Iff·trans (D.exactly x) (Iff·symm (E.exactly x)))
+    rising_once cmp L ds es D.ascending E.ascending (λ x. Iff.trans (D.exactly x) (Iff.symm (E.exactly x)))
 
 -- what a well-formed batch is answered
 module _ (t : DatomOrd) (L : Preorder t.cmp) (x : Extent) (s : List ℕ) (scratch : ℕ) (u : List Datom) (b : List ℕ) where
@@ -125,7 +125,7 @@ module _ (size : ℕ) (known : capacity size ≡ 0 → ⊥) where
           tree = R.tree;
           holds = R.holds;
           good = R.good;
-          exactly = λ y. Iff·trans (R.exactly y) (Iff·symm (sort_in (at m).cmp (gathered k.batches) y));
+          exactly = λ y. Iff.trans (R.exactly y) (Iff.symm (sort_in (at m).cmp (gathered k.batches) y));
         }
 
     all_stored : (y : Datom) → In y (gathered k.batches) → (at m).stored y ≡ true

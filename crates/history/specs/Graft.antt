@@ -2,7 +2,7 @@
 use Prim.Native.Nat.{ℕ, suc, Ordering}
 use Rattle.std.specs.Prelude.{Bool, true, false, List, [], ◌∷◌, ◌⊎◌, ◌≡◌, refl}
 use Rattle.std.proofs.Common.{inl, inr}
-use Rattle.std.proofs.Math.Logic.{Iff·rfl}
+use mathlib.Core.Logic.Iff as Iff
 use Rattle.datom.specs.declared.Datom.{Datom}
 use Rattle.index.specs.Laws.{Preorder}
 use Rattle.rules.specs.Lists.{In, in_left, in_right, Rising}
@@ -43,7 +43,7 @@ graft (item t d r) q = item t d (graft r q)
 
 pub join_in : (t : Tree) (q : Tail) → Exactly (λ x. InTree x t ⊎ InTail x q) (join t q)
 join_in t nothing x = (inl, λ i. elim i [ inl j ↦ j | inr j ↦ absurd j ])
-join_in t (then d r) x = Iff·rfl
+join_in t (then d r) x = Iff.rfl
 
 pub graft_in : (l : ℕ) (t : Tree) (q : Tail) → Full l t → Exactly (λ x. InTree x t ⊎ InTail x q) (graft t q)
 graft_in l blank q u x = absurd u

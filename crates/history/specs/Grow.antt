@@ -5,7 +5,7 @@ use Rattle.std.proofs.Common.{arith, ap, ltb-false}
 use Rattle.std.specs.Prelude.{Bool, ◌⊎◌, ◌↔◌, ◌≡◌, ltb, length, take, drop}
 use Rattle.std.proofs.Math.Bool.{true, false}
 use mathlib.Core.List.{List, [], ◌∷◌, ◌++◌}
-use Rattle.std.proofs.Math.Logic.{Iff·trans, Iff·rfl}
+use mathlib.Core.Logic.Iff as Iff
 use Rattle.std.proofs.Math.Path.{refl}
 use Rattle.store.specs.declared.PageId.{PageId}
 use Rattle.store.specs.Laws.{apart}
@@ -31,7 +31,7 @@ abbrev pub regrown :
     {t : DatomOrd} {e : Env} {P Q : Datom → Type 0} {w : Place} {o₀ o o₁ : List Node} →
     ((x : Datom) → P x ↔ Q x) → More t e o₀ o → Grown t e P w o o₁ → Grown t e Q w o₀ o₁
 regrown s m g =
-    record { tree = g.tree; holds = g.holds; good = g.good; exactly = λ x. Iff·trans (g.exactly x) (s x); more = more_more m g.more }
+    record { tree = g.tree; holds = g.holds; good = g.good; exactly = λ x. Iff.trans (g.exactly x) (s x); more = more_more m g.more }
 
 -- a node that is not flushed further
 record Settling (t : DatomOrd) (e : Env) (P : Datom → Type 0) (l : ℕ) (o : List Node) (n : Node) (o₁ : List Node) : Type 0 where
@@ -154,7 +154,7 @@ module _ (t : DatomOrd) (e : Env) (E : EnvOk e) where
                 tree = R.tree;
                 row = rw (C.front, C.behind) R.row;
                 good = R.good;
-                exactly = λ x. Iff·trans (R.exactly x) (F.exactly x);
+                exactly = λ x. Iff.trans (R.exactly x) (F.exactly x);
                 more = more_more F.more G.more;
               },
               rw (C.front, C.behind) (omega (arith, fewer, ap pendings S.parts)),
@@ -207,7 +207,7 @@ module _ (t : DatomOrd) (e : Env) (E : EnvOk e) where
           tree = tr;
           holds = holds_extends (held_old e E o) h;
           good = g;
-          exactly = λ x. Iff·rfl;
+          exactly = λ x. Iff.rfl;
           more = same_more ws;
         };
         full = λ v. leaf_full h;
@@ -217,7 +217,7 @@ module _ (t : DatomOrd) (e : Env) (E : EnvOk e) where
       λ n tr o q h g a ws.
       let w = row_of false (held_old e E o) h in
       flush_all_ok l (insert_into e l) (insert_into_ok l) (λ x. InTree x tr) a o (length n.datoms) n o
-      (record { level = q; tree = tr; row = w; good = g; exactly = λ x. Iff·rfl; more = same_more ws }) (row_pendings w)
+      (record { level = q; tree = tr; row = w; good = g; exactly = λ x. Iff.rfl; more = same_more ws }) (row_pendings w)
 
 -- a root: none or a page, a child of no page
 pub record Rooted (t : DatomOrd) (e : Env) (P : Datom → Type 0) (o : List Node) (root : PageId) (o₁ : List Node) : Type 0 where

@@ -3,7 +3,8 @@
 use Rattle.std.specs.Prelude.{ℕ, zero, suc, ◌+◌, ◌-◌, ◌*◌, ◌≤◌, ◌<◌, Bool, List, [], ◌∷◌, ◌⊎◌, ◌≡◌, length, take}
 use Rattle.std.proofs.Common.{arith, ◌∙◌}
 use Rattle.std.proofs.Math.Bool.{true, false}
-use Rattle.std.proofs.Math.Logic.{inl, inr, Iff·rfl}
+use Rattle.std.proofs.Math.Logic.{inl, inr}
+use mathlib.Core.Logic.Iff as Iff
 use Rattle.std.proofs.Math.Path.{refl}
 use borrow.Author.Tests.{ltb-true, ltb-false}
 use Rattle.std.proofs.Math.Dec.{ltb}
@@ -61,7 +62,7 @@ nothing_known t x s =
     record {
       distinct = tt;
       stored = λ y i. absurd i;
-      root = record { level = 0; tree = blank; holds = no_page none_is; good = tt; exactly = λ y. Iff·rfl };
+      root = record { level = 0; tree = blank; holds = no_page none_is; good = tt; exactly = λ y. Iff.rfl };
     }
 
 nth_some : (o : List Node) (i : ℕ) → i < length o → (n : Node) × (nth o i ≡ fine n)

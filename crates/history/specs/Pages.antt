@@ -95,6 +95,7 @@ module _ {f : PageId → Fetched} where
   -- "at level 0 every child none": all is in the page itself
   pub leaf_own : {ds : List Datom} {cs : List PageId} {t : Tree} (x : Datom) → Holds f (page 0 ds cs) t → InTree x t → In x (own t)
   leaf_own x (h_last (no_page n) e) i = i
+  leaf_own x (h_item {c = c} {ds = ds} {cs = cs} {r = r} d (no_page n) h) (inl x13) = elim x13 [ ]
   leaf_own x (h_item d (no_page n) h) (inr (inl i)) = inl i
   leaf_own x (h_item d (no_page n) h) (inr (inr i)) = inr (leaf_own x h i)
 

@@ -4,7 +4,8 @@ use Prim.Native.Nat.{Ordering}
 use Rattle.std.specs.Prelude.{Bool, ◌&&◌, not, cond, ◌↔◌, ◌≡◌}
 use Rattle.std.proofs.Math.Bool.{true, false}
 use mathlib.Core.List.{List, [], ◌∷◌, ◌++◌}
-use Rattle.std.proofs.Math.Logic.{inl, inr, Iff·rfl}
+use Rattle.std.proofs.Math.Logic.{inl, inr}
+use mathlib.Core.Logic.Iff as Iff
 use Rattle.std.proofs.Math.Path.{refl}
 use Rattle.std.proofs.Common.{sym, ◌∙◌, ap₂}
 use Rattle.datom.specs.declared.Datom.{Datom}
@@ -41,11 +42,11 @@ module _ (cmp : Datom → Datom → Ordering) where
 
   place_in : (d : Datom) (s : List Datom) (x : Datom) → In x (place cmp d s) ↔ In x (d ∷ s)
   unfolding place
-  place_in d [] x = Iff·rfl
+  place_in d [] x = Iff.rfl
   place_in d (y ∷ s) x = side (is_less (cmp y d)) refl (place_in d s x)
     where
       side : (b : Bool) → is_less (cmp y d) ≡ b → In x (place cmp d s) ↔ In x (d ∷ s) → In x (place cmp d (y ∷ s)) ↔ In x (d ∷ y ∷ s)
-      side false e ih = rw e Iff·rfl
+      side false e ih = rw e Iff.rfl
       side true e ih =
           rw e (
             λ i. elim i [ inl j ↦ inr (inl j) | inr j ↦ elim (ih.0 j) [ inl k ↦ inl k | inr k ↦ inr (inr k) ] ],
@@ -54,7 +55,7 @@ module _ (cmp : Datom → Datom → Ordering) where
 
   pub sort_in : (ds : List Datom) (x : Datom) → In x (sort cmp ds) ↔ In x ds
   unfolding sort
-  sort_in [] x = Iff·rfl
+  sort_in [] x = Iff.rfl
   sort_in (d ∷ ds) x =
       let p = place_in d (sort cmp ds) x in
       let ih = sort_in ds x in

@@ -4,7 +4,7 @@ use Prim.Native.Nat.{ℕ, zero, suc, ◌<◌, Ordering}
 use Rattle.std.proofs.Common.{arith, inl, inr, ap}
 use Rattle.std.specs.Prelude.{true, ◌↔◌, ◌≡◌, refl}
 use mathlib.Core.List.{List, [], ◌∷◌, ◌++◌, append-nil}
-use Rattle.std.proofs.Math.Logic.{Iff·trans, Iff·symm, Iff·rfl}
+use mathlib.Core.Logic.Iff as Iff
 use borrow.Author.Tests.{ltb-true}
 use Rattle.std.proofs.Math.ListN.{length}
 use Rattle.store.specs.declared.PageId.{PageId}
@@ -61,7 +61,7 @@ module _ (cmp : Datom → Datom → Ordering) (L : Preorder cmp) where
         good_right = g.2;
         lows = g.0.left;
         highs = full_right_law l t d r g u.0 h;
-        exactly = λ x. Iff·rfl;
+        exactly = λ x. Iff.rfl;
       }
   cut {f} {l} {d} {b} {cb} (e ∷ a) (c ∷ ca) n (h_item {t} {r} _ k h) u g = more (cut a ca (omega arith) h u.1 g.2)
     where
@@ -108,7 +108,7 @@ module _ (t : DatomOrd) (e : Env) (E : EnvOk e) (l : ℕ) where
       (put_ok t e E l m tr o (part m (inl refl)).level (rw (append-nil m.datoms, append-nil m.children) at h) g a (part m (inl refl)).few ws)
       λ id o₁ q. goes
       (record {
-        grown = record { tree = last tr; holds = h_last q.0 (holds_real h); good = g; exactly = λ x. Iff·rfl; more = q.1 };
+        grown = record { tree = last tr; holds = h_last q.0 (holds_real h); good = g; exactly = λ x. Iff.rfl; more = q.1 };
         full = holds_real h;
       })
   puts (m ∷ k ∷ ns) (d ∷ up) tr o n part h u g a ws =
@@ -124,7 +124,7 @@ module _ (t : DatomOrd) (e : Env) (E : EnvOk e) (l : ℕ) where
           tree = item w.left d p.grown.tree;
           holds = h_item d (holds_extends p.grown.more.extends q.0) p.grown.holds;
           good = (midpoint e.cmp w.lows (λ x i. w.highs x ((p.grown.exactly x).0 i)), w.good_left, p.grown.good);
-          exactly = λ x. Iff·trans (item_same w.left d p.grown.tree w.right x (p.grown.exactly x)) (Iff·symm (w.exactly x));
+          exactly = λ x. Iff.trans (item_same w.left d p.grown.tree w.right x (p.grown.exactly x)) (Iff.symm (w.exactly x));
           more = more_more q.1 p.grown.more;
         };
         full = (holds_real w.holds_left, p.full);

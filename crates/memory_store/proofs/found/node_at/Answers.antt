@@ -1,0 +1,27 @@
+-- `node_at` meets its contract: a page below the count lies in the store, and the reader tells the rest. Assumes nothing.
+use Rattle.std.proofs.Common.{sym, ap, ◌∙◌, arith, rules}
+use Rattle.index.specs.Order.{order_in}
+use Rattle.memory_store.specs.Reading.{said}
+use Rattle.memory_store.specs.FetchLaws.{in_order, page_long, found_missing, found_broken, found_fine}
+use Rattle.memory_store.proofs.found.node_at.Goals as goal
+
+pub returns-then-extent-page : goal.returns-then-extent-page
+returns-then-extent-page c = found_missing _ _ _ _ c.if-extent-page.true
+
+pub read_page-requires : goal.read_page-requires
+read_page-requires c =
+    let a = c.args in
+    let o = in_order a.extent a.store.now c.requires.0 in
+    rw (c.part_of-part.ensures, page_long a.extent a.store.now a.page o (omega arith), c.requires.1) o.known.fits
+
+pub returns-in-Broken : goal.returns-in-Broken
+returns-in-Broken c =
+    let a = c.args in
+    let e = ap (said a.c _) c.in-Broken.is in
+    found_broken (order_in a.by a.heap.now) a.extent a.store.now a.page (omega arith) _ (rw (c.part_of-part.ensures, c.requires.1) at (sym e ∙ c.read_page.ensures))
+
+pub returns-in-Good : goal.returns-in-Good
+returns-in-Good c =
+    let a = c.args in
+    let e = ap (said a.c _) c.in-Good.is in
+    found_fine (order_in a.by a.heap.now) a.extent a.store.now a.page (omega arith) _ _ (rw (c.part_of-part.ensures, c.requires.1) at (sym e ∙ c.read_page.ensures))

@@ -1,0 +1,14 @@
+use Rattle.std.proofs.Common.{◌≡◌, ◌-◌, drop, sym, ◌∙◌, arith, rules}
+use borrow.Author.Tests.{not-true, not-false}
+use Rattle.store.specs.Words.{cells}
+use Rattle.store.specs.Page.{page_of}
+use Rattle.store.specs.Cells.{pages_from}
+use Rattle.rules.specs.Page.{all, older}
+use Rattle.memory_store.specs.Steps.{all_on, all_stop, all_end}
+use Rattle.memory_store.proofs.reader.all_older.Given as goal
+
+abbrev pub invariant-loop-i : goal.invariant-loop-i
+invariant-loop-i l = all (older l.id) (drop l.i (cells page_of 8 l.n (drop l.at l.s))) ≡ all (older l.id) (cells page_of 8 l.n (drop l.at l.s))
+
+abbrev pub decreases-loop-i : goal.decreases-loop-i
+decreases-loop-i l = l.n - l.i

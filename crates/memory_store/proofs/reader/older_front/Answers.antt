@@ -1,0 +1,23 @@
+-- `older_front` meets its contract: the test on the rest of the list is the test on the whole. Assumes nothing.
+use Rattle.std.proofs.Common.{◌≡◌, ◌-◌, ◌≤◌, drop, sym, refl, ◌∙◌, arith, rules}
+use borrow.Author.Tests.{not-false}
+use Rattle.store.specs.Words.{cells}
+use Rattle.store.specs.Page.{page_of}
+use Rattle.rules.specs.Page.{all, older}
+use Rattle.memory_store.specs.Fours.{older_on}
+use Rattle.memory_store.proofs.reader.older_front.Goals as goal
+
+pub loop-i-init : goal.loop-i-init
+loop-i-init c = (search rules, refl)
+
+pub returns-then-not-four_older : goal.returns-then-not-four_older
+returns-then-not-four_older c = c.loop-i.invariant
+
+pub loop-i-preserved : goal.loop-i-preserved
+loop-i-preserved c =
+    let a = c.args in
+    let l = c.loop-i in
+    (omega arith, sym (older_on a.id a.n a.at a.s.now l.i (omega arith) (c.four_older.ensures c.if-not-four_older.false)) ∙ l.invariant.1)
+
+pub returns : goal.returns
+returns c = c.loop-i.invariant

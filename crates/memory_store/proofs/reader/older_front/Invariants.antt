@@ -1,0 +1,13 @@
+use Rattle.std.proofs.Common.{◌≡◌, ◌-◌, ◌≤◌, drop, sym, refl, ◌∙◌, arith, rules}
+use borrow.Author.Tests.{not-false}
+use Rattle.store.specs.Words.{cells}
+use Rattle.store.specs.Page.{page_of}
+use Rattle.rules.specs.Page.{all, older}
+use Rattle.memory_store.specs.Fours.{older_on}
+use Rattle.memory_store.proofs.reader.older_front.Given as goal
+
+abbrev pub invariant-loop-i : goal.invariant-loop-i
+invariant-loop-i l = (l.i ≤ l.n) × (all (older l.id) (drop l.i (cells page_of 8 l.n (drop l.at l.s))) ≡ all (older l.id) (cells page_of 8 l.n (drop l.at l.s)))
+
+abbrev pub decreases-loop-i : goal.decreases-loop-i
+decreases-loop-i l = l.n - l.i

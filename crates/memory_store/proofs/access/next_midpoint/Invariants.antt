@@ -8,7 +8,7 @@ use Rattle.memory_store.specs.Steps.{next_on, next_stop, next_end}
 use Rattle.memory_store.proofs.access.next_midpoint.Given as goal
 
 abbrev pub invariant-loop-i : goal.invariant-loop-i
-invariant-loop-i l = next_midpoint (drop l.i (children_of l.m (suc l.n) l.s)) ≡ next_midpoint (drop «l.from» (children_of l.m (suc l.n) l.s))
+invariant-loop-i l = next_midpoint (drop l.i (children_of l.m (suc l.n) l.s)) ≡ next_midpoint (drop l.from (children_of l.m (suc l.n) l.s))
 
 abbrev pub decreases-loop-i : goal.decreases-loop-i
 decreases-loop-i l = suc l.n - l.i

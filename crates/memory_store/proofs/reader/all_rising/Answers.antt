@@ -14,14 +14,14 @@ pub returns-then-not-rises_at : goal.returns-then-not-rises_at
 returns-then-not-rises_at c =
     let a = c.args in
     let l = c.loop-i in
-    let e : is_less ((order_in a.by a.heap.now).cmp (datom_at a.s.now (32 * l.i)) (datom_at a.s.now (32 * l.i + 32))) ≡ false = cc (c.rises_at.ensures, not-true c.rises_at.result c.if-not-rises_at.true) in
+    let e : is_less ((order_in a.by a.heap.now).cmp (datom_at a.s.now (32 * l.i)) (datom_at a.s.now (32 * l.i + 32))) ≡ false = cc (c.rises_at.ensures, c.if-not-rises_at.true) in
     sym (rising_stop (order_in a.by a.heap.now).cmp a.k l.i a.s.now (omega arith) e) ∙ l.invariant.1
 
 pub loop-i-preserved : goal.loop-i-preserved
 loop-i-preserved c =
     let a = c.args in
     let l = c.loop-i in
-    let e : is_less ((order_in a.by a.heap.now).cmp (datom_at a.s.now (32 * l.i)) (datom_at a.s.now (32 * l.i + 32))) ≡ true = cc (c.rises_at.ensures, not-false c.rises_at.result c.if-not-rises_at.false) in
+    let e : is_less ((order_in a.by a.heap.now).cmp (datom_at a.s.now (32 * l.i)) (datom_at a.s.now (32 * l.i + 32))) ≡ true = cc (c.rises_at.ensures, c.if-not-rises_at.false) in
     (omega arith, sym (rising_on (order_in a.by a.heap.now).cmp a.k l.i a.s.now (omega arith) e) ∙ l.invariant.1)
 
 pub returns : goal.returns

@@ -7,7 +7,7 @@ use Rattle.memory_store.specs.Steps.{rising_on, rising_stop, rising_end}
 use Rattle.memory_store.proofs.reader.all_rising.Given as goal
 
 abbrev pub invariant-loop-i : goal.invariant-loop-i
-invariant-loop-i l = (l.i ≤ l.k) × (rising (order_in l.by l.heap).cmp (drop l.i (datoms_of l.k l.s)) ≡ rising (order_in l.by l.heap).cmp (drop «from» (datoms_of l.k l.s)))
+invariant-loop-i l = (l.i ≤ l.k) × (rising (order_in l.by l.heap).cmp (drop l.i (datoms_of l.k l.s)) ≡ rising (order_in l.by l.heap).cmp (drop l.from (datoms_of l.k l.s)))
 
 abbrev pub decreases-loop-i : goal.decreases-loop-i
 decreases-loop-i l = l.k - l.i

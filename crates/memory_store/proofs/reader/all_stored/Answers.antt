@@ -16,14 +16,14 @@ pub returns-then-not-is_stored : goal.returns-then-not-is_stored
 returns-then-not-is_stored c =
     let a = c.args in
     let l = c.loop-i in
-    let e : stored_value a.heap.now (record { 0 = word_at a.s.now (32 * l.i + 16) }) ≡ false = cc (not-true c.is_stored.result c.if-not-is_stored.true) in
+    let e : stored_value a.heap.now (record { 0 = word_at a.s.now (32 * l.i + 16) }) ≡ false = cc c.if-not-is_stored.true in
     sym (all_stop (stored_datom a.heap.now) (datoms_from a.k l.i a.s.now (omega arith)) (stored_word a.heap.now a.s.now (32 * l.i) false e)) ∙ l.invariant
 
 pub loop-i-preserved : goal.loop-i-preserved
 loop-i-preserved c =
     let a = c.args in
     let l = c.loop-i in
-    let e : stored_value a.heap.now (record { 0 = word_at a.s.now (32 * l.i + 16) }) ≡ true = cc (not-false c.is_stored.result c.if-not-is_stored.false) in
+    let e : stored_value a.heap.now (record { 0 = word_at a.s.now (32 * l.i + 16) }) ≡ true = cc c.if-not-is_stored.false in
     sym (all_on (stored_datom a.heap.now) (datoms_from a.k l.i a.s.now (omega arith)) (stored_word a.heap.now a.s.now (32 * l.i) true e)) ∙ l.invariant
 
 pub returns : goal.returns

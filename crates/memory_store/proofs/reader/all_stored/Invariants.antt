@@ -9,7 +9,7 @@ use Rattle.memory_store.specs.Steps.{all_on, all_stop, all_end, stored_word}
 use Rattle.memory_store.proofs.reader.all_stored.Given as goal
 
 abbrev pub invariant-loop-i : goal.invariant-loop-i
-invariant-loop-i l = all (stored_datom l.heap) (drop l.i (datoms_of l.k l.s)) ≡ all (stored_datom l.heap) (drop «from» (datoms_of l.k l.s))
+invariant-loop-i l = all (stored_datom l.heap) (drop l.i (datoms_of l.k l.s)) ≡ all (stored_datom l.heap) (drop l.from (datoms_of l.k l.s))
 
 abbrev pub decreases-loop-i : goal.decreases-loop-i
 decreases-loop-i l = l.k - l.i

@@ -17,16 +17,14 @@ returns-then-c-k c = way_count _ _ _ _ _ c.level_of-level.ensures _ c.count_of-k
 pub returns-then-not-all_stored : goal.returns-then-not-all_stored
 unfolding said order_in
 returns-then-not-all_stored c =
-    let head = c in
-    way_form _ _ _ _ _ head.before.before.before.level-of.ensures _ head.before.before.count_of.ensures head.before.if1.false head.if2.false
+    way_form _ _ _ _ _ c.level_of-level.ensures _ c.count_of-k.ensures c.if-level-gt7.false c.if-c-k.false
     ((c.plain_front-plain.ensures.1 _).0 ∙ sym c.all_stored.ensures ∙ c.if-not-all_stored.true)
 
 pub returns-then-not-all_rising : goal.returns-then-not-all_rising
 unfolding said order_in
 returns-then-not-all_rising c =
     let same = c.plain_front-plain.ensures.1 _ in
-    let head = c in
-    way_order _ _ _ _ _ head.before.before.before.level-of.ensures _ head.before.before.count_of.ensures head.before.if1.false head.if2.false
+    way_order _ _ _ _ _ c.level_of-level.ensures _ c.count_of-k.ensures c.if-level-gt7.false c.if-c-k.false
     (same.0 ∙ sym c.all_stored.ensures ∙ c.if-not-all_stored.false)
     (same.1 ∙ sym c.all_rising.ensures ∙ c.if-not-all_rising.true)
 
@@ -34,8 +32,7 @@ pub returns : goal.returns
 unfolding order_in
 returns c =
     let same = c.plain_front-plain.ensures.1 _ in
-    let head = c in
     c.read_children.ensures
-    ∙ way_on _ _ _ _ _ head.before.before.before.level-of.ensures _ head.before.before.count_of.ensures head.before.if1.false head.if2.false
+    ∙ way_on _ _ _ _ _ c.level_of-level.ensures _ c.count_of-k.ensures c.if-level-gt7.false c.if-c-k.false
     (same.0 ∙ sym c.all_stored.ensures ∙ c.if-not-all_stored.false)
     (same.1 ∙ sym c.all_rising.ensures ∙ c.if-not-all_rising.false)

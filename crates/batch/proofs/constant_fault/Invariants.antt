@@ -1,0 +1,19 @@
+use Prim.Native.Nat.{◌*◌, ◌-◌, ◌≤◌}
+use native.Mathlib.Omega.{arith}
+use mathlib.Core.Bool.{true, false}
+use mathlib.Core.Path.{◌≡◌, refl, sym, ◌∙◌}
+use borrow.Author.Tests.{not-true, not-false}
+use lib.ListN.{drop}
+use Rattle.datom.specs.Datom.{datom_at, datoms_of, stored_datom}
+use Rattle.datom.specs.Laws.{datoms_from}
+use Rattle.answer.specs.declared.Refusal.TheVariants.{BadConstant}
+use Rattle.rules.specs.Insert.{form_fault}
+use Rattle.batch.specs.Steps.{form_on, form_stop, form_end}
+use borrow.Author.Rules.{rules}
+use Rattle.batch.proofs.constant_fault.Given as goal
+
+abbrev pub invariant-loop-i : goal.invariant-loop-i
+invariant-loop-i l = (l.i ≤ l.n) × (form_fault BadConstant (stored_datom l.heap) l.i (drop l.i (datoms_of l.n l.b)) ≡ form_fault BadConstant (stored_datom l.heap) 0 (datoms_of l.n l.b))
+
+abbrev pub decreases-loop-i : goal.decreases-loop-i
+decreases-loop-i l = l.n - l.i

@@ -1,0 +1,18 @@
+use Prim.Native.Nat.{◌-◌, ◌≤◌}
+use native.Mathlib.Omega.{arith}
+use mathlib.Core.List.{[]}
+use mathlib.Core.Path.{◌≡◌, sym, ◌∙◌}
+use lib.ListN.{drop}
+use Rattle.datom.specs.Datom.{datoms_of}
+use Rattle.datom.specs.Laws.{datoms_from}
+use Rattle.index.specs.Order.{order_in}
+use Rattle.rules.specs.Insert.{twin_fault}
+use Rattle.batch.specs.Twins.{earlier, twin_start, twin_on, twin_stop, twin_end}
+use borrow.Author.Rules.{rules}
+use Rattle.batch.proofs.twin_fault.Given as goal
+
+abbrev pub invariant-loop-i : goal.invariant-loop-i
+invariant-loop-i l = (l.i ≤ l.n) × (twin_fault (order_in l.by l.heap).cmp l.i (earlier l.i l.b) (drop l.i (datoms_of l.n l.b)) ≡ twin_fault (order_in l.by l.heap).cmp 0 [] (datoms_of l.n l.b))
+
+abbrev pub decreases-loop-i : goal.decreases-loop-i
+decreases-loop-i l = l.n - l.i

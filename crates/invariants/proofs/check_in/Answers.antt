@@ -1,0 +1,55 @@
+-- `check_in` meets its contract: the checks in their order, then the root. Assumes nothing.
+use mathlib.Core.Path.{◌∙◌, sym, ap}
+use borrow.Author.Rules.{rules}
+use Rattle.index.specs.Order.{order_in}
+use Rattle.memory_store.specs.Reading.{told}
+use Rattle.memory_store.specs.Readable.{told_fine, told_faulty}
+use Rattle.invariants.specs.Root.{check_bad, check_past, check_none, check_faulty, check_read}
+use Rattle.invariants.proofs.check_in.Goals as goal
+
+pub returns-then-is_bad : goal.returns-then-is_bad
+returns-then-is_bad c = let a = c.args in
+    check_bad (order_in a.by a.heap.now) a.extent a.store.now a.root (sym c.is_bad.ensures ∙ c.if-is_bad.true)
+
+pub returns-then-is_bad_root : goal.returns-then-is_bad_root
+returns-then-is_bad_root c =
+    let a = c.args in
+    let ok = sym c.is_bad.ensures ∙ c.if-is_bad.false in
+    check_past (order_in a.by a.heap.now) a.extent a.store.now a.root ok (sym c.is_bad_root.ensures ∙ c.if-is_bad_root.true)
+
+pub returns-then-is_none : goal.returns-then-is_none
+returns-then-is_none c =
+    let a = c.args in
+    let ok = sym c.is_bad.ensures ∙ c.if-is_bad.false in
+    let known = sym c.is_bad_root.ensures ∙ c.if-is_bad_root.false in
+    check_none (order_in a.by a.heap.now) a.extent a.store.now a.root ok known (sym c.is_none.ensures ∙ c.if-is_none.true)
+
+pub node_at-requires : goal.node_at-requires
+node_at-requires c = (sym c.is_bad.ensures ∙ c.if-is_bad.false, c.capacity_of-c.ensures)
+
+pub check_at-requires : goal.check_at-requires
+check_at-requires c =
+    let a = c.args in
+    let ok = sym c.is_bad.ensures ∙ c.if-is_bad.false in
+    let g = c.in-Fine.given in
+    (ok, c.capacity_of-c.ensures, told_fine (order_in a.by a.heap.now) a.extent a.store.now a.root g.0.0 g.0.1.0 (sym (ap (told a.extent a.store.now a.root) g.1) ∙ c.node_at.ensures))
+
+pub returns-in-Faulty : goal.returns-in-Faulty
+returns-in-Faulty c =
+    let a = c.args in
+    let ok = sym c.is_bad.ensures ∙ c.if-is_bad.false in
+    let known = sym c.is_bad_root.ensures ∙ c.if-is_bad_root.false in
+    let real = sym c.is_none.ensures ∙ c.if-is_none.false in
+    check_faulty (order_in a.by a.heap.now) a.extent a.store.now a.root ok known real _
+    (told_faulty (order_in a.by a.heap.now) a.extent a.store.now a.root _ (sym (ap (told a.extent a.store.now a.root) c.in-Faulty.is) ∙ c.node_at.ensures))
+
+pub returns-in-Fine : goal.returns-in-Fine
+returns-in-Fine c =
+    let a = c.args in
+    let ok = sym c.is_bad.ensures ∙ c.if-is_bad.false in
+    let known = sym c.is_bad_root.ensures ∙ c.if-is_bad_root.false in
+    let real = sym c.is_none.ensures ∙ c.if-is_none.false in
+    let g = c.in-Fine.given in
+    c.check_at.ensures
+    ∙ check_read (order_in a.by a.heap.now) a.extent a.store.now a.root ok known real g.0.0 g.0.1.0
+    (told_fine (order_in a.by a.heap.now) a.extent a.store.now a.root g.0.0 g.0.1.0 (sym (ap (told a.extent a.store.now a.root) g.1) ∙ c.node_at.ensures))

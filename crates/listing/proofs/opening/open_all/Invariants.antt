@@ -1,0 +1,17 @@
+use borrow.Author.Rules.{rules}
+use Prim.Native.Nat.{◌≤◌}
+use native.Mathlib.Omega.{arith}
+use mathlib.Core.Path.{◌≡◌, refl, sym, ◌∙◌}
+use Rattle.index.specs.Order.{order_in}
+use Rattle.rules.specs.Store.{fetch_page}
+use Rattle.listing.specs.Opening.{open_below, open_none, open_on, open_bad}
+use Rattle.listing.proofs.opening.open_all.Given as goal
+
+abbrev pub invariant-loop-level : goal.invariant-loop-level
+invariant-loop-level l =
+    (l.level ≤ 8)
+    × (open_below (fetch_page (order_in l.by l.heap) l.extent l.store) l.level l.cursor.begin_indices l.cursor.begin_pages
+    ≡ open_below (fetch_page (order_in l.by l.heap) l.extent l.store) l.initial.level l.cursor.begin_indices l.cursor.begin_pages)
+
+abbrev pub decreases-loop-level : goal.decreases-loop-level
+decreases-loop-level l = l.level

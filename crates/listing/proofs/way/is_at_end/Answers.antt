@@ -1,0 +1,16 @@
+-- `is_at_end` meets its contract: what is left to compare says what the whole says. Assumes nothing.
+use native.Mathlib.Omega.{arith}
+use borrow.Author.Rules.{rules}
+use Prim.Native.Nat.{◌≤◌}
+use mathlib.Core.Path.{◌≡◌, ◌∙◌}
+use Rattle.listing.specs.WayLaws.{same_below, same_none, same_on, same_stops}
+use Rattle.listing.proofs.way.is_at_end.Goals as goal
+
+pub returns-then-cursor-level : goal.returns-then-cursor-level
+returns-then-cursor-level c = same_stops c.args.cursor c.loop-level.level c.loop-level-test.true c.if-cursor-level.true ∙ c.loop-level.invariant.1
+
+pub loop-level-preserved : goal.loop-level-preserved
+loop-level-preserved c = (omega (arith, c.loop-level.invariant.0), same_on c.args.cursor c.loop-level.level c.loop-level-test.true c.if-cursor-level.false ∙ c.loop-level.invariant.1)
+
+pub returns : goal.returns
+returns c = same_none c.args.cursor c.loop-level.level (omega arith) ∙ c.loop-level.invariant.1

@@ -1,0 +1,12 @@
+use native.Mathlib.Omega.{arith}
+use borrow.Author.Rules.{rules}
+use Prim.Native.Nat.{◌≤◌}
+use mathlib.Core.Path.{◌≡◌, ◌∙◌}
+use Rattle.listing.specs.WayLaws.{same_below, same_none, same_on, same_stops}
+use Rattle.listing.proofs.way.is_at_end.Given as goal
+
+abbrev pub invariant-loop-level : goal.invariant-loop-level
+invariant-loop-level l = (l.level ≤ 8) × (same_below l.cursor l.level ≡ same_below l.cursor l.initial.level)
+
+abbrev pub decreases-loop-level : goal.decreases-loop-level
+decreases-loop-level l = l.level

@@ -1,0 +1,16 @@
+use native.Mathlib.Omega.{arith}
+use borrow.Author.Rules.{rules}
+use Prim.Native.Nat.{◌≤◌, ◌-◌}
+use lib.ListN.{length, length-set}
+use mathlib.Core.Path.{◌≡◌, refl, ◌∙◌}
+use Rattle.store.specs.Page.{page}
+use Rattle.listing.specs.WayLaws.{mapped_length, Full, cleared, clear_on, used_is}
+use Rattle.listing.proofs.way.only_used.Given as goal
+
+abbrev pub invariant-loop-level : goal.invariant-loop-level
+invariant-loop-level l =
+    (l.level ≤ 8)
+    × (Full l.kept × (Full l.initial.kept × ((cleared 0 l.level l.kept.indices ≡ cleared 0 l.initial.level l.initial.kept.indices) × (cleared (page 0) l.level l.kept.pages ≡ cleared (page 0) l.initial.level l.initial.kept.pages))))
+
+abbrev pub decreases-loop-level : goal.decreases-loop-level
+decreases-loop-level l = 8 - l.level

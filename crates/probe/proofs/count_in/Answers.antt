@@ -1,0 +1,18 @@
+-- `count_in` meets its contract. Assumes nothing.
+use mathlib.Core.Path.{sym, ◌∙◌}
+use lib.ListN.{length}
+use Rattle.store.specs.Laws.{cells_length}
+use Rattle.datom.specs.Datom.{datom_of}
+use Rattle.rules.specs.Page.{node_of}
+use Rattle.probe.specs.Laws.{of_unread, of_good}
+use borrow.Author.Rules.{rules}
+use Rattle.probe.proofs.count_in.Goals as goal
+
+pub returns-in_default : goal.returns-in_default
+returns-in_default c = of_unread _ _ _ _ c.in_default.is c.look_at.ensures
+
+pub returns : goal.returns
+unfolding node_of
+returns c =
+    sym (cells_length datom_of 32 _ c.args.bytes.now)
+    ∙ of_good _ _ _ c.in-Good.is c.look_at.ensures (λ n. length n.datoms)

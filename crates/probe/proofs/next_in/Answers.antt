@@ -1,0 +1,36 @@
+-- `next_in` meets its contract. Assumes nothing.
+use native.Mathlib.Omega.{arith}
+use mathlib.Core.Path.{sym, ◌∙◌, ap}
+use lib.ListN.{drop}
+use Rattle.answer.specs.declared.NextMidpoint.{NextMidpoint}
+use Rattle.rules.specs.Page.{node_of}
+use Rattle.rules.specs.Node.{next_midpoint}
+use Rattle.rules.specs.Lookup.{child_of}
+use Rattle.probe.specs.Laws.{of_unread, of_good, good_held}
+use borrow.Author.Rules.{rules}
+use Rattle.probe.proofs.next_in.Goals as goal
+
+pub returns-in_default : goal.returns-in_default
+returns-in_default c = of_unread _ _ _ _ c.in_default.is c.look_at.ensures
+
+pub next_midpoint-requires : goal.next_midpoint-requires
+next_midpoint-requires c =
+    let h = good_held _ _ _ c.in-Good.is c.look_at.ensures in
+    let e = c.capacity_of-c.ensures in
+    (omega arith, omega arith)
+
+pub returns-in-Child : goal.returns-in-Child
+unfolding node_of
+returns-in-Child c =
+    let a = c.args in
+    let e = rw c.capacity_of-c.ensures at c.next_midpoint.ensures in
+    ap (λ (m : NextMidpoint). (child_of m).0) (sym c.in-Child.is ∙ e)
+    ∙ of_good _ _ _ c.in-Good.is c.look_at.ensures (λ n. (child_of (next_midpoint (drop a.from n.children))).0)
+
+pub returns-in-Nothing : goal.returns-in-Nothing
+unfolding node_of
+returns-in-Nothing c =
+    let a = c.args in
+    let e = rw c.capacity_of-c.ensures at c.next_midpoint.ensures in
+    ap (λ (m : NextMidpoint). (child_of m).0) (sym c.in-Nothing.is ∙ e)
+    ∙ of_good _ _ _ c.in-Good.is c.look_at.ensures (λ n. (child_of (next_midpoint (drop a.from n.children))).0)

@@ -1,0 +1,10 @@
+-- `probe_first` meets its contract: in the order that the number names. Assumes nothing.
+use mathlib.Core.Path.{sym, ◌∙◌}
+use borrow.Author.Rules.{rules}
+use Rattle.probe.proofs.probe_first.Goals as goal
+
+pub returns-in-By : goal.returns-in-By
+returns-in-By c = rw (sym c.index_of.ensures ∙ c.in-By.is) c.first_in.ensures
+
+pub returns-in-Unknown : goal.returns-in-Unknown
+returns-in-Unknown c = rw (sym c.index_of.ensures ∙ c.in-Unknown.is)

@@ -31,8 +31,7 @@ pub check_at-requires : goal.check_at-requires
 check_at-requires c =
     let a = c.args in
     let ok = sym c.is_bad.ensures ∙ c.if-is_bad.false in
-    let g = c.in-Fine.given in
-    (ok, c.capacity_of-c.ensures, told_fine (order_in a.by a.heap.now) a.extent a.store.now a.root g.0.0 g.0.1.0 (sym (ap (told a.extent a.store.now a.root) g.1) ∙ c.node_at.ensures))
+    (ok, c.capacity_of-c.ensures, told_fine (order_in a.by a.heap.now) a.extent a.store.now a.root c.in-Fine.level c.in-Fine.count (sym (ap (told a.extent a.store.now a.root) c.in-Fine.is) ∙ c.node_at.ensures))
 
 pub returns-in-Faulty : goal.returns-in-Faulty
 returns-in-Faulty c =
@@ -49,7 +48,6 @@ returns-in-Fine c =
     let ok = sym c.is_bad.ensures ∙ c.if-is_bad.false in
     let known = sym c.is_bad_root.ensures ∙ c.if-is_bad_root.false in
     let real = sym c.is_none.ensures ∙ c.if-is_none.false in
-    let g = c.in-Fine.given in
     c.check_at.ensures
-    ∙ check_read (order_in a.by a.heap.now) a.extent a.store.now a.root ok known real g.0.0 g.0.1.0
-    (told_fine (order_in a.by a.heap.now) a.extent a.store.now a.root g.0.0 g.0.1.0 (sym (ap (told a.extent a.store.now a.root) g.1) ∙ c.node_at.ensures))
+    ∙ check_read (order_in a.by a.heap.now) a.extent a.store.now a.root ok known real c.in-Fine.level c.in-Fine.count
+    (told_fine (order_in a.by a.heap.now) a.extent a.store.now a.root c.in-Fine.level c.in-Fine.count (sym (ap (told a.extent a.store.now a.root) c.in-Fine.is) ∙ c.node_at.ensures))

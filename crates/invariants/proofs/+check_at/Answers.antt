@@ -1,0 +1,80 @@
+-- `check_at` meets its contract: along a page the walk that is left gives what the whole gives, and a child is one level lower. Assumes
+-- nothing.
+use Prim.Native.Nat.{ℕ, ◌+◌, ◌-◌, ◌<◌}
+use native.Mathlib.Omega.{arith}
+use mathlib.Core.Path.{refl, ◌∙◌, sym}
+use borrow.Author.Rules.{rules}
+use borrow.Author.Tests.{not-true, not-false}
+use Rattle.index.specs.Order.{order_in}
+use Rattle.memory_store.specs.Opened.{opened_node}
+use Rattle.invariants.specs.Bounds.{bound_of}
+use Rattle.invariants.specs.Walk.{page_faulty}
+use Rattle.invariants.specs.Along.{Along, along_start, along_datoms, along_child, along_few, along_end, along_outside, along_none, along_above, along_sound, along_unsound, along_refused}
+use Rattle.invariants.proofs.+check_at.Goals as goal
+
+pub loop-i-init : goal.loop-i-init
+loop-i-init t c = let a = c.args in
+    let P = c.requires in
+    along_start (order_in a.by a.heap.now) a.extent a.store.now a.c a.level a.page _ _ (bound_of a.lower) (bound_of a.upper) P.0 P.1 P.2 c.fetch-part.ensures
+
+pub bound_at-next-requires : goal.bound_at-next-requires
+bound_at-next-requires t c = along_datoms c.loop-i.invariant
+
+pub returns-then-not-is_below : goal.returns-then-not-is_below
+returns-then-not-is_below t c = along_outside c.loop-i.invariant c.loop-i-test.true _ c.bound_at-next.ensures (sym c.is_below.ensures ∙ c.if-not-is_below.true)
+
+pub child_at-child-requires : goal.child_at-child-requires
+child_at-child-requires t c = along_child c.loop-i.invariant c.loop-i-test.true
+
+pub overflow_add-i : goal.overflow_add-i
+overflow_add-i t c = let few = along_few c.loop-i.invariant in let h = c.loop-i-test.true in omega (arith, few, h)
+
+pub overflow_sub-low : goal.overflow_sub-low
+overflow_sub-low t c = let up = along_above c.loop-i.invariant c.loop-i-test.true _ c.bound_at-next.ensures
+    (sym c.is_below.ensures ∙ c.if-not-is_below.false) _ c.child_at-child.ensures
+    (sym c.is_none.ensures ∙ c.if-not-is_none.true) in
+    omega (arith, up)
+
+pub open_at-requires : goal.open_at-requires
+open_at-requires t c = let A = c.loop-i.invariant in (A.good, A.room)
+
+pub returns-in-Faulty : goal.returns-in-Faulty
+returns-in-Faulty t c = let a = c.args in
+    along_unsound c.loop-i.invariant c.loop-i-test.true _ c.bound_at-next.ensures
+    (sym c.is_below.ensures ∙ c.if-not-is_below.false) _ c.child_at-child.ensures
+    (sym c.is_none.ensures ∙ c.if-not-is_none.true) _
+    (page_faulty (order_in a.by a.heap.now) a.extent a.store.now _ _ _ _ _ (sym c.in-Faulty.is ∙ c.open_at.ensures)) _ _ refl
+
+pub check_at-requires : goal.check_at-requires
+check_at-requires t c = let A = c.loop-i.invariant in
+    let up = along_above c.loop-i.invariant c.loop-i-test.true _ c.bound_at-next.ensures
+    (sym c.is_below.ensures ∙ c.if-not-is_below.false) _ c.child_at-child.ensures
+    (sym c.is_none.ensures ∙ c.if-not-is_none.true) in
+    let read = opened_node (order_in c.args.by c.args.heap.now) c.args.extent c.args.store.now _ _ _ (sym c.in-Node.is ∙ c.open_at.ensures) in
+    (omega (arith, up, c.decreases), (A.good, A.room, read))
+
+pub loop-i-preserved-in-Sound : goal.loop-i-preserved-in-Sound
+loop-i-preserved-in-Sound t c = along_sound c.loop-i.invariant c.loop-i-test.true _ c.bound_at-next.ensures
+    (sym c.is_below.ensures ∙ c.if-not-is_below.false) _ c.child_at-child.ensures
+    (sym c.is_none.ensures ∙ c.if-not-is_none.true) _ c.check_at.ensures
+    c.in-Sound.is
+
+pub returns-in-Unsound : goal.returns-in-Unsound
+returns-in-Unsound t c = along_unsound c.loop-i.invariant c.loop-i-test.true _ c.bound_at-next.ensures
+    (sym c.is_below.ensures ∙ c.if-not-is_below.false) _ c.child_at-child.ensures
+    (sym c.is_none.ensures ∙ c.if-not-is_none.true) _ c.check_at.ensures
+    _ _ c.in-Unsound.is
+
+pub returns-in-Refused : goal.returns-in-Refused
+returns-in-Refused t c = along_refused c.loop-i.invariant c.loop-i-test.true _ c.bound_at-next.ensures
+    (sym c.is_below.ensures ∙ c.if-not-is_below.false) _ c.child_at-child.ensures
+    (sym c.is_none.ensures ∙ c.if-not-is_none.true) _ c.check_at.ensures
+    _ c.in-Refused.is
+
+pub loop-i-preserved : goal.loop-i-preserved
+loop-i-preserved t c = along_none c.loop-i.invariant c.loop-i-test.true _ c.bound_at-next.ensures
+    (sym c.is_below.ensures ∙ c.if-not-is_below.false) _ c.child_at-child.ensures
+    (sym c.is_none.ensures ∙ c.if-not-is_none.false)
+
+pub returns : goal.returns
+returns t c = along_end c.loop-i.invariant c.loop-i-test.false

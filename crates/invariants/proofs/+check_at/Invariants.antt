@@ -1,0 +1,21 @@
+use Prim.Native.Nat.{ℕ, ◌+◌, ◌-◌, ◌<◌}
+use native.Mathlib.Omega.{arith}
+use mathlib.Core.Path.{refl, ◌∙◌, sym}
+use borrow.Author.Rules.{rules}
+use borrow.Author.Tests.{not-true, not-false}
+use Rattle.index.specs.Order.{order_in}
+use Rattle.memory_store.specs.Opened.{opened_node}
+use Rattle.invariants.specs.Bounds.{bound_of}
+use Rattle.invariants.specs.Walk.{page_faulty}
+use Rattle.invariants.specs.Along.{Along, along_start, along_datoms, along_child, along_few, along_end, along_outside, along_none, along_above, along_sound, along_unsound, along_refused}
+use Rattle.invariants.proofs.+check_at.Given as goal
+
+abbrev pub invariant-loop-i : goal.invariant-loop-i
+invariant-loop-i l = Along (order_in l.by l.heap) l.extent l.store l.c l.level l.page l.k l.part (bound_of l.initial.last) (bound_of l.upper) l.i (bound_of l.last) (bound_of l.midpoint)
+
+abbrev pub decreases-loop-i : goal.decreases-loop-i
+decreases-loop-i l = l.k + 1 - l.i
+
+-- the level falls at each call
+abbrev pub decreases-check_at : goal.decreases-check_at
+decreases-check_at l = l.level

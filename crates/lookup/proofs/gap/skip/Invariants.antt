@@ -1,0 +1,17 @@
+use Prim.Native.Nat.{◌+◌, ◌-◌, ◌≤◌}
+use native.Mathlib.Omega.{arith}
+use mathlib.Core.Path.{◌≡◌, sym, ◌∙◌}
+use lib.ListN.{drop}
+use Rattle.datom.specs.Datom.{datoms_of}
+use Rattle.index.specs.Order.{order_in}
+use Rattle.rules.specs.Node.{rank_by}
+use borrow.Author.Tests.{not-true, not-false}
+use Rattle.lookup.specs.Gap.{inside, pass_on, pass_stop, pass_end}
+use borrow.Author.Rules.{rules}
+use Rattle.lookup.proofs.gap.skip.Given as goal
+
+abbrev pub invariant-loop-i : goal.invariant-loop-i
+invariant-loop-i l = (l.i ≤ l.n) × (l.i + rank_by (inside (order_in l.by l.heap) l.gap) (drop l.i (datoms_of l.n l.b)) ≡ l.from + rank_by (inside (order_in l.by l.heap) l.gap) (drop l.from (datoms_of l.n l.b)))
+
+abbrev pub decreases-loop-i : goal.decreases-loop-i
+decreases-loop-i l = l.n - l.i

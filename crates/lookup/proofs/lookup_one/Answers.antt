@@ -1,0 +1,111 @@
+-- `lookup_one` meets its contract: the path from the page at hand ends where the whole path ends, and so do those of the gap. Assumes nothing.
+use native.Mathlib.Omega.{arith}
+use mathlib.Core.Path.{refl, sym, ◌∙◌}
+use Rattle.index.specs.Order.{order_in}
+use Rattle.index.specs.Laws.{order_preorder}
+use Rattle.memory_store.specs.Readable.{opens}
+use Rattle.lookup.specs.Gap.{met_leaves, lost_leaves}
+use Rattle.lookup.specs.Steps.{next_real}
+use Rattle.lookup.specs.Path.{Going, gap_is, met_is, next_is, going_met, going_absent, going_free, going_stuck, going_lost, going_down}
+use borrow.Author.Rules.{rules}
+use Rattle.lookup.proofs.lookup_one.Goals as goal
+
+pub loop-part-init : goal.loop-part-init
+loop-part-init c = record { kept = c.requires.2; read = c.requires.3; rest = refl; alike = record { same = λ y up i. refl } }
+
+pub part_of-part-requires : goal.part_of-part-requires
+part_of-part-requires c =
+    let a = c.args in
+    let o = opens (order_in a.by a.heap.now) a.extent a.store.now c.loop-part.page c.loop-part.l c.loop-part.k c.requires.0 c.loop-part.invariant.read in
+    (c.requires.0, o.used)
+
+pub first_not_below-i-requires : goal.first_not_below-i-requires
+first_not_below-i-requires c =
+    let a = c.args in
+    let o = opens (order_in a.by a.heap.now) a.extent a.store.now c.loop-part.page c.loop-part.l c.loop-part.k c.requires.0 c.loop-part.invariant.read in
+    rw c.part_of-part.ensures (omega (arith, o.few, o.wide), o.rise)
+
+pub is_met-requires : goal.is_met-requires
+is_met-requires c =
+    let a = c.args in
+    let o = opens (order_in a.by a.heap.now) a.extent a.store.now c.loop-part.page c.loop-part.l c.loop-part.k c.requires.0 c.loop-part.invariant.read in
+    rw c.part_of-part.ensures (omega (arith, o.few, o.wide))
+
+pub returns-then-is_met : goal.returns-then-is_met
+returns-then-is_met c =
+    let a = c.args in
+    let m = met_is c.loop-part.invariant c.part_of-part.ensures c.first_not_below-i.ensures c.is_met.ensures c.if-is_met.true in
+    (going_met c.loop-part.invariant m, c.loop-part.invariant.kept, met_leaves _ _ _ _ _ _ _)
+
+pub narrow-gap-requires : goal.narrow-gap-requires
+narrow-gap-requires c =
+    let a = c.args in
+    let o = opens (order_in a.by a.heap.now) a.extent a.store.now c.loop-part.page c.loop-part.l c.loop-part.k c.requires.0 c.loop-part.invariant.read in
+    rw c.part_of-part.ensures (omega (arith, o.few, o.wide))
+
+pub returns-then-l-eq0 : goal.returns-then-l-eq0
+returns-then-l-eq0 c =
+    let a = c.args in
+    let m = met_is c.loop-part.invariant c.part_of-part.ensures c.first_not_below-i.ensures c.is_met.ensures c.if-is_met.false in
+    let g = gap_is c.loop-part.invariant c.part_of-part.ensures c.first_not_below-i.ensures c.narrow-gap.ensures in
+    (going_absent c.loop-part.invariant m c.if-l-eq0.true, c.loop-part.invariant.kept, λ e. rw g (going_free c.loop-part.invariant m (order_preorder a.by a.heap.now) c.if-l-eq0.true))
+
+pub next_midpoint-requires : goal.next_midpoint-requires
+next_midpoint-requires c =
+    let a = c.args in
+    let o = opens (order_in a.by a.heap.now) a.extent a.store.now c.loop-part.page c.loop-part.l c.loop-part.k c.requires.0 c.loop-part.invariant.read in
+    rw (c.part_of-part.ensures, c.requires.1) (o.few, omega (arith, o.wide))
+
+pub returns-in_default : goal.returns-in_default
+returns-in_default c =
+    let a = c.args in
+    let m = met_is c.loop-part.invariant c.part_of-part.ensures c.first_not_below-i.ensures c.is_met.ensures c.if-is_met.false in
+    let n = next_is c.loop-part.invariant c.part_of-part.ensures c.first_not_below-i.ensures c.requires.1 c.next_midpoint.ensures c.in_default.is in
+    (rw c.max.ensures (going_stuck c.loop-part.invariant m c.if-l-eq0.false (omega (arith, c.well_formed.1.0)) n), c.loop-part.invariant.kept, lost_leaves _ _ _ _ _ _ _ _ _)
+
+pub open_at-requires : goal.open_at-requires
+open_at-requires c =
+    let a = c.args in
+    let o = opens (order_in a.by a.heap.now) a.extent a.store.now c.loop-part.page c.loop-part.l c.loop-part.k c.requires.0 c.loop-part.invariant.read in
+    let n = next_is c.loop-part.invariant c.part_of-part.ensures c.first_not_below-i.ensures c.requires.1 c.next_midpoint.ensures c.in-Child.is in
+    (c.requires.0, c.requires.1, c.loop-part.invariant.kept, omega (arith, o.low), next_real _ _ n)
+
+pub offset_bounds-path-l : goal.offset_bounds-path-l
+offset_bounds-path-l c =
+    let a = c.args in
+    let o = opens (order_in a.by a.heap.now) a.extent a.store.now c.loop-part.page c.loop-part.l c.loop-part.k c.requires.0 c.loop-part.invariant.read in
+    omega (arith, o.low)
+
+pub bounds-path-l : goal.bounds-path-l
+bounds-path-l c =
+    let a = c.args in
+    let o = opens (order_in a.by a.heap.now) a.extent a.store.now c.loop-part.page c.loop-part.l c.loop-part.k c.requires.0 c.loop-part.invariant.read in
+    omega (arith, o.low)
+
+pub offset_bounds-path-l-in-Node : goal.offset_bounds-path-l-in-Node
+offset_bounds-path-l-in-Node c =
+    let a = c.args in
+    let o = opens (order_in a.by a.heap.now) a.extent a.store.now c.loop-part.page c.loop-part.l c.loop-part.k c.requires.0 c.loop-part.invariant.read in
+    omega (arith, o.low)
+
+pub bounds-path-l-in-Node : goal.bounds-path-l-in-Node
+bounds-path-l-in-Node c =
+    let a = c.args in
+    let o = opens (order_in a.by a.heap.now) a.extent a.store.now c.loop-part.page c.loop-part.l c.loop-part.k c.requires.0 c.loop-part.invariant.read in
+    omega (arith, o.low)
+
+pub loop-part-preserved : goal.loop-part-preserved
+loop-part-preserved c =
+    let a = c.args in
+    let o = opens (order_in a.by a.heap.now) a.extent a.store.now c.loop-part.page c.loop-part.l c.loop-part.k c.requires.0 c.loop-part.invariant.read in
+    let m = met_is c.loop-part.invariant c.part_of-part.ensures c.first_not_below-i.ensures c.is_met.ensures c.if-is_met.false in
+    let g = gap_is c.loop-part.invariant c.part_of-part.ensures c.first_not_below-i.ensures c.narrow-gap.ensures in
+    let n = next_is c.loop-part.invariant c.part_of-part.ensures c.first_not_below-i.ensures c.requires.1 c.next_midpoint.ensures c.in-Child.is in
+    rw g (going_down c.loop-part.invariant m c.if-l-eq0.false n (order_preorder a.by a.heap.now) (sym c.in-Node.is ∙ c.open_at.ensures) (omega (arith, o.low)))
+
+pub returns-in-Faulty : goal.returns-in-Faulty
+returns-in-Faulty c =
+    let a = c.args in
+    let m = met_is c.loop-part.invariant c.part_of-part.ensures c.first_not_below-i.ensures c.is_met.ensures c.if-is_met.false in
+    let n = next_is c.loop-part.invariant c.part_of-part.ensures c.first_not_below-i.ensures c.requires.1 c.next_midpoint.ensures c.in-Child.is in
+    (going_lost c.loop-part.invariant m c.if-l-eq0.false n (sym c.in-Faulty.is ∙ c.open_at.ensures), c.loop-part.invariant.kept, lost_leaves _ _ _ _ _ _ _ _ _)

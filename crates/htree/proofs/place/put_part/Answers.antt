@@ -13,48 +13,32 @@ use Rattle.memory_store.specs.FetchLaws.{InOrder, in_order}
 use Rattle.htree.specs.Told.{Ready}
 use Rattle.htree.specs.PutLaws.{part_back, part_few, part_lens, put_tall, put_full, put_done, one_fits}
 use borrow.Author.Rules.{rules}
-use Rattle.htree.proofs.place.put_part.Statement.{statement}
-use Rattle.htree.proofs.place.put_part.Tie as tie
+use Rattle.htree.proofs.place.put_part.Goals as goal
 
-returns : tie.Need-returns
+pub returns-then-level-ge8 : goal.returns-then-level-ge8
 unfolding part_of node_of
-returns c = λ t o e. put_tall t _ _ _ o c.if1.true
+returns-then-level-ge8 c = λ t o e. put_tall t _ _ _ o c.if-level-ge8.true
 
-div-room : tie.Need-nonzero-div-room
-div-room c =
-    let a = c.before.before.before.args in
-    let R = c.before.before.before.requires.0 in
+pub nonzero_div-room : goal.nonzero_div-room
+nonzero_div-room c =
+    let a = c.args in
+    let R = c.requires.0 in
     let o = in_order a.extent a.store.now R.good in omega (arith, o.known.fits)
 
-sub-room : tie.Need-overflow-sub-room
-sub-room c =
-    let a = c.before.before.before.before.args in
-    let R = c.before.before.before.before.requires.0 in
+pub overflow_sub-room : goal.overflow_sub-room
+overflow_sub-room c =
+    let a = c.args in
+    let R = c.requires.0 in
     let o = in_order a.extent a.store.now R.good in omega (arith, (le-div_iff_mul-le {k = a.extent.size} (omega (arith, o.known.fits))).1 o.holds)
 
-returns-2 : tie.Need-returns-2
+pub returns-then-room-written : goal.returns-then-room-written
 unfolding part_of node_of
-returns-2 c = λ t o e. put_full t _ _ _ o (omega arith) (omega arith)
+returns-then-room-written c = λ t o e. put_full t _ _ _ o (omega arith) (omega arith)
 
-mul-start : tie.Need-overflow-mul-start
-mul-start c = search rules
-
-mul_at : tie.Need-overflow-mul-at
-mul_at c = search rules
-
-sub-write-page : tie.Need-overflow-sub-write-page
-sub-write-page c = search rules
-
-part-write-page-start : tie.Need-slice-bounds-write-page-start
-part-write-page-start c = search rules
-
-part-write-page-end : tie.Need-slice-bounds-write-page-end
-part-write-page-end c = search rules
-
-write-page-requires : tie.Need-write-page-requires
-write-page-requires c κs =
-    let a = c.before.before.before.before.before.before.args in
-    let R = c.before.before.before.before.before.before.requires.0 in
+pub write_page-requires : goal.write_page-requires
+write_page-requires c =
+    let a = c.args in
+    let R = c.requires.0 in
     let o = in_order a.extent a.store.now R.good in
     let f = one_fits a.extent a.store.now a.written (omega (arith, o.known.fits)) (omega arith) in
     let e = add-mul (a.extent.count + a.written) 1 a.extent.size in
@@ -63,20 +47,17 @@ write-page-requires c κs =
     let l : length a.store.now - a.extent.count * a.extent.size ≤ length a.store.now - a.extent.count * a.extent.size = omega arith in
     (simp (length-take, length-drop) (omega arith), omega (arith, o.known.fits, R.cap), o.known.most, omega arith, search rules, search rules, search rules, search rules)
 
-add-t19 : tie.Need-overflow-add-t19
-add-t19 c =
-    let a = c.before.before.before.before.before.before.before.before.before.before.args in
-    let R = c.before.before.before.before.before.before.before.before.before.before.requires.0 in
+pub overflow_add-result : goal.overflow_add-result
+overflow_add-result c =
+    let a = c.args in
+    let R = c.requires.0 in
     let o = in_order a.extent a.store.now R.good in omega (arith, div-le_self (length a.store.now) a.extent.size)
 
-same_length : tie.Need-same-length
-same_length c = search rules
-
-returns-3 : tie.Need-returns-3
+pub returns : goal.returns
 unfolding part_of node_of
-returns-3 c =
-    let a = c.before.before.before.before.before.before.before.before.before.before.args in
-    let R = c.before.before.before.before.before.before.before.before.before.before.requires.0 in
+returns c =
+    let a = c.args in
+    let R = c.requires.0 in
     let o = in_order a.extent a.store.now R.good in
     let f = one_fits a.extent a.store.now a.written (omega (arith, o.known.fits)) (omega arith) in
     let e = add-mul (a.extent.count + a.written) 1 a.extent.size in
@@ -91,23 +72,5 @@ returns-3 c =
     ∙ ap suc (sym (part_few a.m a.level a.n a.i a.a a.area.now (omega arith)))) in
     λ t q l.
     put_done t a.extent a.store.now n q (omega arith) a.written l (omega (arith, div-le_self (length a.store.now) a.extent.size)) (omega arith)
-    (rw (c.before.before.before.write-page.ensures, back, ← g, R.cap)
+    (rw (c.write_page.ensures, back, ← g, R.cap)
     (wrote_one a.extent a.store.now a.written n (rw R.cap at size) f))
-
-pub put-part-spec : {M : Type 1} → statement M
-put-part-spec =
-    tie.close
-    (tie.spec
-    returns
-    div-room
-    sub-room
-    returns-2
-    mul-start
-    mul_at
-    sub-write-page
-    part-write-page-start
-    part-write-page-end
-    write-page-requires
-    add-t19
-    same_length
-    returns-3)

@@ -1,0 +1,325 @@
+-- `insert_into`, `drain` and `flush` meet their contracts: the level falls at each round of the cycle. Assumes nothing.
+use Prim.Native.Nat.{ℕ, ◌+◌, ◌*◌, ◌<◌}
+use native.Mathlib.Nat.{add-mul, one-mul}
+use native.Mathlib.Omega.{arith}
+use mathlib.Core.Path.{sym, ◌∙◌}
+use borrow.Author.Tests.{not-true, not-false}
+use borrow.Author.Rules.{rules}
+use lib.ListN.{length, length-take, length-drop}
+use Rattle.index.specs.Order.{order_in}
+use Rattle.htree.specs.Cycle.{Drains, rooms, area_fits, lower, drains_start, drains_ready, drains_length, drains_small, drains_sent, drains_none, drains_on, drains_stop, flush_fails, flush_back, flush_done, insert_bad, loads_few, insert_flat, insert_stops, went_ready, went_few, insert_goes}
+use Rattle.htree.proofs.insert.+drain_flush_insert_into.Goals as goal
+
+pub drain-loop-turns-init : goal.drain-loop-turns-init
+drain-loop-turns-init t c = let a = c.args in drains_start (order_in a.by a.heap.now) _ _ _ _ _ _ _ _ c.requires.0
+
+pub drain-shape_of-store-then-count-c : goal.drain-shape_of-store-then-count-c
+drain-shape_of-store-then-count-c t c = omega (arith, drains_length c.loop-turns.invariant)
+
+pub drain-shape_of-s-then-count-c : goal.drain-shape_of-s-then-count-c
+drain-shape_of-s-then-count-c t c = omega (arith, c.loop-turns.invariant.same)
+
+pub drain-returns-then-count-c : goal.drain-returns-then-count-c
+drain-returns-then-count-c t c =
+    let a = c.args in
+    let I = c.loop-turns.invariant in
+    let P = c.requires in
+    λ o e. drains_small I (omega (arith, P.2)) o e (omega (arith, P.0.cap))
+
+pub drain-has_pending-requires : goal.drain-has_pending-requires
+drain-has_pending-requires t c =
+    let a = c.args in
+    let I = c.loop-turns.invariant in
+    let P = c.requires in
+    (omega (arith, I.same, area_fits a.level (40 * a.m + 8) (32 * a.m) (length a.s.now) P.3), omega (arith, I.few, P.2))
+
+pub drain-shape_of-store-then-not-has_pending : goal.drain-shape_of-store-then-not-has_pending
+drain-shape_of-store-then-not-has_pending t c = omega (arith, drains_length c.loop-turns.invariant)
+
+pub drain-shape_of-s-then-not-has_pending : goal.drain-shape_of-s-then-not-has_pending
+drain-shape_of-s-then-not-has_pending t c = omega (arith, c.loop-turns.invariant.same)
+
+pub drain-returns-then-not-has_pending : goal.drain-returns-then-not-has_pending
+drain-returns-then-not-has_pending t c =
+    let a = c.args in
+    let I = c.loop-turns.invariant in
+    let P = c.requires in
+    λ o e. drains_sent I (omega (arith, P.2)) o e (sym c.has_pending.ensures ∙ c.if-not-has_pending.true)
+
+pub drain-flush-requires : goal.drain-flush-requires
+drain-flush-requires t c =
+    let a = c.args in
+    let I = c.loop-turns.invariant in
+    let P = c.requires in
+    (omega arith, (drains_ready I, P.1, omega (arith, I.few, P.2), omega (arith, I.same, P.3)))
+
+pub drain-shape_of-store-in-Failed : goal.drain-shape_of-store-in-Failed
+drain-shape_of-store-in-Failed t c = omega (arith, drains_length c.loop-turns.invariant)
+
+pub drain-shape_of-s-in-Failed : goal.drain-shape_of-s-in-Failed
+drain-shape_of-s-in-Failed t c = omega (arith, c.loop-turns.invariant.same)
+
+pub drain-returns-in-Failed : goal.drain-returns-in-Failed
+drain-returns-in-Failed t c =
+    let a = c.args in
+    let I = c.loop-turns.invariant in
+    let P = c.requires in
+    drains_stop I (omega arith) (omega (arith, P.0.cap)) (sym c.has_pending.ensures ∙ c.if-not-has_pending.false) _ _ _ _
+    (rw c.in-Failed.is at c.flush.ensures)
+
+pub drain-loop-turns-preserved : goal.drain-loop-turns-preserved
+drain-loop-turns-preserved t c =
+    let a = c.args in
+    let I = c.loop-turns.invariant in
+    let P = c.requires in
+    drains_on I (omega arith) (omega (arith, P.0.cap)) (sym c.has_pending.ensures ∙ c.if-not-has_pending.false) _ _ _ _
+    (rw c.in-Placed.is at c.flush.ensures) (omega arith)
+
+pub drain-shape_of-store : goal.drain-shape_of-store
+drain-shape_of-store t c = omega (arith, drains_length c.loop-turns.invariant)
+
+pub drain-shape_of-s : goal.drain-shape_of-s
+drain-shape_of-s t c = omega (arith, c.loop-turns.invariant.same)
+
+pub drain-returns : goal.drain-returns
+drain-returns t c =
+    let a = c.args in
+    let I = c.loop-turns.invariant in
+    let P = c.requires in
+    λ o e. drains_none I (omega (arith, P.2)) o e (omega arith)
+
+-- FORMER slice-bounds-insert-into-start
+-- flush-part-insert-into-start : tie.Need-slice-bounds-insert-into-start
+-- flush-part-insert-into-start c =
+--     let a = c.before.before.before.before.before.before.before.before.before.before.before.before.before.before.args in
+--     let P = c.before.before.before.before.before.before.before.before.before.before.before.before.before.before.requires.1 in
+--     let g = rooms a.level (40 * a.m + 8) (32 * a.m) (length a.s.now) P.1 P.3 in
+--     let Q = c.before.before.before.before.before.before.before.before.before.longest-pending-span.ensures in
+--     omega arith
+
+-- FORMER slice-bounds-insert-into-end
+-- flush-part-insert-into-end : tie.Need-slice-bounds-insert-into-end
+-- flush-part-insert-into-end c =
+--     let a = c.before.before.before.before.before.before.before.before.before.before.before.before.before.before.args in
+--     let P = c.before.before.before.before.before.before.before.before.before.before.before.before.before.before.requires.1 in
+--     let g = rooms a.level (40 * a.m + 8) (32 * a.m) (length a.s.now) P.1 P.3 in
+--     let Q = c.before.before.before.before.before.before.before.before.before.longest-pending-span.ensures in
+--     search rules
+
+pub flush-longest_pending_span-span-requires : goal.flush-longest_pending_span-span-requires
+flush-longest_pending_span-span-requires t c =
+    let a = c.args in
+    let P = c.requires in
+    let g = rooms a.level (40 * a.m + 8) (32 * a.m) (length a.s.now) P.1 P.3 in
+    (omega arith, omega (arith, P.2))
+
+pub flush-child_at-child-requires : goal.flush-child_at-child-requires
+flush-child_at-child-requires t c =
+    let a = c.args in
+    let P = c.requires in
+    let g = rooms a.level (40 * a.m + 8) (32 * a.m) (length a.s.now) P.1 P.3 in
+    let Q = c.longest_pending_span-span.ensures in
+    omega (arith, P.2, Q.within)
+
+pub flush-overflow_sub-lower : goal.flush-overflow_sub-lower
+flush-overflow_sub-lower t c = omega (arith, c.requires.1)
+
+pub flush-open_at-opened-requires : goal.flush-open_at-opened-requires
+flush-open_at-opened-requires t c = let P = c.requires in (P.0.good, P.0.cap)
+
+pub flush-overflow_mul-own : goal.flush-overflow_mul-own
+flush-overflow_mul-own t c =
+    let a = c.args in
+    let P = c.requires in
+    let g = rooms a.level (40 * a.m + 8) (32 * a.m) (length a.s.now) P.1 P.3 in
+    omega arith
+
+pub flush-overflow_add-own : goal.flush-overflow_add-own
+flush-overflow_add-own t c =
+    let a = c.args in
+    let P = c.requires in
+    let g = rooms a.level (40 * a.m + 8) (32 * a.m) (length a.s.now) P.1 P.3 in
+    omega arith
+
+pub flush-overflow_mul-from : goal.flush-overflow_mul-from
+flush-overflow_mul-from t c =
+    let a = c.args in
+    let P = c.requires in
+    let g = rooms a.level (40 * a.m + 8) (32 * a.m) (length a.s.now) P.1 P.3 in
+    let Q = c.longest_pending_span-span.ensures in
+    omega (arith, P.2, Q.rises, Q.within)
+
+pub flush-overflow_add-own-2 : goal.flush-overflow_add-own-2
+flush-overflow_add-own-2 t c =
+    let a = c.args in
+    let P = c.requires in
+    let g = rooms a.level (40 * a.m + 8) (32 * a.m) (length a.s.now) P.1 P.3 in
+    let Q = c.longest_pending_span-span.ensures in
+    omega (arith, P.2, Q.rises, Q.within)
+
+pub flush-overflow_sub-upto : goal.flush-overflow_sub-upto
+flush-overflow_sub-upto t c =
+    let a = c.args in
+    let P = c.requires in
+    let g = rooms a.level (40 * a.m + 8) (32 * a.m) (length a.s.now) P.1 P.3 in
+    let Q = c.longest_pending_span-span.ensures in
+    omega (arith, Q.rises)
+
+pub flush-move_span-requires : goal.flush-move_span-requires
+flush-move_span-requires t c =
+    let a = c.args in
+    let P = c.requires in
+    let g = rooms a.level (40 * a.m + 8) (32 * a.m) (length a.s.now) P.1 P.3 in
+    let Q = c.longest_pending_span-span.ensures in
+    (omega (arith, P.2, Q.rises, Q.within), (omega (arith, P.2, Q.rises, Q.within), λ z. omega (arith, P.2, Q.rises, Q.within)))
+
+pub flush-slice_bounds-insert_into-count : goal.flush-slice_bounds-insert_into-count
+flush-slice_bounds-insert_into-count t c =
+    let a = c.args in
+    let P = c.requires in
+    let g = rooms a.level (40 * a.m + 8) (32 * a.m) (length a.s.now) P.1 P.3 in
+    let Q = c.longest_pending_span-span.ensures in
+    omega arith
+
+pub flush-overflow_sub-upto-2 : goal.flush-overflow_sub-upto-2
+flush-overflow_sub-upto-2 t c =
+    let a = c.args in
+    let P = c.requires in
+    let g = rooms a.level (40 * a.m + 8) (32 * a.m) (length a.s.now) P.1 P.3 in
+    let Q = c.longest_pending_span-span.ensures in
+    omega (arith, Q.rises)
+
+pub flush-insert_into-requires : goal.flush-insert_into-requires
+flush-insert_into-requires t c =
+    let a = c.args in
+    let P = c.requires in
+    let g = rooms a.level (40 * a.m + 8) (32 * a.m) (length a.s.now) P.1 P.3 in
+    let Q = c.longest_pending_span-span.ensures in (
+      omega (arith, P.1),
+      (
+        P.0,
+        rw (lower a.level P.1) (omega (arith, P.2, Q.rises, Q.within)),
+        rw (lower a.level P.1) (simp (length-take, length-drop) (omega arith)),
+        c.open_at-opened.ensures,
+      ),
+    )
+
+pub flush-splice-requires : goal.flush-splice-requires
+flush-splice-requires t c =
+    let a = c.args in
+    let P = c.requires in
+    let g = rooms a.level (40 * a.m + 8) (32 * a.m) (length a.s.now) P.1 P.3 in
+    let Q = c.longest_pending_span-span.ensures in
+    let T = rw (c.move_span.ensures, c.child_at-child.ensures, c.in-Placed.is) at c.insert_into.ensures in
+    let J = flush_back a.extent a.store.now a.c a.written a.level a.m a.n a.s.now P.0 c.longest_pending_span-span.result Q (omega (arith, P.2)) (omega arith) (order_in a.by a.heap.now) _ _ _ _ T in
+    (omega (arith, J, Q.rises), (Q.within, (omega (arith, P.2), omega arith)))
+
+pub flush-overflow_sub-result : goal.flush-overflow_sub-result
+flush-overflow_sub-result t c =
+    let a = c.args in
+    let P = c.requires in
+    let g = rooms a.level (40 * a.m + 8) (32 * a.m) (length a.s.now) P.1 P.3 in
+    let Q = c.longest_pending_span-span.ensures in
+    omega (arith, Q.rises)
+
+pub flush-overflow_sub-result-in-Placed : goal.flush-overflow_sub-result-in-Placed
+flush-overflow_sub-result-in-Placed t c =
+    let a = c.args in
+    let P = c.requires in
+    let g = rooms a.level (40 * a.m + 8) (32 * a.m) (length a.s.now) P.1 P.3 in
+    let Q = c.longest_pending_span-span.ensures in
+    omega (arith, Q.rises, Q.within)
+
+pub flush-overflow_add-result : goal.flush-overflow_add-result
+flush-overflow_add-result t c =
+    let a = c.args in
+    let P = c.requires in
+    let g = rooms a.level (40 * a.m + 8) (32 * a.m) (length a.s.now) P.1 P.3 in
+    let Q = c.longest_pending_span-span.ensures in
+    let T = rw (c.move_span.ensures, c.child_at-child.ensures, c.in-Placed.is) at c.insert_into.ensures in
+    omega (arith, flush_back a.extent a.store.now a.c a.written a.level a.m a.n a.s.now P.0 c.longest_pending_span-span.result Q (omega (arith, P.2)) (omega arith) (order_in a.by a.heap.now) _ _ _ _ T, Q.rises, Q.within, c.ranges.n.fits)
+
+pub flush-returns-in-Placed : goal.flush-returns-in-Placed
+flush-returns-in-Placed t c =
+    let a = c.args in
+    let P = c.requires in
+    let g = rooms a.level (40 * a.m + 8) (32 * a.m) (length a.s.now) P.1 P.3 in
+    let Q = c.longest_pending_span-span.ensures in
+    let T = rw (c.move_span.ensures, c.child_at-child.ensures, c.in-Placed.is) at c.insert_into.ensures in
+    flush_done a.extent a.store.now a.c a.written a.level a.m a.n a.s.now P.0 c.longest_pending_span-span.result Q (omega (arith, P.2)) (omega arith) (order_in a.by a.heap.now) _ _ _ _ _ T (rw c.move_span.ensures at c.splice.ensures)
+
+pub flush-returns-in-Failed : goal.flush-returns-in-Failed
+flush-returns-in-Failed t c =
+    let a = c.args in
+    let P = c.requires in
+    let g = rooms a.level (40 * a.m + 8) (32 * a.m) (length a.s.now) P.1 P.3 in
+    let Q = c.longest_pending_span-span.ensures in
+    let T = rw (c.move_span.ensures, c.child_at-child.ensures, c.in-Failed.is) at c.insert_into.ensures in
+    flush_fails a.extent a.store.now a.c a.written a.level a.m a.n a.s.now P.0 c.longest_pending_span-span.result Q (omega (arith, P.2)) (omega arith) (order_in a.by a.heap.now) _ _ _ _ _ T
+
+pub insert_into-settle-requires : goal.insert_into-settle-requires
+insert_into-settle-requires t c =
+    let a = c.args in
+    let P = c.requires in
+    let L = rw c.in-Node.is at c.load.ensures in
+    let f = area_fits a.level (40 * a.m + 8) (32 * a.m) (length a.s.now) P.2 in
+    let g = area_fits a.level a.c a.n a.m P.1 in
+    let h = loads_few (order_in a.by a.heap.now) a.extent a.store.now a.c a.written a.level a.page a.s.now a.m a.n _ L in (P.0, omega arith, omega (arith, P.0.cap))
+
+pub insert_into-returns-then-level-eq0 : goal.insert_into-returns-then-level-eq0
+insert_into-returns-then-level-eq0 t c =
+    let a = c.args in
+    let P = c.requires in
+    let L = rw c.in-Node.is at c.load.ensures in
+    let f = area_fits a.level (40 * a.m + 8) (32 * a.m) (length a.s.now) P.2 in
+    let g = area_fits a.level a.c a.n a.m P.1 in
+    let h = loads_few (order_in a.by a.heap.now) a.extent a.store.now a.c a.written a.level a.page a.s.now a.m a.n _ L in
+    insert_flat (order_in a.by a.heap.now) a.extent a.store.now a.c a.written a.level a.page a.s.now a.m a.n _ L c.if-level-eq0.true _ _ _ (c.settle.ensures (order_in a.by a.heap.now))
+
+pub insert_into-drain-requires : goal.insert_into-drain-requires
+insert_into-drain-requires t c =
+    let a = c.args in
+    let P = c.requires in
+    let L = rw c.in-Node.is at c.load.ensures in
+    let f = area_fits a.level (40 * a.m + 8) (32 * a.m) (length a.s.now) P.2 in
+    let g = area_fits a.level a.c a.n a.m P.1 in
+    let h = loads_few (order_in a.by a.heap.now) a.extent a.store.now a.c a.written a.level a.page a.s.now a.m a.n _ L in
+    let k = add-mul a.level 1 a.c in
+    (omega arith, (P.0, omega arith, omega (arith, P.0.cap, P.1, one-mul a.c), omega (arith, P.2)))
+
+pub insert_into-settle-requires-in-Placed : goal.insert_into-settle-requires-in-Placed
+insert_into-settle-requires-in-Placed t c =
+    let a = c.args in
+    let P = c.requires in
+    let L = rw c.in-Node.is at c.load.ensures in
+    let f = area_fits a.level (40 * a.m + 8) (32 * a.m) (length a.s.now) P.2 in
+    let g = area_fits a.level a.c a.n a.m P.1 in
+    let h = loads_few (order_in a.by a.heap.now) a.extent a.store.now a.c a.written a.level a.page a.s.now a.m a.n _ L in
+    let T = rw c.in-Placed.is at c.drain.ensures in
+    (went_ready (order_in a.by a.heap.now) a.extent a.store.now a.c a.written a.level a.page a.s.now a.m a.n _ L (omega arith) _ _ _ _ T P.0, omega arith, went_few (order_in a.by a.heap.now) a.extent a.store.now a.c a.written a.level a.page a.s.now a.m a.n _ L (omega arith) _ _ _ _ T)
+
+pub insert_into-returns-in-Faulty : goal.insert_into-returns-in-Faulty
+insert_into-returns-in-Faulty t c =
+    let a = c.args in
+    insert_bad (order_in a.by a.heap.now) a.extent a.store.now a.c a.written a.level a.page a.s.now a.m a.n _ c.requires.0 _ (rw c.in-Faulty.is at c.load.ensures) _
+
+pub insert_into-returns-in-Placed : goal.insert_into-returns-in-Placed
+insert_into-returns-in-Placed t c =
+    let a = c.args in
+    let P = c.requires in
+    let L = rw c.in-Node.is at c.load.ensures in
+    let f = area_fits a.level (40 * a.m + 8) (32 * a.m) (length a.s.now) P.2 in
+    let g = area_fits a.level a.c a.n a.m P.1 in
+    let h = loads_few (order_in a.by a.heap.now) a.extent a.store.now a.c a.written a.level a.page a.s.now a.m a.n _ L in
+    let T = rw c.in-Placed.is at c.drain.ensures in
+    insert_goes (order_in a.by a.heap.now) a.extent a.store.now a.c a.written a.level a.page a.s.now a.m a.n _ L (omega arith) _ _ _ _ T _ _ _ (c.settle-in-Placed.ensures (order_in a.by a.heap.now))
+
+pub insert_into-returns-in-Failed : goal.insert_into-returns-in-Failed
+insert_into-returns-in-Failed t c =
+    let a = c.args in
+    let P = c.requires in
+    let L = rw c.in-Node.is at c.load.ensures in
+    let f = area_fits a.level (40 * a.m + 8) (32 * a.m) (length a.s.now) P.2 in
+    let g = area_fits a.level a.c a.n a.m P.1 in
+    let h = loads_few (order_in a.by a.heap.now) a.extent a.store.now a.c a.written a.level a.page a.s.now a.m a.n _ L in
+    insert_stops (order_in a.by a.heap.now) a.extent a.store.now a.c a.written a.level a.page a.s.now a.m a.n _ L (omega arith) _ _ _ _ (rw c.in-Failed.is at c.drain.ensures)

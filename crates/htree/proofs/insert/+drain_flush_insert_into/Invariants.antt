@@ -1,0 +1,26 @@
+use Prim.Native.Nat.{ℕ, ◌+◌, ◌*◌, ◌<◌}
+use native.Mathlib.Nat.{add-mul, one-mul}
+use native.Mathlib.Omega.{arith}
+use mathlib.Core.Path.{sym, ◌∙◌}
+use borrow.Author.Tests.{not-true, not-false}
+use borrow.Author.Rules.{rules}
+use lib.ListN.{length, length-take, length-drop}
+use Rattle.index.specs.Order.{order_in}
+use Rattle.htree.specs.Cycle.{Drains, rooms, area_fits, lower, drains_start, drains_ready, drains_length, drains_small, drains_sent, drains_none, drains_on, drains_stop, flush_fails, flush_back, flush_done, insert_bad, loads_few, insert_flat, insert_stops, went_ready, went_few, insert_goes}
+use Rattle.htree.proofs.insert.+drain_flush_insert_into.Given as goal
+
+abbrev pub invariant-drain-loop-turns : goal.invariant-drain-loop-turns
+invariant-drain-loop-turns l = Drains (order_in l.by l.heap) l.extent l.initial.store l.c l.written l.level l.m l.n l.initial.s l.store l.s l.turns l.count l.next
+
+abbrev pub decreases-drain-loop-turns : goal.decreases-drain-loop-turns
+decreases-drain-loop-turns l = l.turns
+
+-- the level falls at each round of the cycle
+abbrev pub decreases-drain : goal.decreases-drain
+decreases-drain l = 3 * l.level + 1
+
+abbrev pub decreases-flush : goal.decreases-flush
+decreases-flush l = 3 * l.level
+
+abbrev pub decreases-insert_into : goal.decreases-insert_into
+decreases-insert_into l = 3 * l.level + 2

@@ -1,0 +1,37 @@
+-- `top` meets its contract: one child is the root, several are written as the root. Assumes nothing.
+use native.Mathlib.Omega.{arith}
+use Rattle.rules.specs.SplitLaws.{whole_part}
+use Rattle.htree.specs.Told.{Ready}
+use Rattle.htree.specs.Settle.{ready_next}
+use Rattle.htree.specs.Root.{top_one, top_put, top_refused}
+use borrow.Author.Rules.{rules}
+use Rattle.htree.proofs.root.top.Goals as goal
+
+pub returns-then-n-eq0 : goal.returns-then-n-eq0
+returns-then-n-eq0 c =
+    let a = c.args in
+    let R = c.requires.0 in
+    λ t o e.
+    rw (← e, c.child_at.ensures) (top_one t a.extent a.store.now a.level a.m a.n a.s.now o (omega arith) (rw e R.room))
+
+pub overflow_add-result : goal.overflow_add-result
+overflow_add-result c =
+    let a = c.args in
+    let R = c.requires.0 in
+    omega (arith, ready_next R)
+
+pub returns-in-Placed : goal.returns-in-Placed
+returns-in-Placed c =
+    let a = c.args in
+    let R = c.requires.0 in
+    λ t o e.
+    let T = rw (whole_part a.m a.level a.n a.s.now, c.in-Placed.is) at (c.put_part.ensures t o e) in
+    rw (← e) (top_put t a.extent a.store.now a.level a.m a.n a.s.now o (omega arith) _ _ T)
+
+pub returns-in-Failed : goal.returns-in-Failed
+returns-in-Failed c =
+    let a = c.args in
+    let R = c.requires.0 in
+    λ t o e.
+    let T = rw (whole_part a.m a.level a.n a.s.now, c.in-Failed.is) at (c.put_part.ensures t o e) in
+    rw (← e) (top_refused t a.extent a.store.now a.level a.m a.n a.s.now o (omega arith) _ _ T (rw e R.room))

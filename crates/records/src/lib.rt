@@ -1,10 +1,9 @@
-// The record entry: a batch as a slice of datom records, which are laid as bytes for the byte entry. What has a reference to a record
-// is proved by a walk of its code, by hand: it only passes the slice on, or reads one record and gives it on by value.
+// The record entry: a batch as a slice of datom records, which are laid as bytes for the byte entry.
 #![tactic(auto)]
 
 ghost use Rattle.std.specs.Prelude.{◌≡◌, ◌+◌, ◌*◌, ◌≤◌, length};
 ghost use Rattle.store.specs.Words.{patch};
-ghost use Rattle.datom.specs.Datom.{datom_bytes};
+ghost use Rattle.datom.specs.Datom.{datom_bytes, WordSized};
 ghost use Rattle.rules.specs.Calls.{extent_of, insert_call, initialise_call, insert_bytes_call, initialise_bytes_call};
 ghost use Rattle.entry.specs.Reply.{Replies};
 ghost use Rattle.records.specs.Laid.{laid_count, Laid, first_of};
@@ -30,10 +29,11 @@ fn laid_count(n: usize, room: usize) -> usize
     n
 }
 
-// A datom's bytes, as number i of an area of datoms.
+// A datom's bytes, as number i of an area of datoms. Of a record that was read from a slice only this call tells that its words are words.
 fn put_datom(area: &mut [u8], i: usize, d: Datom)
     requires { 32 * i + 32 ≤ length area.old }
-    ensures { area.new ≡ patch area.old (32 * i) (datom_bytes d) }
+    ensures laid { area.new ≡ patch area.old (32 * i) (datom_bytes d) }
+    ensures sized { WordSized d }
 {
     let at = 32 * i;
     store::put_word(area, at, d.entity.0);

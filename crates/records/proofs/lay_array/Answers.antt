@@ -35,7 +35,7 @@ overflow_add-i c =
 
 pub loop-i-preserved : goal.loop-i-preserved
 loop-i-preserved c =
-    (omega arith, c.loop-i.invariant.1, c.put_datom.ensures ∙ rw (add-one, c.loop-i.invariant.2))
+    (omega arith, c.loop-i.invariant.1, c.put_datom.ensures.laid ∙ rw (add-one, c.loop-i.invariant.2))
 
 pub shape_of-area : goal.shape_of-area
 shape_of-area c =

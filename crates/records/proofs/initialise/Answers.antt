@@ -1,0 +1,15 @@
+-- `initialise` meets its contract: what `initialise_laid` says of the records that were laid. Assumes nothing.
+use Rattle.std.proofs.Common.{◌≡◌, ℕ, ◌∙◌, ap, subst, length}
+use Rattle.rules.specs.Calls.{extent_of, initialise_call}
+use Rattle.entry.specs.Reply.{Replies}
+use Rattle.records.specs.Handed.{initialise_call_handed}
+use Rattle.records.proofs.initialise.Goals as goal
+
+pub returns : goal.returns
+returns c =
+    let a = c.args in
+    let s = c.lay.new.area in
+    let same : length s ≡ length a.s.now = c.lay.auto.area in
+    subst (Replies (extent_of a.recorded) a.store.now _ _)
+    (initialise_call_handed a.recorded a.store.now a.heap.now a.batch.now s c.lay.ensures ∙ ap (λ (k : ℕ). initialise_call a.recorded a.store.now a.heap.now k a.batch.now) same)
+    c.initialise_laid.ensures

@@ -1,0 +1,18 @@
+-- `put_cursor` meets its contract: five stores behind one another. Assumes nothing.
+use mathlib.Core.Path.{◌≡◌}
+use lib.ListN.{length}
+use Rattle.florinwick.specs.Cursor.{cursor_put}
+use borrow.Author.Rules.{rules}
+use Rattle.listing.specs.WayLaws.{mapped_length}
+use Rattle.florinwick.proofs.cursor.put_cursor.Goals as goal
+
+pub returns : goal.returns
+returns c =
+    let a = c.args in
+    let bp : length a.cursor.begin_pages ≡ 8 = search rules in
+    let ep : length a.cursor.end_pages ≡ 8 = search rules in
+    let bi : length a.cursor.begin_indices ≡ 8 = search rules in
+    let ei : length a.cursor.end_indices ≡ 8 = search rules in
+    rw (c.put_pages-2.ensures, c.put_indices-2.ensures, c.put_pages.ensures, c.put_indices.ensures, c.put_word.ensures)
+    (cursor_put a.cursor bi bp ei
+    ep a.s.now c.requires)

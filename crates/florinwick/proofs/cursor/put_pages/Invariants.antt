@@ -1,0 +1,18 @@
+use Prim.Native.Nat.{◌≤◌, ◌-◌}
+use mathlib.Core.Path.{◌≡◌, refl, sym, ◌∙◌}
+use native.Mathlib.Omega.{arith}
+use lib.ListN.{length, take}
+use lib.Seq.{take-length}
+use borrow.Author.Rules.{rules}
+use Rattle.store.specs.Words.{spread, patch}
+use Rattle.store.specs.Page.{page, page_bytes}
+use Rattle.store.specs.Cells.{patch_none}
+use Rattle.store.specs.Laws.{page_length}
+use Rattle.florinwick.specs.Cursor.{put_next}
+use Rattle.florinwick.proofs.cursor.put_pages.Given as goal
+
+abbrev pub invariant-loop-i : goal.invariant-loop-i
+invariant-loop-i l = (l.i ≤ 8) × ((length l.s ≡ length l.initial.s) × ((length l.pages ≡ 8) × (l.s ≡ patch l.initial.s l.at (spread page_bytes (take l.i l.pages)))))
+
+abbrev pub decreases-loop-i : goal.decreases-loop-i
+decreases-loop-i l = 8 - l.i

@@ -1,0 +1,7 @@
+-- `refuse` meets its contract: the words of document 01's table. Assumes nothing.
+use borrow.Author.Rules.{rules}
+use Rattle.florinwick.proofs.words.refuse.Goals as goal
+
+pub returns : goal.returns
+returns c =
+    (c.number-number.ensures, rw (c.number-number.ensures, c.detail.ensures) at c.put_words.ensures)

@@ -40,7 +40,7 @@ fn name_of(append: Append) -> u64 {
 // What is used of the heap afterwards.
 fn used_after(used: u64, append: Append) -> u64 {
     match append {
-        Append::Stored { value: _, bytes } => std::num::wrapping_add_u64(used, bytes),
+        Append::Stored { value: _, bytes } => used.wrapping_add(bytes),
         Append::Refused(_) => used,
     }
 }
@@ -74,7 +74,7 @@ pub fn put(batch: &mut [u8; 256], heap: &mut [u8; 1024], used: u64, first: u64, 
     let mut i = 0;
     while i < n {
         let before = end;
-        end = put_one(batch, heap, before, i, std::num::wrapping_add_u64(first, i));
+        end = put_one(batch, heap, before, i, first.wrapping_add(i));
         i += 1;
     }
     end

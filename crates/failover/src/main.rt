@@ -9,6 +9,7 @@ ghost use Rattle.std.specs.Prelude.{◌≤◌};
 
 use answer::{Answer, Step};
 use datom::{Aid, Datom, Eid, TidOp, Value};
+use std::io;
 use store::{PageId, StoreRecord};
 
 // The store's record and the root that the last accepted batch led to.
@@ -19,24 +20,31 @@ struct Stand {
 }
 
 // Sends a batch, prints the receipt, and hands on what the next call is given.
-fn send(store: &mut [u8], heap: &[u8], scratch: &mut [u8], stand: Stand, batch: &[u8]) -> Stand {
+fn send(
+    rt: &impl Print,
+    store: &mut [u8],
+    heap: &[u8],
+    scratch: &mut [u8],
+    stand: Stand,
+    batch: &[u8],
+) -> io::Result<Stand> {
     let stored = stand.stored;
     match entry::insert(store, stored, stand.root, batch, scratch, heap) {
         Answer::Done { root, pages } => {
-            say::done(root, pages);
-            Stand {
+            say::done(rt, root, pages)?;
+            Ok(Stand {
                 stored: StoreRecord {
                     size: stored.size,
-                    count: std::num::wrapping_add_u64(stored.count, pages),
+                    count: stored.count.wrapping_add(pages),
                     heap: stored.heap,
                     order: stored.order,
                 },
                 root,
-            }
+            })
         }
         Answer::Refused(refusal) => {
-            say::refused(refusal);
-            stand
+            say::refused(rt, refusal)?;
+            Ok(stand)
         }
     }
 }
@@ -61,7 +69,13 @@ fn highest() -> Datom {
 }
 
 // All fills under a root, in order.
-fn list(store: &[u8], heap: &[u8], stored: StoreRecord, root: PageId) {
+fn list(
+    rt: &impl Print,
+    store: &[u8],
+    heap: &[u8],
+    stored: StoreRecord,
+    root: PageId,
+) -> io::Result<()> {
     let started = listing::begin::start(store, stored, root, lowest(), highest(), heap);
     let mut cursor = started.cursor;
     let mut turns: u64 = 1000;
@@ -71,11 +85,11 @@ fn list(store: &[u8], heap: &[u8], stored: StoreRecord, root: PageId) {
         let Step::Yields(fill) = answer else {
             break;
         };
-        say::fill(fill);
+        say::fill(rt, fill)?;
         cursor = stepped.cursor;
         turns -= 1;
     }
-    say::end_of_line();
+    say::end_of_line(rt)
 }
 
 // The same with more of the heap in use.
@@ -95,21 +109,23 @@ fn with_heap(stand: Stand, used: u64) -> Stand {
 
 // Makes a batch of n fills, their texts behind what is used of the heap, and sends it.
 fn feed(
+    rt: &impl Print,
     store: &mut [u8; 8192],
     heap: &mut [u8; 1024],
     scratch: &mut [u8; 62016],
     stand: Stand,
     first: u64,
     n: u64,
-) -> Stand
+) -> io::Result<Stand>
     requires { n ≤ 8 }
 {
     let mut batch = [0u8; 256];
     let stored = stand.stored;
     let used = stored.heap;
     let end = fills::put(&mut batch, heap, used, first, n);
-    say::sending(first, n, used);
+    say::sending(rt, first, n, used)?;
     send(
+        rt,
         store,
         heap,
         scratch,
@@ -118,16 +134,21 @@ fn feed(
     )
 }
 
-fn list_at(store: &[u8; 8192], heap: &[u8; 1024], stand: Stand) {
-    say::listing(stand.root);
-    list(store, heap, stand.stored, stand.root);
+fn list_at(rt: &impl Print, store: &[u8; 8192], heap: &[u8; 1024], stand: Stand) -> io::Result<()> {
+    say::listing(rt, stand.root)?;
+    list(rt, store, heap, stand.stored, stand.root)
 }
 
-fn check_at(store: &[u8; 8192], heap: &[u8; 1024], stand: Stand) {
-    say::checked(invariants::check(store, stand.stored, stand.root, heap));
+fn check_at(
+    rt: &impl Print,
+    store: &[u8; 8192],
+    heap: &[u8; 1024],
+    stand: Stand,
+) -> io::Result<()> {
+    say::checked(rt, invariants::check(store, stand.stored, stand.root, heap))
 }
 
-fn main() {
+fn main(rt: HostRuntime) -> io::Result<()> {
     let mut store = [0u8; 8192];
     let mut heap = [0u8; 1024];
     let mut scratch = [0u8; 62016];
@@ -140,20 +161,20 @@ fn main() {
         },
         root: PageId::max(),
     };
-    say::title();
-    let first = feed(&mut store, &mut heap, &mut scratch, nothing, 1, 6);
-    let second = feed(&mut store, &mut heap, &mut scratch, first, 7, 5);
-    let third = feed(&mut store, &mut heap, &mut scratch, second, 12, 4);
-    list_at(&store, &heap, third);
-    say::failover();
-    let fourth = feed(&mut store, &mut heap, &mut scratch, third, 12, 4);
-    list_at(&store, &heap, fourth);
-    say::overlap();
-    let fifth = feed(&mut store, &mut heap, &mut scratch, fourth, 14, 4);
-    say::fresh();
-    let sixth = feed(&mut store, &mut heap, &mut scratch, fifth, 16, 2);
-    list_at(&store, &heap, sixth);
-    say::older();
-    list_at(&store, &heap, first);
-    check_at(&store, &heap, sixth);
+    say::title(&rt)?;
+    let first = feed(&rt, &mut store, &mut heap, &mut scratch, nothing, 1, 6)?;
+    let second = feed(&rt, &mut store, &mut heap, &mut scratch, first, 7, 5)?;
+    let third = feed(&rt, &mut store, &mut heap, &mut scratch, second, 12, 4)?;
+    list_at(&rt, &store, &heap, third)?;
+    say::failover(&rt)?;
+    let fourth = feed(&rt, &mut store, &mut heap, &mut scratch, third, 12, 4)?;
+    list_at(&rt, &store, &heap, fourth)?;
+    say::overlap(&rt)?;
+    let fifth = feed(&rt, &mut store, &mut heap, &mut scratch, fourth, 14, 4)?;
+    say::fresh(&rt)?;
+    let sixth = feed(&rt, &mut store, &mut heap, &mut scratch, fifth, 16, 2)?;
+    list_at(&rt, &store, &heap, sixth)?;
+    say::older(&rt)?;
+    list_at(&rt, &store, &heap, first)?;
+    check_at(&rt, &store, &heap, sixth)
 }

@@ -90,7 +90,7 @@ fn after(
     tally::add(counts, tally::PAGES, pages);
     StoreRecord {
         size: stored.size,
-        count: std::num::wrapping_add_u64(stored.count, pages),
+        count: stored.count.wrapping_add(pages),
         heap: stored.heap,
         order: stored.order,
     }
@@ -169,7 +169,7 @@ fn is_recorded(datom: &[u8; 32], recorded: &[u8], i: u64) -> bool
     if record::word(recorded, 12) == 0 {
         return true;
     }
-    check::same(datom, record::part(recorded, 104 + 32 * i, 32))
+    record::same(datom, record::part(recorded, 104 + 32 * i, 32))
 }
 
 fn is_digest(h: u64, recorded: &[u8]) -> bool {

@@ -2,6 +2,7 @@
 ghost use Rattle.std.specs.Prelude.{◌≤◌};
 
 use crate::{calls, lent, record, tally};
+use std::io;
 
 // The n datoms from d(from) on: entity k, attribute 1, value k, last word 3.
 pub fn put_datoms(batch: &mut [u8; 4128], from: u64, n: u64)
@@ -83,37 +84,46 @@ pub fn initialise(
     florinwick::florinwick_initialise(store, b"", &block, datoms, scratch, area);
 }
 
-pub fn say(size: u64, n: u64) {
-    tally::line(size, b"-byte pages, ");
-    tally::line(n, b" datoms: ");
+pub fn say(rt: &impl Print, size: u64, n: u64) -> io::Result<()> {
+    tally::line(rt, size, b"-byte pages, ")?;
+    tally::line(rt, n, b" datoms: ")
 }
 
-fn example(store: &mut [u8; lent::STORE], scratch: &mut [u8; lent::SCRATCH], size: u64, n: u64)
+fn example(
+    rt: &impl Print,
+    store: &mut [u8; lent::STORE],
+    scratch: &mut [u8; lent::SCRATCH],
+    size: u64,
+    n: u64,
+) -> io::Result<()>
     requires { n ≤ 129 }
 {
     let mut area = [0u8; 32];
     initialise(store, scratch, size, n, &mut area);
     let root = told(&area, 1);
-    say(size, n);
+    say(rt, size, n)?;
     if told(&area, 0) != 0 {
-        io::write_all(1, b"refused, number ");
-        tally::line(told(&area, 0), b"\n");
-        return;
+        rt.write_all(b"refused, number ")?;
+        return tally::line(rt, told(&area, 0), b"\n");
     }
-    tally::line(told(&area, 2), b" pages, root ");
-    tally::line(root, b" at level ");
-    tally::line(level(store, size, root), b"; page 0 has ");
-    tally::line(count(store, size, 0), b" datoms, page 1 has ");
-    tally::line(count(store, size, 1), b", the root begins with d");
-    tally::line(record::word(page(store, size, root), 0), b"\n");
+    tally::line(rt, told(&area, 2), b" pages, root ")?;
+    tally::line(rt, root, b" at level ")?;
+    tally::line(rt, level(store, size, root), b"; page 0 has ")?;
+    tally::line(rt, count(store, size, 0), b" datoms, page 1 has ")?;
+    tally::line(rt, count(store, size, 1), b", the root begins with d")?;
+    tally::line(rt, record::word(page(store, size, root), 0), b"\n")
 }
 
 // k: 128 datoms and 129; l: 14, 103 and 104.
-pub fn run(store: &mut [u8; lent::STORE], scratch: &mut [u8; lent::SCRATCH]) {
-    io::write_all(1, b"\nexamples k and l\n");
-    example(store, scratch, 256, 128);
-    example(store, scratch, 256, 129);
-    example(store, scratch, 568, 14);
-    example(store, scratch, 4096, 103);
-    example(store, scratch, 4096, 104);
+pub fn run(
+    rt: &impl Print,
+    store: &mut [u8; lent::STORE],
+    scratch: &mut [u8; lent::SCRATCH],
+) -> io::Result<()> {
+    rt.write_all(b"\nexamples k and l\n")?;
+    example(rt, store, scratch, 256, 128)?;
+    example(rt, store, scratch, 256, 129)?;
+    example(rt, store, scratch, 568, 14)?;
+    example(rt, store, scratch, 4096, 103)?;
+    example(rt, store, scratch, 4096, 104)
 }

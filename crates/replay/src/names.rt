@@ -22,7 +22,7 @@ fn given(recorded: &[u8]) -> &[u8] {
 }
 
 fn is_told(area: &[u8; 32], recorded: &[u8]) -> bool {
-    check::same(area, record::part(recorded, 24, 32))
+    record::same(area, record::part(recorded, 24, 32))
 }
 
 fn check(store: &[u8], heap: &[u8], stored: StoreRecord, recorded: &[u8]) -> bool {

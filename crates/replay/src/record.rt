@@ -1,6 +1,9 @@
 // Reading the recorded answers: a record is its length in bytes and then so many bytes, in words (docs/ORACLE.md, "Format"). What a
 // record does not have reads as 0 or as an empty part, and then differs from what was answered.
-ghost use Rattle.std.specs.Prelude.{◌≤◌, length};
+ghost use Rattle.std.specs.Prelude.{◌≡◌, ◌≤◌, length, true, IfOk};
+
+use std::io;
+use std::io::{ErrorKind, Read};
 
 // The modulus of the digests.
 const MODULUS: u64 = 4294967291;
@@ -52,6 +55,13 @@ pub fn digest(before: u64, bytes: &[u8]) -> u64 {
     h
 }
 
+// Whether two slices hold the same bytes.
+pub fn same(a: &[u8], b: &[u8]) -> bool
+    ensures { (result ≡ true → a.now ≡ b.now) × (a.now ≡ b.now → result ≡ true) }
+{
+    a == b
+}
+
 // Whether bytes are those that a record has from this word on: whole, or by their digest.
 pub fn agrees(bytes: &[u8], recorded: &[u8], mode: usize) -> bool
     requires { mode ≤ 1000 }
@@ -59,26 +69,39 @@ pub fn agrees(bytes: &[u8], recorded: &[u8], mode: usize) -> bool
     if word(recorded, mode) == 0 {
         return digest(0, bytes) == word(recorded, mode + 1);
     }
-    check::same(
+    same(
         bytes,
         part(recorded, 8 * (mode as u64) + 8, bytes.len() as u64),
     )
 }
 
-// The next record, from standard input; 0 at the end, or where no whole record follows.
-pub fn next(recorded: &mut [u8]) -> usize
-    ensures { result ≤ length recorded.new }
+// Reads until the buffer is full, and says whether there were so many bytes before the end.
+fn read_full<R: Read>(input: &mut R, buffer: &mut [u8]) -> io::Result<bool> {
+    match input.read_exact(buffer) {
+        Ok(()) => Ok(true),
+        Err(e) => {
+            if e.kind() == ErrorKind::UnexpectedEof {
+                return Ok(false);
+            }
+            Err(e)
+        }
+    }
+}
+
+// The next record, from the input; 0 at the end, or where no whole record follows.
+pub fn next<R: Read>(input: &mut R, recorded: &mut [u8]) -> io::Result<usize>
+    ensures { IfOk result (λ n. n ≤ length recorded.new) }
 {
     let mut head = [0u8; 8];
-    if io::read_full(0, &mut head) < 8 {
-        return 0;
+    if !read_full(input, &mut head)? {
+        return Ok(0);
     }
     let n = store::word(&head, 0) as usize;
     if recorded.len() < n {
-        return 0;
+        return Ok(0);
     }
-    if io::read_full(0, &mut recorded[..n]) < n {
-        return 0;
+    if !read_full(input, &mut recorded[..n])? {
+        return Ok(0);
     }
-    n
+    Ok(n)
 }

@@ -1,4 +1,6 @@
 // What was replayed, counted.
+use std::io;
+
 // The places of the counts.
 pub const HISTORIES: usize = 0;
 
@@ -38,7 +40,7 @@ pub const PLACES: usize = 16;
 // n more at a place.
 pub fn add(counts: &mut [u64; 16], place: usize, n: u64) {
     if place < PLACES {
-        counts[place] = std::num::wrapping_add_u64(counts[place], n);
+        counts[place] = counts[place].wrapping_add(n);
     }
 }
 
@@ -61,38 +63,58 @@ pub fn add_order(counts: &mut [u64; 16], order: u64) {
     }
 }
 
-pub fn line(n: u64, what: &[u8]) {
-    io::print_decimal(1, n);
-    io::write_all(1, what);
+pub fn line(rt: &impl Print, n: u64, what: &[u8]) -> io::Result<()> {
+    print!(rt; "{n}")?;
+    rt.write_all(what)
 }
 
-pub fn print(counts: &[u64; 16]) {
-    line(counts[HISTORIES], b" histories begun\n");
-    line(counts[ENDED], b" histories ended with the recorded store\n");
-    line(counts[INITIALISED], b" initialise\n");
-    line(counts[INSERTED], b" insert\n");
+pub fn print(rt: &impl Print, counts: &[u64; 16]) -> io::Result<()> {
+    line(rt, counts[HISTORIES], b" histories begun\n")?;
     line(
+        rt,
+        counts[ENDED],
+        b" histories ended with the recorded store\n",
+    )?;
+    line(rt, counts[INITIALISED], b" initialise\n")?;
+    line(rt, counts[INSERTED], b" insert\n")?;
+    line(
+        rt,
         counts[PAGES],
         b" pages of these, byte for byte or by digest\n",
-    );
+    )?;
     line(
+        rt,
         counts[HELD],
         b" batches of insert, held at the root that they led to\n",
-    );
-    line(counts[LISTED], b" listings\n");
-    line(counts[DATOMS], b" datoms of these\n");
-    line(counts[SOUND], b" checks, Sound\n");
-    line(counts[UNSOUND], b" checks, Unsound at the recorded page\n");
-    line(counts[POKED], b" pages damaged or repaired\n");
+    )?;
+    line(rt, counts[LISTED], b" listings\n")?;
+    line(rt, counts[DATOMS], b" datoms of these\n")?;
+    line(rt, counts[SOUND], b" checks, Sound\n")?;
     line(
+        rt,
+        counts[UNSOUND],
+        b" checks, Unsound at the recorded page\n",
+    )?;
+    line(rt, counts[POKED], b" pages damaged or repaired\n")?;
+    line(
+        rt,
         counts[NAMED],
         b" answers that may name a fault, all four words, by the model\n",
-    );
+    )?;
     line(
+        rt,
         counts[BY_BOTH],
         b" answers by both oracles, the others by the patched one\n",
-    );
-    line(counts[IN_AEVT], b" answers by attribute, entity, value\n");
-    line(counts[IN_AVET], b" answers by attribute, value, entity\n");
-    line(counts[DIFFERENT], b" differ\n");
+    )?;
+    line(
+        rt,
+        counts[IN_AEVT],
+        b" answers by attribute, entity, value\n",
+    )?;
+    line(
+        rt,
+        counts[IN_AVET],
+        b" answers by attribute, value, entity\n",
+    )?;
+    line(rt, counts[DIFFERENT], b" differ\n")
 }

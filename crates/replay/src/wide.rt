@@ -2,6 +2,7 @@
 ghost use Rattle.std.specs.Prelude.{◌≤◌};
 
 use crate::{calls, examples, lent, record, tally};
+use std::io;
 use store::StoreRecord;
 
 const SIZE: u64 = 8192;
@@ -59,7 +60,7 @@ fn with_batch(
     );
     Tree {
         root: examples::told(&area, 1),
-        pages: std::num::wrapping_add_u64(tree.pages, examples::told(&area, 2)),
+        pages: tree.pages.wrapping_add(examples::told(&area, 2)),
         is_whole: tree.is_whole && number == 0,
     }
 }
@@ -137,34 +138,42 @@ fn is_sound(store: &[u8], tree: Tree) -> bool {
 }
 
 // The tree in one line, its pages by the digest of the recorded answers.
-fn say(store: &[u8], tree: Tree, n: u64) {
+fn say(rt: &impl Print, store: &[u8], tree: Tree, n: u64) -> io::Result<()> {
     let all = record::part(store, 0, calls::bytes_of(SIZE, tree.pages));
-    examples::say(SIZE, n);
-    tally::line(tree.pages, b" pages, root ");
-    tally::line(tree.root, b" at level ");
-    tally::line(examples::level(store, SIZE, tree.root), b"; in the root: ");
-    tally::line(examples::count(store, SIZE, tree.root), b", from d");
+    examples::say(rt, SIZE, n)?;
+    tally::line(rt, tree.pages, b" pages, root ")?;
+    tally::line(rt, tree.root, b" at level ")?;
     tally::line(
+        rt,
+        examples::level(store, SIZE, tree.root),
+        b"; in the root: ",
+    )?;
+    tally::line(rt, examples::count(store, SIZE, tree.root), b", from d")?;
+    tally::line(
+        rt,
         record::word(examples::page(store, SIZE, tree.root), 0),
         b" on; digest ",
-    );
-    tally::line(record::digest(0, all), b"; ");
+    )?;
+    tally::line(rt, record::digest(0, all), b"; ")?;
     if tree.is_whole && is_sound(store, tree) && is_listed(store, tree, n) {
-        io::write_all(1, b"sound, and lists them all\n");
-        return;
+        return rt.write_all(b"sound, and lists them all\n");
     }
-    io::write_all(1, b"NOT WHOLE\n");
+    rt.write_all(b"NOT WHOLE\n")
 }
 
 // 205 datoms: two pages of 102 and one datom above them. 232 batches of 128: three levels.
-pub fn run(store: &mut [u8; lent::STORE], scratch: &mut [u8; lent::SCRATCH]) {
-    io::write_all(1, b"\npages of 8192 bytes\n");
+pub fn run(
+    rt: &impl Print,
+    store: &mut [u8; lent::STORE],
+    scratch: &mut [u8; lent::SCRATCH],
+) -> io::Result<()> {
+    rt.write_all(b"\npages of 8192 bytes\n")?;
     let one = begun(store, scratch);
     let two = with_batch(store, scratch, one, 128, 77);
-    say(store, two, 205);
-    tally::line(examples::count(store, SIZE, 1), b" datoms in page 1, ");
-    tally::line(examples::count(store, SIZE, 2), b" in page 2\n");
+    say(rt, store, two, 205)?;
+    tally::line(rt, examples::count(store, SIZE, 1), b" datoms in page 1, ")?;
+    tally::line(rt, examples::count(store, SIZE, 2), b" in page 2\n")?;
     let again = begun(store, scratch);
     let three = with_batches(store, scratch, again, 231);
-    say(store, three, 29696);
+    say(rt, store, three, 29696)
 }

@@ -15,7 +15,7 @@ use Rattle.rules.specs.Page.{Node, node_of}
 use Rattle.rules.specs.Node.{meets, merge_node}
 use Rattle.rules.specs.Tree.{Fetched, faulty, fine, Env, Stage, stop, go, then, fetch_at, put, is_over, settle, insert_merged, insert_into, write_root, insert_tree}
 use Rattle.rules.specs.Store.{env_of}
-use Rattle.rules.specs.Sizes.{level_is}
+use Rattle.rules.proofs.Sizes.{level_is}
 use Rattle.htree.specs.declared.place.Inserted.TheVariants as inserted
 use Rattle.htree.specs.declared.root.Rooted.{Rooted}
 use Rattle.htree.specs.declared.root.Rooted.TheVariants as rooted

@@ -18,7 +18,7 @@ use Rattle.rules.specs.Page.{Node, node_of, children_of, child_at}
 use Rattle.rules.specs.Node.{split_up, split_parts}
 use Rattle.rules.specs.Tree.{Env, Stage, stop, go, then, put, put_all, split, is_over, root_of, write_root}
 use Rattle.rules.specs.Store.{env_of}
-use Rattle.rules.specs.SplitLaws.{split_shrinks}
+use Rattle.rules.proofs.SplitLaws.{split_shrinks}
 use Rattle.memory_store.specs.FetchLaws.{InOrder, in_order}
 use Rattle.htree.specs.declared.place.Put.TheVariants as put
 use Rattle.htree.specs.declared.place.Inserted.TheVariants as inserted

@@ -2,17 +2,13 @@
 pub mod Order
 pub mod Numbers
 pub mod Examples
-pub mod Laws
 pub mod Key
 pub mod Compare
 pub mod Keys
 pub mod Front
 pub mod Parts
 pub mod Named
-pub mod Ways
-pub mod Below
 pub mod Form
 pub mod Strings
 pub mod Eight
 pub mod Kinds
-pub mod Agree

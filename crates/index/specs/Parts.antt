@@ -1,5 +1,5 @@
 -- The parts of an order one by one: which comes when, in which word of a datom it stands, and when it is a number.
-use Prim.Native.Nat.{ℕ, ◌+◌, ◌^◌, ◌<◌, ◌≤◌, compare}
+use Prim.Native.Nat.{ℕ, ◌+◌, ◌^◌, ◌<◌, ◌≤◌}
 use Rattle.std.proofs.Common.{arith}
 use Rattle.std.specs.Prelude.{List, [], ◌∷◌, false, ◌≡◌}
 use Rattle.std.proofs.Math.Path.{refl}
@@ -9,8 +9,7 @@ use Rattle.datom.specs.declared.Datom.{Datom}
 use Rattle.datom.specs.Datom.{datom_at}
 use Rattle.index.specs.declared.Index.{Index}
 use Rattle.index.specs.declared.Index.TheVariants.{Eavt, Aevt, Avet}
-use Rattle.index.specs.Order.{Part, the_entity, the_attribute, the_value, the_last, cmp_part, parts_of}
-use Rattle.index.specs.Keys.{by_integer}
+use Rattle.index.specs.Order.{Part, the_entity, the_attribute, the_value, the_last}
 use Rattle.index.specs.Front.{by_entity}
 
 -- the word of a datom that a part stands in, and where it is in the datom's bytes
@@ -60,12 +59,6 @@ third Avet = the_entity
 abbrev pub later : Index → List Part
 later i = second i ∷ third i ∷ the_last ∷ []
 
-pub parts_of_law : (i : Index) → parts_of i ≡ first i ∷ later i
-unfolding parts_of
-parts_of_law Eavt = refl
-parts_of_law Aevt = refl
-parts_of_law Avet = refl
-
 -- the attribute comes first where the entity does not
 pub attribute_first : (i : Index) (d : Datom) → by_entity i ≡ false → word_in (first i) d ≡ d.attribute.0
 attribute_first Eavt d e = absurd (apart (cc))
@@ -83,19 +76,3 @@ pub small_tells : (i : Index) (a b : Datom) → word_in (second i) a < 2 ^ 62 �
 small_tells Eavt a b p q = tt
 small_tells Aevt a b p q = tt
 small_tells Avet a b p q = (p, q)
-
--- the first part is a number in every order
-module _ (h : List ℕ) (a b : Datom) where
-  pub first_number : (i : Index) → cmp_part h (first i) a b ≡ compare (word_in (first i) a) (word_in (first i) b)
-  unfolding cmp_part
-  first_number Eavt = refl
-  first_number Aevt = refl
-  first_number Avet = refl
-
-  -- and so is the second where its words tell
-  pub second_number :
-      (i : Index) → SecondTells i a b → cmp_part h (second i) a b ≡ compare (word_in (second i) a) (word_in (second i) b)
-  unfolding cmp_part
-  second_number Eavt t = refl
-  second_number Aevt t = refl
-  second_number Avet t = by_integer h a.value b.value t.0 t.1

@@ -15,7 +15,7 @@ use Rattle.datom.specs.declared.Datom.{Datom}
 use Rattle.datom.specs.Datom.{datom_at, datom_of, datoms_of}
 use Rattle.datom.specs.Laws.{datoms_from}
 use Rattle.index.specs.Order.{DatomOrd, is_less, is_same}
-use Rattle.index.specs.Laws.{Preorder}
+use Rattle.index.proofs.Laws.{Preorder}
 use Rattle.answer.specs.declared.Fault.{Fault}
 use Rattle.answer.specs.declared.NextMidpoint.TheVariants.{Child}
 use Rattle.rules.specs.Page.{rising}

@@ -11,7 +11,7 @@ use Rattle.store.specs.Laws.{apart}
 use Rattle.datom.specs.declared.Datom.{Datom}
 use Rattle.datom.specs.Datom.{datoms_of}
 use Rattle.index.specs.Order.{DatomOrd}
-use Rattle.index.specs.Laws.{Preorder}
+use Rattle.index.proofs.Laws.{Preorder}
 use Rattle.answer.specs.declared.Fault.{Fault}
 use Rattle.answer.specs.declared.Fault.TheVariants.{Missing}
 use Rattle.answer.specs.declared.NextMidpoint.{NextMidpoint}

@@ -14,7 +14,7 @@ use Rattle.index.specs.declared.Index.{Index}
 use Rattle.index.specs.declared.Index.TheVariants.{Eavt, Aevt, Avet}
 use Rattle.index.specs.Order.{DatomOrd, is_less, order_in}
 use Rattle.index.specs.Parts.{place_of, word_there_law, first, second, SecondTells}
-use Rattle.index.specs.Ways.{less_first, less_two}
+use Rattle.index.proofs.Ways.{less_first, less_two}
 use Rattle.index.specs.Named.{less_named}
 use Rattle.rules.specs.Page.{all, rising, older}
 use Rattle.memory_store.specs.Steps.{all_on, rising_on}

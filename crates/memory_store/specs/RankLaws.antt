@@ -9,7 +9,7 @@ use Rattle.datom.specs.declared.Datom.{Datom}
 use Rattle.datom.specs.Datom.{datom_at, datom_of, datoms_of}
 use Rattle.datom.specs.Laws.{datoms_at}
 use Rattle.index.specs.Order.{DatomOrd, is_less}
-use Rattle.index.specs.Laws.{Preorder}
+use Rattle.index.proofs.Laws.{Preorder}
 use Rattle.rules.specs.Page.{rising}
 use Rattle.rules.specs.Node.{rank_by, below, rank}
 use Rattle.rules.specs.Lists.{in_get_d, Rising, less, rising_in, rank_most}

@@ -9,7 +9,7 @@ use Rattle.index.specs.declared.Index.{Index}
 use Rattle.index.specs.Order.{Part, and_then, cmp_value, is_less, order_in}
 use Rattle.index.specs.Front.{second_decides}
 use Rattle.index.specs.Parts.{word_in, place_of, word_there_law, first, second}
-use Rattle.index.specs.Below.{by_first, by_second, by_rest}
+use Rattle.index.proofs.Below.{by_first, by_second, by_rest}
 
 -- a part's word of the datom behind the one at byte `at`
 pub word_behind : (s : List ℕ) (at : ℕ) (p : Part) → word_in p (datom_at s (at + 32)) ≡ word_at s (at + place_of p + 32)

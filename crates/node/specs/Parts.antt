@@ -16,7 +16,7 @@ use Rattle.datom.specs.Datom.{datom_at, datom_of, datoms_of}
 use Rattle.datom.specs.Laws.{datoms_from}
 use Rattle.rules.specs.Page.{node_of, children_of, node_is}
 use Rattle.rules.specs.Node.{share, parts, between, pages_for, split_parts, split_up, part_of}
-use Rattle.rules.specs.SplitLaws.{share_some, share_sum}
+use Rattle.rules.proofs.SplitLaws.{share_some, share_sum}
 use Rattle.node.specs.Stores.{midpoint_front, midpoint_rest, midpoint_children, child_front, child_rest, child_datoms}
 
 -- "The first r pages take q+1 children, the others q", by the number p of the page

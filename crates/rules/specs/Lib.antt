@@ -21,12 +21,7 @@ pub mod Lists
 pub mod KnownSizes
 pub mod Checks
 pub mod Round
-pub mod SplitLaws
 pub mod MergeLaws
-pub mod Sizes
 pub mod Spans
-pub mod Turns
-pub mod Reads
-pub mod Within
 pub mod Appended
 pub mod AppendCases

@@ -7,7 +7,7 @@ use Rattle.std.proofs.Math.Path.{refl}
 use Rattle.store.specs.Laws.{apart, both}
 use Rattle.datom.specs.declared.Datom.{Datom}
 use Rattle.index.specs.Order.{is_less}
-use Rattle.index.specs.Laws.{flipped, Preorder}
+use Rattle.index.proofs.Laws.{flipped, Preorder}
 use Rattle.rules.specs.Page.{all, above, rising}
 use Rattle.rules.specs.Node.{rank_by}
 

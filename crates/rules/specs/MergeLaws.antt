@@ -14,7 +14,7 @@ use Rattle.store.specs.declared.PageId.{PageId}
 use Rattle.store.specs.Laws.{apart}
 use Rattle.datom.specs.declared.Datom.{Datom}
 use Rattle.index.specs.Order.{is_less}
-use Rattle.index.specs.Laws.{Preorder}
+use Rattle.index.proofs.Laws.{Preorder}
 use Rattle.rules.specs.Node.{merge_datoms, merge_children, meets}
 use Rattle.rules.specs.Lists.{In, Rising, turned, below_all}
 

@@ -1,6 +1,6 @@
 -- `index::order_of_numbers` meets its contract. Assumes nothing.
 use native.Mathlib.Omega.{arith}
-use Rattle.index.specs.Ways.{less_number, greater_number, same_number}
+use Rattle.index.proofs.Ways.{less_number, greater_number, same_number}
 use Rattle.index.proofs.order_of_numbers.Goals as goal
 
 pub returns-then-a-b : goal.returns-then-a-b

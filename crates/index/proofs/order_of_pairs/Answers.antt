@@ -1,7 +1,7 @@
 -- `index::order_of_pairs` meets its contract: one law for each way through. Assumes nothing.
 use native.Mathlib.Omega.{arith}
 use mathlib.Core.Path.{sym, ◌∙◌}
-use Rattle.index.specs.Ways.{less_number, greater_number, same_number, less_front, greater_front, equal_front}
+use Rattle.index.proofs.Ways.{less_number, greater_number, same_number, less_front, greater_front, equal_front}
 use borrow.Author.Rules.{rules}
 use Rattle.index.proofs.order_of_pairs.Goals as goal
 

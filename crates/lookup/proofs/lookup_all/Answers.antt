@@ -6,7 +6,7 @@ use lib.ListN.{drop}
 use Rattle.datom.specs.Datom.{datoms_of}
 use Rattle.datom.specs.Laws.{datoms_from}
 use Rattle.index.specs.Order.{order_in}
-use Rattle.index.specs.Laws.{order_preorder}
+use Rattle.index.proofs.Laws.{order_preorder}
 use Rattle.rules.specs.Lookup.{lookup_all}
 use Rattle.rules.specs.Store.{fetch_page, env_of}
 use Rattle.lookup.specs.Steps.{all_met, all_lost, all_end}

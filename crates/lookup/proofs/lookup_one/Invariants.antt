@@ -1,7 +1,7 @@
 use native.Mathlib.Omega.{arith}
 use mathlib.Core.Path.{refl, sym, ◌∙◌}
 use Rattle.index.specs.Order.{order_in}
-use Rattle.index.specs.Laws.{order_preorder}
+use Rattle.index.proofs.Laws.{order_preorder}
 use Rattle.memory_store.specs.Readable.{opens}
 use Rattle.lookup.specs.Gap.{met_leaves, lost_leaves}
 use Rattle.lookup.specs.Steps.{next_real}

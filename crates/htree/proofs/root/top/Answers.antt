@@ -1,6 +1,6 @@
 -- `top` meets its contract: one child is the root, several are written as the root. Assumes nothing.
 use native.Mathlib.Omega.{arith}
-use Rattle.rules.specs.SplitLaws.{whole_part}
+use Rattle.rules.proofs.SplitLaws.{whole_part}
 use Rattle.htree.specs.Told.{Ready}
 use Rattle.htree.specs.Settle.{ready_next}
 use Rattle.htree.specs.Root.{top_one, top_put, top_refused}

@@ -1,6 +1,6 @@
 -- `content::is_below_behind` meets its contract: the first bytes of the texts tell, or the whole comparison. Assumes nothing.
 use mathlib.Core.Path.{sym, ◌∙◌}
-use Rattle.index.specs.Ways.{less_front}
+use Rattle.index.proofs.Ways.{less_front}
 use Rattle.index.specs.Named.{less_named, equal_named, greater_named}
 use borrow.Author.Rules.{rules}
 use Rattle.index.proofs.content.is_below_behind.Goals as goal

@@ -1,0 +1,6 @@
+-- What is proved of the definitions of specs/.
+pub mod Area
+pub mod Called
+pub mod Code
+pub mod Listed
+pub mod Upheld

@@ -25,7 +25,7 @@ use Rattle.rules.specs.Page.{Node, encode_page}
 use Rattle.rules.specs.Tree.{fine}
 use Rattle.rules.specs.Store.{bad_store, page_at, fetch_page, env_of, store_after}
 use Rattle.rules.specs.Round.{Writable, encoded_length, read_back}
-use Rattle.rules.proofs.Reads.{fetch_tells}
+use Rattle.rules.proofs.ReadLaws.{fetch_tells}
 use Rattle.history.proofs.Pages.{Extends}
 use Rattle.history.proofs.Held.{nth, nth_lt, held, EnvOk}
 

@@ -16,7 +16,7 @@ use Rattle.rules.specs.Page.{Node, good, all, above, rising, node_rules, read_pa
 use Rattle.rules.specs.Store.{page_at, fetch_page}
 use Rattle.rules.specs.Insert.{place, sort, batch_of}
 use Rattle.rules.specs.Lists.{In, Rising, all_in, all_of}
-use Rattle.rules.proofs.Reads.{Readable, fetch_tells}
+use Rattle.rules.proofs.ReadLaws.{Readable, fetch_tells}
 use Rattle.history.specs.Statement.{Known, gathered, WellFormed}
 use Rattle.history.proofs.Tree.{Tree, blank, last, item, InTree, Good, own_in}
 use Rattle.history.proofs.Pages.{Extends, holds_extends}

@@ -21,7 +21,7 @@ use Rattle.rules.specs.Lookup.{Finding}
 use Rattle.rules.specs.Store.{or_else, bad_scratch, bad_root, fetch_page, env_of}
 use Rattle.rules.specs.Insert.{Outcome, refuse, outcome, store_fault, root_fault, sort, leaf_of, fresh_tree, write_fresh, insert_at, insert_under, insert_counted, initialise_counted, batch_of, insert_bytes, initialise_bytes}
 use Rattle.rules.specs.Lists.{In, Rising}
-use Rattle.rules.proofs.Reads.{fetch_tells}
+use Rattle.rules.proofs.ReadLaws.{fetch_tells}
 use Rattle.rules.proofs.Sizes.{level_is, level_fine}
 use Rattle.history.specs.Statement.{Lent, WellFormed}
 use Rattle.history.specs.More.{FirstShared}

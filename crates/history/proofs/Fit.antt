@@ -16,7 +16,7 @@ use Rattle.rules.specs.Tree.{Fetched, fine}
 use Rattle.rules.specs.Store.{page_at, fetch_page}
 use Rattle.rules.specs.Listing.{Frame, eight, indices_of, pages_of, cursor_of, frame_of}
 use Rattle.rules.specs.Lists.{rank_most}
-use Rattle.rules.proofs.Reads.{fetch_tells, read_count}
+use Rattle.rules.proofs.ReadLaws.{fetch_tells, read_count}
 use Rattle.rules.proofs.Sizes.{level_fine}
 use Rattle.history.proofs.Tree.{Tree}
 use Rattle.history.proofs.Pages.{page, Holds, Stored}

@@ -14,7 +14,7 @@ use Rattle.index.proofs.Laws.{Preorder}
 use Rattle.rules.specs.Node.{any_pending}
 use Rattle.rules.specs.Tree.{Fetched}
 use Rattle.rules.specs.Lists.{In, Rising}
-use Rattle.rules.specs.Spans.{pendings, pendings_append, Closed}
+use Rattle.rules.proofs.Spans.{pendings, pendings_append, Closed}
 use Rattle.history.proofs.Order.{clash}
 use Rattle.history.proofs.Tree.{Tree, blank, last, item, InTree, Real, is_blank, real_flag, Full, Good, Exactly, Apart, pending, pending_in}
 use Rattle.history.proofs.Graft.{prepend, Tail, nothing, then, join, graft, graft_in, join_in, prepend_in, prepend_has, prepend_rest, ClosedItems, Around, graft_good, run_around, prepend_good}

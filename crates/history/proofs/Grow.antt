@@ -16,7 +16,7 @@ use Rattle.rules.specs.Node.{meets, merge_node, Span, longest_span, any_pending,
 use Rattle.rules.specs.Tree.{Env, Stage, go, fetch_at, put, split, is_over, settle, Below, flush, flush_all, insert_merged, insert_into, root_of, write_root, insert_tree}
 use Rattle.rules.specs.Lists.{In, Rising}
 use Rattle.rules.proofs.Sizes.{level_is}
-use Rattle.rules.specs.Spans.{pendings}
+use Rattle.rules.proofs.Spans.{pendings}
 use Rattle.history.proofs.Order.{clash}
 use Rattle.history.proofs.Tree.{Tree, last, InTree, Full, Good, own_in, Exactly, Apart}
 use Rattle.history.proofs.Pages.{Place, page, child, Holds, h_last, h_item, Stored, holds_extends, holds_own, holds_lengths, holds_real, leaf_full, real_last}

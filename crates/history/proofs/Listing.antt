@@ -31,7 +31,7 @@ use Rattle.rules.specs.Append.{bad_heap}
 use Rattle.rules.specs.Calls.{extent_of, is_unknown, start_call, step_call}
 use Rattle.rules.specs.Recorded.{start_call_law, step_call_law}
 use Rattle.rules.specs.Lists.{In, Rising, less}
-use Rattle.rules.proofs.Reads.{fetch_tells}
+use Rattle.rules.proofs.ReadLaws.{fetch_tells}
 use Rattle.rules.proofs.Sizes.{level_is, level_fine}
 use Rattle.history.specs.Statement.{Moment, at, Later, now, next, History, StepsAlong, handed}
 use Rattle.history.proofs.Fit.{Each, SmallFrame, ReadSmall, cursor_fits, frames_small}

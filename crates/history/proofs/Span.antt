@@ -7,7 +7,7 @@ use Rattle.store.specs.declared.PageId.{PageId}
 use Rattle.store.specs.Page.{none, is_none}
 use Rattle.rules.specs.Node.{Span, span_from, longest_span, any_pending}
 use Rattle.rules.specs.Lists.{In, in_append, in_get_d}
-use Rattle.rules.specs.Spans.{Closed}
+use Rattle.rules.proofs.Spans.{Closed}
 use Rattle.history.proofs.Order.{clash}
 
 -- all none

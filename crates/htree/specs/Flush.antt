@@ -22,7 +22,7 @@ use Rattle.rules.specs.Page.{Node, node_of, children_of, child_at}
 use Rattle.rules.specs.Node.{longest_span, any_pending, splice}
 use Rattle.rules.specs.Tree.{Env, Stage, stop, go, then, fetch_at, is_over, settle, Below, flush, flush_all, insert_merged, insert_into}
 use Rattle.rules.specs.Store.{env_of}
-use Rattle.rules.proofs.Reads.{env_capped}
+use Rattle.rules.proofs.ReadLaws.{env_capped}
 use Rattle.rules.proofs.Sizes.{Capped, Few, flush_no_bigger, insert_gives_few}
 use Rattle.memory_store.specs.FetchLaws.{InOrder}
 use Rattle.node.specs.declared.Span.{Span}

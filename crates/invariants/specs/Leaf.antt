@@ -12,7 +12,7 @@ use Rattle.answer.specs.declared.Rule.TheVariants.{LeafChild}
 use Rattle.rules.specs.Page.{child_at, children_of, Node, broken, good, node_of, all, child_rules}
 use Rattle.rules.specs.Tree.{fine}
 use Rattle.rules.specs.Store.{page_at, fetch_page}
-use Rattle.rules.proofs.Reads.{fetch_tells}
+use Rattle.rules.proofs.ReadLaws.{fetch_tells}
 use Rattle.memory_store.specs.Readable.{node_at}
 
 all_at : (cs : List PageId) (i : ℕ) → all is_none cs ≡ true → i < length cs → is_none (get_or cs i none) ≡ true

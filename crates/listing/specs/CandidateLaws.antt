@@ -16,7 +16,7 @@ use Rattle.index.specs.Order.{DatomOrd, named}
 use Rattle.rules.specs.Page.{Node, node_of, level_of, count_of}
 use Rattle.rules.specs.Tree.{Fetched, fine}
 use Rattle.rules.specs.Store.{page_at, fetch_page}
-use Rattle.rules.proofs.Reads.{fetch_tells}
+use Rattle.rules.proofs.ReadLaws.{fetch_tells}
 use Rattle.listing.specs.declared.candidate.Candidate.{Candidate}
 use Rattle.listing.specs.declared.candidate.Candidate.TheVariants.{Nothing, At, Twice}
 use Rattle.memory_store.specs.Readable.{node_at}

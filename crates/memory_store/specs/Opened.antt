@@ -13,7 +13,7 @@ use Rattle.answer.specs.declared.Fault.TheVariants.{WrongLevel}
 use Rattle.rules.specs.Page.{Node, node_of, level_of, count_of}
 use Rattle.rules.specs.Tree.{Fetched, faulty, fine, at_level, fetch_at}
 use Rattle.rules.specs.Store.{page_at, fetch_page, env_of}
-use Rattle.rules.proofs.Reads.{read_count, fetch_tells}
+use Rattle.rules.proofs.ReadLaws.{read_count, fetch_tells}
 use Rattle.memory_store.specs.declared.found.Found.TheVariants.{Faulty, Fine}
 use Rattle.memory_store.specs.declared.found.Opened.{Opened}
 use Rattle.memory_store.specs.declared.found.Opened.TheVariants as opened

@@ -12,7 +12,7 @@ use Rattle.answer.specs.declared.Fault.{Fault}
 use Rattle.rules.specs.Page.{Node, node_of, level_of, count_of, rising}
 use Rattle.rules.specs.Tree.{faulty, fine}
 use Rattle.rules.specs.Store.{bad_store, page_at, fetched, fetch_fault, fetch_page}
-use Rattle.rules.proofs.Reads.{read_count, fetch_tells}
+use Rattle.rules.proofs.ReadLaws.{read_count, fetch_tells}
 use Rattle.memory_store.specs.declared.found.Found.TheVariants.{Faulty, Fine}
 use Rattle.memory_store.specs.Reading.{told}
 use Rattle.memory_store.specs.FetchLaws.{in_order, page_long}

@@ -19,7 +19,7 @@ use Rattle.answer.specs.Names.{rule_number}
 use Rattle.rules.specs.Page.{Node, Read, broken, good, node_of, level_of, encode_page, rising, read_page, child_at, children_of}
 use Rattle.rules.specs.Node.{part_of}
 use Rattle.rules.proofs.SplitLaws.{whole_part}
-use Rattle.rules.proofs.Reads.{Readable, readable, read_count}
+use Rattle.rules.proofs.ReadLaws.{Readable, readable, read_count}
 use Rattle.memory_store.specs.declared.reader.Reading.TheVariants as reading
 use Rattle.memory_store.specs.Reading.{said}
 use Rattle.probe.specs.declared.Look.{Look}

@@ -2,5 +2,6 @@
 pub mod Within
 pub mod SplitLaws
 pub mod Sizes
-pub mod Reads
+pub mod ReadLaws
 pub mod Turns
+pub mod Spans

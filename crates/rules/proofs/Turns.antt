@@ -20,7 +20,7 @@ use Rattle.rules.specs.Node.{merge_node, meets, Span, longest_span, any_pending,
 use Rattle.rules.specs.Tree.{Fetched, faulty, fine, Env, Stage, stop, go, then, fetch_at, is_tall, put, put_all, split, is_over, settle, Below, flush, flush_all, insert_merged, insert_into, root_of, write_root}
 use Rattle.rules.proofs.SplitLaws.{split_shrinks}
 use Rattle.rules.proofs.Sizes.{Capped, level_fine, level_is, Few, span_within, flush_no_bigger, insert_gives_few, merged_lens}
-use Rattle.rules.specs.Spans.{pendings, Closed, none_counts, real_counts, pendings_append, pendings_drop, no_pendings, closed_behind, closed_append, closed_drop, closed_some, closed_last, merge_closed, span_sends, pendings_few}
+use Rattle.rules.proofs.Spans.{pendings, Closed, none_counts, real_counts, pendings_append, pendings_drop, no_pendings, closed_behind, closed_append, closed_drop, closed_some, closed_last, merge_closed, span_sends, pendings_few}
 
 -- what a call works in: every page read above level 0 ends with a real child, and every id that is written is real
 pub record Flushable (e : Env) : Type 0 where

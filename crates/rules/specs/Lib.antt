@@ -22,6 +22,5 @@ pub mod KnownSizes
 pub mod Checks
 pub mod Round
 pub mod MergeLaws
-pub mod Spans
 pub mod Appended
 pub mod AppendCases

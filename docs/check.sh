@@ -37,7 +37,7 @@ names() {
 while read -r name; do
     is_defined "$name" && s=0 || s=1
     count "$s" "no definition $name"
-done < <(names '[a-z_]+/specs/[A-Za-z]+\.[^` ]+')
+done < <(names '[a-z_]+/(specs|proofs)/[A-Za-z]+\.[^` ]+')
 while read -r name; do
     is_code "$name" && s=0 || s=1
     count "$s" "no function or type $name"

@@ -1,5 +1,5 @@
 -- What a value stands for over a heap: by its form, and the same after the heap has grown. "Content never has both an inline and a heap form."
-use Rattle.std.specs.Prelude.{ℕ, zero, suc, ◌+◌, ◌-◌, ◌*◌, ◌/◌, ◌%◌, ◌^◌, ◌≤◌, ◌<◌, Bool, ◌&&◌, ◌||◌, not, cond, List, ◌++◌, ◌⊎◌, ◌≡◌, ltb, eqb, length, take, drop}
+use Rattle.std.specs.Prelude.{ℕ, ◌+◌, ◌-◌, ◌*◌, ◌/◌, ◌%◌, ◌^◌, ◌≤◌, ◌<◌, Bool, ◌&&◌, ◌||◌, List, ◌++◌, ◌⊎◌, ◌≡◌, ltb, eqb, length}
 use Rattle.std.proofs.Math.Nat.{mod-add-div}
 use Rattle.std.proofs.Common.{arith, inl, inr, sym, ◌∙◌, ap, ap₂}
 use Rattle.std.proofs.Math.Bool.{true, false}
@@ -11,7 +11,7 @@ use Rattle.store.specs.Laws.{apart, both, bytes_length, little_bytes, low_bytes}
 use Rattle.store.specs.Cells.{cut}
 use Rattle.heap.specs.Constant.{word_there, bytes_there, integer_at, bytes_at, valid_int, padded, valid_str}
 use Rattle.heap.specs.Laws.{bytes_in}
-use Rattle.heap.specs.Grow.{word_grows, integer_grows, bytes_grow, text_grows, int_grows, str_grows}
+use Rattle.heap.specs.Grow.{integer_grows, text_grows, int_grows, str_grows}
 use Rattle.datom.specs.declared.Value.{Value}
 use Rattle.datom.specs.Value.{max_word, is_int, str_len, is_str, is_max, names_int, names_str, is_external, offset_of, stored_value, bound_value, Content, int, str, top, inline_content, named_int, named_str, content}
 use Rattle.datom.specs.Laws.{Str, str_form}

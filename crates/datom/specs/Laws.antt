@@ -1,10 +1,10 @@
 -- A datom's bytes and words round-trip, and what an inline byte string's word is made of.
-use Rattle.std.specs.Prelude.{ℕ, zero, suc, ◌+◌, ◌-◌, ◌*◌, ◌/◌, ◌%◌, ◌^◌, ◌≤◌, ◌<◌, Bool, true, false, ◌≡◌, refl, List, ◌∷◌, ◌++◌, leb, ltb, eqb, length, take, drop, get_or}
+use Rattle.std.specs.Prelude.{ℕ, zero, suc, ◌+◌, ◌-◌, ◌*◌, ◌/◌, ◌%◌, ◌^◌, ◌≤◌, ◌<◌, true, ◌≡◌, refl, List, ◌∷◌, ◌++◌, leb, ltb, eqb, length, take, drop, get_or}
 use Rattle.std.proofs.Math.Nat.{div-div-eq-div-mul, mod-add-div}
-use Rattle.std.proofs.Common.{add-zero, arith, sym, ◌∙◌, ap, ap₂, ltb-true, leb-true, eqb-true, take-add, take_all, take-take, drop-drop}
+use Rattle.std.proofs.Common.{add-zero, arith, sym, ◌∙◌, ltb-true, leb-true, eqb-true, take-add, take_all, take-take, drop-drop}
 use Rattle.store.specs.Words.{little, bytes_of, word_at}
 use Rattle.store.specs.Cells.{drop_take_le, cells_at, cells_from}
-use Rattle.store.specs.Laws.{apart, both, bytes_length, little_bytes, low_bytes, word_back, word_small}
+use Rattle.store.specs.Laws.{both, little_bytes, word_back, word_small}
 use Rattle.datom.specs.declared.Datom.{Datom}
 use Rattle.datom.specs.declared.Value.{Value}
 use Rattle.datom.specs.Value.{str_len, is_str}

@@ -1,14 +1,13 @@
 -- What each tag makes of a value, and the ways through its tests.
-use Rattle.std.specs.Prelude.{ℕ, ◌+◌, ◌*◌, ◌/◌, ◌%◌, ◌^◌, ◌≤◌, ◌<◌, Bool, ◌&&◌, ◌||◌, List, ◌≡◌, eqb}
+use Rattle.std.specs.Prelude.{ℕ, ◌*◌, ◌/◌, ◌^◌, ◌≤◌, ◌<◌, Bool, ◌&&◌, ◌||◌, List, ◌≡◌}
 use Rattle.std.proofs.Math.Decide.{dec_lt}
 use Rattle.std.proofs.Common.{arith, ◌∙◌}
 use Rattle.std.proofs.Math.Bool.{true, false, not}
 use Rattle.std.proofs.Math.Path.{refl, sym, ap}
-use borrow.Author.Tests.{ltb-true, lt-ltb, le-ltb, eq-eqb, ne_eqb, eqb-true}
-use Rattle.store.specs.Laws.{apart}
+use borrow.Author.Tests.{lt-ltb, le-ltb, eq-eqb, ne_eqb}
 use Rattle.heap.specs.Constant.{valid_int, valid_str}
 use Rattle.datom.specs.declared.Value.{Value}
-use Rattle.datom.specs.Value.{is_int, is_str, is_max, max_word, names_int, names_str, is_external, offset_of, formed_value, stored_value, bound_value}
+use Rattle.datom.specs.Value.{is_int, is_str, is_max, names_int, names_str, offset_of, formed_value, stored_value, bound_value}
 
 or_false : (b : Bool) → b ≡ (b || false)
 or_false true = refl

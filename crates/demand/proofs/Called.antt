@@ -36,8 +36,8 @@ use Rattle.history.proofs.Heap.{append_keeps}
 use Rattle.history.proofs.Listing.{later_later}
 use Rattle.history.proofs.Demand.{later_known}
 use Rattle.history.proofs.Base.{base_beyond}
-use Rattle.demand.proofs.Area.{root_word, pages_word}
-use Rattle.demand.proofs.TheCode.{call_writes}
+use Rattle.demand.specs.Area.{root_word, pages_word}
+use Rattle.demand.specs.Code.{call_writes}
 use Rattle.demand.specs.Caller.{Lends, reply_to, Wrote, plainly, named, going_on, grows_on, CallerMove, ran, stored, others}
 use Rattle.demand.specs.Runs.{Runs, start, then}
 

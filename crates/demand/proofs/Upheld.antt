@@ -33,17 +33,17 @@ use Rattle.florinwick.specs.Cursor.{cursor_bytes}
 use Rattle.florinwick.specs.Listing.{start_bytes, start_in, cursor_started, Begins, bounds_given}
 use Rattle.history.specs.Statement.{Known, Moment, at, Shared, inserts, Lent, WellFormed, outcome_of, Later, now, History, gathered, HandsOut}
 use Rattle.history.specs.More.{FirstShared, FirstNot, Asked}
-use Rattle.history.proofs.Order.{same_self}
+use Rattle.history.specs.Order.{same_self}
 use Rattle.history.proofs.Heap.{at_laws, later_agrees}
-use Rattle.history.proofs.Batch.{insert_records}
+use Rattle.history.specs.Batch.{insert_records}
 use Rattle.history.proofs.Listing.{later_later}
 use Rattle.history.proofs.Asked.{not_in}
 use Rattle.history.proofs.Again.{gathered_in}
 use Rattle.history.proofs.Base.{base, base_beyond}
-use Rattle.demand.proofs.Area.{detail_word}
+use Rattle.demand.specs.Area.{detail_word}
 use Rattle.demand.specs.Caller.{Lends, CallerHandsOut, HeldCall, CallerDemand3}
 use Rattle.demand.proofs.Called.{AnswerLeft, left_by, writes, runs_on}
-use Rattle.demand.proofs.Listed.{following, following_steps, heard}
+use Rattle.demand.specs.Listed.{following, following_steps, heard}
 
 -- 6 is Repeated and nothing else
 six_refused : (r : Refusal) → (answer_words (record { 0 = 0 }) (Refused r)).number ≡ 6 → (i : ℕ) × (r ≡ Repeated i)

@@ -1,6 +1,6 @@
 -- "The heap only grows": what stands below its length stays what it is.
-use Rattle.std.specs.Prelude.{ℕ, ◌+◌, ◌-◌, ◌*◌, ◌/◌, ◌%◌, ◌^◌, ◌≤◌, Bool, true, ◌&&◌, List, ◌++◌, ◌≡◌, refl, eqb, length, take, drop}
-use Rattle.std.proofs.Common.{arith, sym, ◌∙◌, leb-true, le-leb, length-append, length-drop}
+use Rattle.std.specs.Prelude.{ℕ, ◌+◌, ◌-◌, ◌%◌, ◌^◌, ◌≤◌, true, ◌&&◌, List, ◌++◌, ◌≡◌, eqb, length, take, drop}
+use Rattle.std.proofs.Common.{arith, leb-true, le-leb, length-append, length-drop}
 use Rattle.std.proofs.Math.Path.{ap}
 use Rattle.std.proofs.Math.Dec.{leb}
 use Rattle.std.proofs.lemmas.List.{take-append-le, drop-append-le}

@@ -1,7 +1,7 @@
 -- The ways through the tests of a constant.
 use Rattle.std.specs.Prelude.{ℕ, zero, suc, ◌+◌, ◌-◌, ◌*◌, ◌/◌, ◌%◌, ◌^◌, ◌≤◌, ◌<◌, Bool, true, false, ◌&&◌, ◌||◌, not, List, [], ◌∷◌, ◌++◌, ◌≡◌, refl, leb, ltb, eqb, get_or}
 use Rattle.std.proofs.Math.Decide.{dec_le}
-use Rattle.std.proofs.Common.{pow-suc, mul-add, mul_assoc, mul_left_comm, ◌∙◌, length-take, length-drop, take-append-drop, drop-drop, get_or-drop, get_or-take, length-take-le}
+use Rattle.std.proofs.Common.{pow-suc, mul-add, mul_assoc, mul_left_comm, ◌∙◌, length-take, length-drop, take-append-drop, drop-drop, get_or-take, length-take-le}
 use Rattle.std.proofs.Math.Nat.{pow-zero, one-le-pow, add-mul-div_left, div-eq_of_lt}
 use native.Mathlib.Omega.{arith}
 use Rattle.std.proofs.Math.Path.{sym, ap}

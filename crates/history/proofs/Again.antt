@@ -18,9 +18,9 @@ use Rattle.rules.specs.Calls.{extent_of}
 use Rattle.rules.specs.Lists.{In, in_left, in_right, turned}
 use Rattle.history.specs.Statement.{Known, at, Call, inserts, given_root, given_batch, outcome_of, calls, next, gathered, WellFormed, Shared}
 use Rattle.history.specs.More.{FirstShared, StaysFormed, GrewFrom, Resending, StaysHeld, AcceptedFormed}
-use Rattle.history.proofs.Order.{clash}
-use Rattle.history.proofs.After.{store_same}
-use Rattle.history.proofs.Sort.{Fresh}
+use Rattle.history.specs.Order.{clash}
+use Rattle.history.specs.After.{store_same}
+use Rattle.history.specs.Sort.{Fresh}
 use Rattle.history.proofs.Calls.{Inserted, badly, early, met, stays, done}
 use Rattle.history.proofs.Agree.{formed_agrees}
 use Rattle.history.proofs.Heap.{at_laws, later_agrees}

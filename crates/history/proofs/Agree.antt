@@ -18,10 +18,10 @@ use Rattle.rules.specs.Insert.{place, sort, batch_of}
 use Rattle.rules.specs.Lists.{In, Rising, all_in, all_of}
 use Rattle.rules.proofs.ReadLaws.{Readable, fetch_tells}
 use Rattle.history.specs.Statement.{Known, gathered, WellFormed}
-use Rattle.history.proofs.Tree.{Tree, blank, last, item, InTree, Good, own_in}
-use Rattle.history.proofs.Pages.{Extends, holds_extends}
-use Rattle.history.proofs.Held.{Storable}
-use Rattle.history.proofs.Sort.{Distinct, within, sort_in}
+use Rattle.history.specs.Tree.{Tree, blank, last, item, InTree, Good, own_in}
+use Rattle.history.specs.Pages.{Extends, holds_extends}
+use Rattle.history.specs.Held.{Storable}
+use Rattle.history.specs.Sort.{Distinct, within, sort_in}
 use Rattle.history.proofs.Calls.{RootIs}
 
 -- a root as the pages hold it: a good tree of exactly the datoms that led to it, no two of them equal

@@ -22,11 +22,11 @@ use Rattle.rules.specs.Lists.{In, in_left, in_right}
 use Rattle.rules.proofs.Sizes.{level_is, level_fine}
 use Rattle.history.specs.Statement.{WellFormed, Shared}
 use Rattle.history.specs.More.{FirstNot, Asked}
-use Rattle.history.proofs.Tree.{Tree, Good, Exactly}
-use Rattle.history.proofs.Pages.{page, child, Holds, no_page, a_page}
-use Rattle.history.proofs.Look.{Has, Looked, is_met, is_absent, lookup_ok}
-use Rattle.history.proofs.After.{in_order}
-use Rattle.history.proofs.Checks.{Finds, is_clear, is_found, finds_even, finds_few, finds_word, finds_order}
+use Rattle.history.specs.Tree.{Tree, Good, Exactly}
+use Rattle.history.specs.Pages.{page, child, Holds, no_page, a_page}
+use Rattle.history.specs.Look.{Has, Looked, is_met, is_absent, lookup_ok}
+use Rattle.history.specs.After.{in_order}
+use Rattle.history.specs.Checks.{Finds, is_clear, is_found, finds_even, finds_few, finds_word, finds_order}
 use Rattle.history.proofs.Calls.{RootIs, root_known}
 
 -- a batch whose first datom has index i: all of it is as said, or the first that is not

@@ -12,8 +12,8 @@ use Rattle.rules.specs.Lists.{In}
 use Rattle.rules.specs.KnownSizes.{size_known}
 use Rattle.history.specs.Statement.{Known, Moment, at, History, gathered, HandsOut, Shared, Demand3}
 use Rattle.history.specs.More.{Beyond3, Resending, StaysHeld, AcceptedFormed}
-use Rattle.history.proofs.Order.{clash}
-use Rattle.history.proofs.Sort.{within}
+use Rattle.history.specs.Order.{clash}
+use Rattle.history.specs.Sort.{within}
 use Rattle.history.proofs.Demand.{demand, hands_out, beyond}
 use Rattle.history.proofs.Again.{resending, stays_held, accepted_formed}
 

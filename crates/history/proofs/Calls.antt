@@ -25,15 +25,15 @@ use Rattle.rules.proofs.ReadLaws.{fetch_tells}
 use Rattle.rules.proofs.Sizes.{level_is, level_fine}
 use Rattle.history.specs.Statement.{Lent, WellFormed}
 use Rattle.history.specs.More.{FirstShared}
-use Rattle.history.proofs.Tree.{Tree, blank, last, Good, Exactly, pending, pending_in, pending_good}
-use Rattle.history.proofs.Pages.{page, child, Holds, no_page, a_page, h_last, h_item, Stored, leaf_full, none_is}
-use Rattle.history.proofs.Look.{Lookups, none_met, some_met, lookups_ok}
-use Rattle.history.proofs.Held.{held, EnvOk, Storable, none_written, same_more, Excused, Goes, stops, goes, goes_map, at_own}
-use Rattle.history.proofs.Grow.{regrown, Rooted, write_root_ok, insert_tree_ok}
-use Rattle.history.proofs.After.{in_order, env_ok}
-use Rattle.history.proofs.Sort.{Distinct, Fresh, rising_distinct, sort_in, sort_rising}
-use Rattle.history.proofs.Checks.{Early, Finds, is_clear, is_found, finds_even, finds_few, finds_word, finds_order, finds_distinct}
-use Rattle.history.proofs.Batch.{batch_words}
+use Rattle.history.specs.Tree.{Tree, blank, last, Good, Exactly, pending, pending_in, pending_good}
+use Rattle.history.specs.Pages.{page, child, Holds, no_page, a_page, h_last, h_item, Stored, leaf_full, none_is}
+use Rattle.history.specs.Look.{Lookups, none_met, some_met, lookups_ok}
+use Rattle.history.specs.Held.{held, EnvOk, Storable, none_written, same_more, Excused, Goes, stops, goes, goes_map, at_own}
+use Rattle.history.specs.Grow.{regrown, Rooted, write_root_ok, insert_tree_ok}
+use Rattle.history.specs.After.{in_order, env_ok}
+use Rattle.history.specs.Sort.{Distinct, Fresh, rising_distinct, sort_in, sort_rising}
+use Rattle.history.specs.Checks.{Early, Finds, is_clear, is_found, finds_even, finds_few, finds_word, finds_order, finds_distinct}
+use Rattle.history.specs.Batch.{batch_words}
 
 -- a root as the pages hold it: a good tree of exactly the datoms of u
 pub record RootIs (t : DatomOrd) (x : Extent) (s : List ℕ) (root : PageId) (u : List Datom) : Type 0 where

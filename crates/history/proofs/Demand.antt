@@ -23,10 +23,10 @@ use Rattle.rules.specs.Listing.{whole}
 use Rattle.rules.specs.Lists.{In, in_right, Rising, turned}
 use Rattle.history.specs.Statement.{Known, Moment, at, inserts, given_root, given_batch, Lent, roots_after, outcome_of, Next, calls, appends, others, Later, now, next, History, gathered, Between, HandsOut, WellFormed, Shared, Demand3}
 use Rattle.history.specs.More.{Answered, CursorsFit, Beyond3}
-use Rattle.history.proofs.Order.{clash}
-use Rattle.history.proofs.Fit.{read_small}
-use Rattle.history.proofs.Held.{Excused}
-use Rattle.history.proofs.Sort.{Fresh, within, sort_in, sort_rising, rising_once, within_in, within_rising}
+use Rattle.history.specs.Order.{clash}
+use Rattle.history.specs.Fit.{read_small}
+use Rattle.history.specs.Held.{Excused}
+use Rattle.history.specs.Sort.{Fresh, within, sort_in, sort_rising, rising_once, within_in, within_rising}
 use Rattle.history.proofs.Calls.{RootIs, root_known, Inserted, badly, early, met, stays, done}
 use Rattle.history.proofs.Roots.{check_root_law}
 use Rattle.history.proofs.Asked.{asked_ok}

@@ -22,8 +22,8 @@ use Rattle.rules.specs.Lists.{In}
 use Rattle.rules.specs.Table.{d, eavt, run}
 use Rattle.rules.specs.Open.{rules}
 use Rattle.history.specs.Statement.{Known, Moment, at, Call, inserts, initialises, no_root, Start, beginning, Lent, outcome_of, after, calls, others, Later, now, next, History, gathered, HandsOut, WellFormed}
-use Rattle.history.proofs.Sort.{within}
-use Rattle.history.proofs.Batch.{datoms_bytes_law}
+use Rattle.history.specs.Sort.{within}
+use Rattle.history.specs.Batch.{datoms_bytes_law}
 use Rattle.history.proofs.Base.{base, base_hands_out}
 
 -- a batch of datoms, with scratch in order

@@ -15,7 +15,7 @@ use Rattle.rules.specs.Append.{bad_heap, Appending, heap_after}
 use Rattle.rules.specs.Appended.{heap_in, heap_good, Keeps, word_keeps, text_keeps}
 use Rattle.rules.specs.Calls.{used_heap, order_for, ord_of, record_after, record_grown}
 use Rattle.history.specs.Statement.{Moment, at, Constant, integer, text, appending, outcome_of, Next, calls, appends, others, Later, now, next}
-use Rattle.history.proofs.After.{long_enough}
+use Rattle.history.specs.After.{long_enough}
 
 -- the laws of a moment's order
 pub at_laws : (m : Moment) → Preorder (at m).cmp

@@ -25,12 +25,12 @@ use Rattle.rules.specs.Calls.{extent_of, is_unknown, ord_of}
 use Rattle.rules.specs.Recorded.{insert_call_law, initialise_call_law}
 use Rattle.rules.specs.Lists.{In, in_left, in_right, in_append}
 use Rattle.history.specs.Statement.{Known, Moment, at, Call, inserts, initialises, given_root, given_batch, no_root, Start, beginning, left, outcome_of, after, Lent, Fair, appending, appended, Next, calls, appends, others, Later, now, next, History, gathered}
-use Rattle.history.proofs.Tree.{blank}
-use Rattle.history.proofs.Pages.{no_page, Extends, holds_extends, none_is}
-use Rattle.history.proofs.Held.{nth, held, Storable}
-use Rattle.history.proofs.Grow.{Rooted}
-use Rattle.history.proofs.After.{fetch_kept, long_enough, store_keeps, after_fits, held_after}
-use Rattle.history.proofs.Sort.{Distinct, Fresh, distinct_append}
+use Rattle.history.specs.Tree.{blank}
+use Rattle.history.specs.Pages.{no_page, Extends, holds_extends, none_is}
+use Rattle.history.specs.Held.{nth, held, Storable}
+use Rattle.history.specs.Grow.{Rooted}
+use Rattle.history.specs.After.{fetch_kept, long_enough, store_keeps, after_fits, held_after}
+use Rattle.history.specs.Sort.{Distinct, Fresh, distinct_append}
 use Rattle.history.proofs.Calls.{Inserted, Called, refuses, accepts, insert_ok, called, initialise_ok}
 use Rattle.history.proofs.Agree.{KnownOk, fetch_agrees, known_agrees}
 use Rattle.history.proofs.Heap.{at_laws, record_after_law, record_grown_law, next_agrees, later_agrees, next_heap}

@@ -34,17 +34,17 @@ use Rattle.rules.specs.Lists.{In, Rising, less}
 use Rattle.rules.proofs.ReadLaws.{fetch_tells}
 use Rattle.rules.proofs.Sizes.{level_is, level_fine}
 use Rattle.history.specs.Statement.{Moment, at, Later, now, next, History, StepsAlong, handed}
-use Rattle.history.proofs.Fit.{Each, SmallFrame, ReadSmall, cursor_fits, frames_small}
+use Rattle.history.specs.Fit.{Each, SmallFrame, ReadSmall, cursor_fits, frames_small}
 use Rattle.history.specs.More.{AllFit}
-use Rattle.history.proofs.Order.{up_to, Front, below_front, up_front}
-use Rattle.history.proofs.Tree.{Tree, InTree, Good, Exactly}
-use Rattle.history.proofs.Pages.{page, child, Holds, no_page, a_page, Extends, level_extends, holds_extends, Stored}
-use Rattle.history.proofs.Child.{child_by, child_stored}
-use Rattle.history.proofs.Step.{down, opens_by, along, frames_agree}
-use Rattle.history.proofs.Lists.{Left, left_next, at_end, goes_on}
-use Rattle.history.proofs.Held.{at_own}
-use Rattle.history.proofs.After.{in_order}
-use Rattle.history.proofs.Sort.{within, within_in, within_rising, within_none}
+use Rattle.history.specs.Order.{up_to, Front, below_front, up_front}
+use Rattle.history.specs.Tree.{Tree, InTree, Good, Exactly}
+use Rattle.history.specs.Pages.{page, child, Holds, no_page, a_page, Extends, level_extends, holds_extends, Stored}
+use Rattle.history.specs.Child.{child_by, child_stored}
+use Rattle.history.specs.Step.{down, opens_by, along, frames_agree}
+use Rattle.history.specs.Lists.{Left, left_next, at_end, goes_on}
+use Rattle.history.specs.Held.{at_own}
+use Rattle.history.specs.After.{in_order}
+use Rattle.history.specs.Sort.{within, within_in, within_rising, within_none}
 use Rattle.history.proofs.Calls.{RootIs, root_known}
 use Rattle.history.proofs.Agree.{good_agrees, ascends_agrees}
 use Rattle.history.proofs.Heap.{at_laws, later_agrees}

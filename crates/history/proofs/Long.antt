@@ -17,7 +17,7 @@ use Rattle.rules.specs.Table.{d}
 use Rattle.rules.specs.Recorded.{order_known_law}
 use Rattle.rules.specs.Open.{rules}
 use Rattle.history.specs.Statement.{Known, Moment, no_root, Start, beginning, outcome_of, after, Constant, text, appending, appended, appends, others, Later, now, next, History, HandsOut}
-use Rattle.history.proofs.Sort.{within}
+use Rattle.history.specs.Sort.{within}
 use Rattle.history.proofs.Example.{inserting, grown, At, order_at, lent, then_inserted, lists, one_formed, shared_again}
 
 -- the bytes 1 to 9, and the constant: "its length word, its bytes, and zeros to a multiple of 8"

@@ -12,7 +12,7 @@ use Rattle.index.specs.Numbers.{index_number}
 use Rattle.rules.specs.Recorded.{order_known_law}
 use Rattle.rules.specs.Open.{rules}
 use Rattle.history.specs.Statement.{Known, Moment, no_root, Start, beginning, after, calls, now, next, History, HandsOut}
-use Rattle.history.proofs.Sort.{within}
+use Rattle.history.specs.Sort.{within}
 use Rattle.history.proofs.Example.{At, no_heap_law, initialising, grown, lent, lists, order_at}
 
 -- a datom of entity, attribute and value

@@ -9,9 +9,9 @@ use Rattle.answer.specs.declared.Check.TheVariants.{Sound}
 use Rattle.rules.specs.Store.{bad_store, fetch_page}
 use Rattle.rules.specs.Check.{check_root, check_tree}
 use Rattle.rules.proofs.Sizes.{level_is, level_fine}
-use Rattle.history.proofs.Tree.{Tree, Good}
-use Rattle.history.proofs.Pages.{child, Holds, no_page, a_page}
-use Rattle.history.proofs.Sound.{root_sound}
+use Rattle.history.specs.Tree.{Tree, Good}
+use Rattle.history.specs.Pages.{child, Holds, no_page, a_page}
+use Rattle.history.specs.Sound.{root_sound}
 use Rattle.history.proofs.Calls.{RootIs, root_known}
 
 pub check_root_law :

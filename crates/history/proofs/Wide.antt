@@ -11,7 +11,7 @@ use Rattle.rules.specs.Lists.{In}
 use Rattle.rules.specs.Table.{d, eavt, run}
 use Rattle.rules.specs.Open.{rules}
 use Rattle.history.specs.Statement.{Known, Moment, Call, inserts, initialises, no_root, beginning, outcome_of, after, calls, now, next, History, HandsOut}
-use Rattle.history.proofs.Sort.{within}
+use Rattle.history.specs.Sort.{within}
 use Rattle.history.proofs.Example.{grown, no_heap, At, order_at, pages, lent, lists, one_formed, shared_again}
 
 wide : In 8192 sizes

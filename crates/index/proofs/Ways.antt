@@ -1,6 +1,6 @@
 -- The ways through a comparison of two datoms.
 use Prim.Native.Nat.{ℕ, ◌<◌, compare, Ordering}
-use Rattle.std.proofs.Common.{arith, inl, inr, ◌∙◌}
+use Rattle.std.proofs.Common.{inl, inr, ◌∙◌}
 use Rattle.std.specs.Prelude.{List, [], ◌∷◌, true, ◌⊎◌, ◌≡◌, refl}
 use Rattle.store.specs.Laws.{apart}
 use Rattle.datom.specs.declared.Datom.{Datom}

@@ -1,8 +1,8 @@
 -- Which datoms an order lets be given, be stored, or be a bound.
-use Rattle.std.specs.Prelude.{ℕ, ◌^◌, ◌<◌, true, List, ◌++◌, ◌≡◌}
+use Rattle.std.specs.Prelude.{ℕ, ◌^◌, ◌<◌, true, List, ◌≡◌}
 use Rattle.std.proofs.Math.Path.{refl, sym}
 use Rattle.datom.specs.declared.Datom.{Datom}
-use Rattle.datom.specs.Value.{stored_value, bound_value}
+use Rattle.datom.specs.Value.{bound_value}
 use Rattle.datom.specs.Datom.{formed_datom, stored_datom, bound_datom}
 use Rattle.datom.specs.Stored.{stored_int, stored_formed}
 use Rattle.index.specs.declared.Index.{Index}

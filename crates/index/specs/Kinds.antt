@@ -1,13 +1,13 @@
 -- The three kinds of content, and what a comparison by them reads of the heap.
 use Prim.Native.Nat.{ℕ, zero, suc, ◌+◌, ◌*◌, ◌/◌, ◌%◌, ◌^◌, ◌<◌, ◌≤◌, compare}
 use Rattle.std.proofs.Common.{arith, sym, ◌∙◌, ap}
-use Rattle.std.specs.Prelude.{Bool, ◌&&◌, not, List, ◌∷◌, ◌++◌, length, take, drop}
+use Rattle.std.specs.Prelude.{Bool, not, List, ◌∷◌, length, take, drop}
 use Rattle.std.proofs.Math.Bool.{true, false}
 use Rattle.std.proofs.Math.Path.{◌≡◌, refl}
-use borrow.Author.Tests.{eqb-true, eqb-false, ltb-false, le-ltb}
+use borrow.Author.Tests.{eqb-true, le-ltb}
 use Rattle.std.proofs.lemmas.List.{take-append-le}
 use Rattle.store.specs.Words.{bytes_of, patch}
-use Rattle.store.specs.Laws.{apart, bytes_length}
+use Rattle.store.specs.Laws.{bytes_length}
 use Rattle.heap.specs.Constant.{word_there, bytes_there, integer_at, bytes_at}
 use Rattle.datom.specs.declared.Value.{Value}
 use Rattle.datom.specs.Value.{is_int, str_len, is_str, is_max, names_int, names_str, is_external, offset_of, Content, int, str, top, inline_content, named_int, named_str, content}
@@ -16,8 +16,7 @@ use Rattle.datom.specs.Stored as stored
 use Rattle.datom.specs.Stored.{Tag01, tag_01, Tag10, tag_10, Tag11, tag_11, int_word}
 use Rattle.datom.specs.Content.{content_inline, content_near, content_int, content_far_int, content_far_str, content_max}
 use Rattle.index.specs.declared.Order.TheVariants.{Less, Equal, Greater}
-use Rattle.index.specs.Order.{and_then, cmp_bytes, cmp_content, named}
-use Rattle.index.specs.Compare.{cmp_lt, cmp_gt, cmp_eq}
+use Rattle.index.specs.Order.{cmp_bytes, cmp_content, named}
 
 -- "Integers come before byte strings, these before max"
 unfoldable pub kind_of : Content → ℕ

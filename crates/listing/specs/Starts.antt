@@ -6,9 +6,7 @@ use Rattle.store.specs.declared.PageId.{PageId}
 use Rattle.store.specs.Laws.{apart}
 use Rattle.answer.specs.declared.Fault.{Fault}
 use Rattle.answer.specs.declared.Refusal.TheVariants.{Damaged}
-use Rattle.answer.specs.declared.Cursor.{Cursor}
 use Rattle.answer.specs.declared.Start.TheVariants as start
-use Rattle.answer.specs.declared.Started.{Started}
 use Rattle.rules.specs.Listing.{Frame, Path, lost_at, path, cursor_of, eight, refuse_start, join_paths}
 use Rattle.listing.specs.declared.way.Way.{Way}
 use Rattle.listing.specs.declared.descent.End.TheVariants.{Bottom, Lost}

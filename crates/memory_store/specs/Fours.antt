@@ -1,7 +1,7 @@
 -- What the reader's tests of four datoms, or four children, at once say of the list.
 use Rattle.std.specs.Prelude.{◌≡◌, ℕ, ◌+◌, ◌*◌, ◌^◌, ◌<◌, ◌≤◌, true, false, ◌⊎◌, List, drop}
 use native.Mathlib.Omega.{arith}
-use Rattle.std.proofs.Common.{inl, inr, sym, ap, ◌∙◌}
+use Rattle.std.proofs.Common.{inl, inr, sym, ◌∙◌}
 use Rattle.store.specs.declared.PageId.{PageId}
 use Rattle.store.specs.Words.{word_at, cells}
 use Rattle.store.specs.Page.{page, page_of}

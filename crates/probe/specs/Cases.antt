@@ -30,7 +30,7 @@ use Rattle.rules.specs.Insert.{Outcome, leaf_of, insert, initialise, insert_byte
 use Rattle.rules.specs.Listing.{eight, Listed, whole, cut, start_list, step_list, listing}
 use Rattle.rules.specs.Check.{check_tree}
 use Rattle.rules.specs.Held.{held_bytes}
-use Rattle.rules.specs.Calls.{extent_of, insert_call, initialise_call, held_call, start_call, step_call, check_call}
+use Rattle.rules.specs.Calls.{insert_call, initialise_call, held_call, start_call, step_call, check_call}
 use Rattle.rules.specs.Entry.{insert_reply, insert_named_reply}
 use Rattle.rules.specs.Table.{eavt, d, run, scratch, Place, went, calls, small}
 use Rattle.rules.specs.Open.{rules}

@@ -7,7 +7,7 @@ use Rattle.std.proofs.Math.ListN.{get_or-eq_default}
 use Rattle.store.specs.Words.{word_at, patch}
 use Rattle.store.specs.Page.{page, none, page_of}
 use Rattle.store.specs.Size.{most_size, most_datoms, capacity}
-use Rattle.store.specs.Laws.{apart, cells_length, Known, known_size}
+use Rattle.store.specs.Laws.{apart, cells_length, known_size}
 use Rattle.store.specs.Cells.{cells_end, pages_at}
 use Rattle.datom.specs.declared.Datom.{Datom}
 use Rattle.datom.specs.Datom.{datom_at, datom_of, datoms_of}

@@ -16,7 +16,7 @@ use Rattle.index.specs.Order.{DatomOrd}
 use Rattle.answer.specs.declared.Rule.{Rule}
 use Rattle.answer.specs.declared.Fault.TheVariants.{Missing}
 use Rattle.rules.specs.Page.{Node, Read, broken, good, unless, node_of, level_of, count_of, all, rising, older, child_rules, node_rules, read_page}
-use Rattle.rules.specs.Tree.{faulty, fine, Env}
+use Rattle.rules.specs.Tree.{faulty, fine}
 use Rattle.rules.specs.Store.{page_at, read_as, fetch_page, env_of}
 use Rattle.rules.proofs.Sizes.{Capped}
 use Rattle.rules.proofs.Turns.{Flushable}

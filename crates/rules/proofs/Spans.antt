@@ -1,6 +1,6 @@
 -- Pending children: how many there are, lists of children whose last one is real, and the longest span in such a list: a run of nones, and not
 -- empty where any child is none.
-use Prim.Native.Nat.{ℕ, zero, suc, ◌+◌, ◌-◌, ◌≤◌, ◌<◌, Ordering}
+use Prim.Native.Nat.{ℕ, zero, suc, ◌+◌, ◌≤◌, ◌<◌, Ordering}
 use Rattle.std.proofs.Math.Decide.{dec_le}
 use Rattle.std.proofs.Common.{arith, inl, inr, sym, ◌∙◌, ap, ltb-true, ltb-false, get_or-drop, drop-drop}
 use Rattle.std.specs.Prelude.{Bool, true, false, ◌||◌, cond, List, [], ◌∷◌, ◌++◌, ◌⊎◌, ◌≡◌, refl, length, drop, get_or, replicate}

@@ -1,5 +1,5 @@
 -- Document 02, Two: appends to the constant heap, "a lent slice growing by 8-byte words". What one answers, and what it stores.
-use Rattle.std.specs.Prelude.{ℕ, ◌+◌, ◌%◌, ◌^◌, Bool, ◌||◌, not, List, [], ◌++◌, leb, ltb, eqb, length}
+use Rattle.std.specs.Prelude.{ℕ, ◌+◌, ◌^◌, Bool, ◌||◌, List, [], ◌++◌, leb, ltb, length}
 use Rattle.store.specs.Words.{bytes_of, pad, patch}
 unfoldable pub use Rattle.heap.specs.Constant.{bad_heap}
 use Rattle.heap.specs.Constant.{up_to8}

@@ -1,10 +1,10 @@
 -- What an append leaves: "The heap only grows", and the constant stands where the value says.
-use Rattle.std.specs.Prelude.{ℕ, zero, suc, ◌+◌, ◌-◌, ◌%◌, ◌^◌, ◌≤◌, ◌<◌, Bool, ◌||◌, not, ◌≡◌, leb, ltb, eqb, take}
+use Rattle.std.specs.Prelude.{ℕ, zero, suc, ◌+◌, ◌-◌, ◌%◌, ◌^◌, ◌≤◌, ◌<◌, Bool, ◌||◌, ◌≡◌, leb, ltb, take}
 use Rattle.std.proofs.Common.{arith, ◌∙◌, length-append, drop-drop}
 use Rattle.std.proofs.Math.Bool.{true, false}
 use mathlib.Core.List.{List, [], ◌++◌}
 use Rattle.std.proofs.Math.Path.{refl, sym, ap}
-use borrow.Author.Tests.{ltb-false, leb-false, eqb-true, le-ltb, le-leb, eq-eqb, not-false}
+use borrow.Author.Tests.{ltb-false, leb-false, le-ltb, le-leb, eq-eqb}
 use Rattle.std.proofs.Math.ListN.{length, drop}
 use Rattle.std.proofs.Math.Seq.{take_at, drop_at, length-take-le, take_all}
 use Rattle.store.specs.Words.{bytes_of, word_at, zeros, pad, patch}

@@ -9,7 +9,7 @@ use Rattle.answer.specs.declared.Fault.TheVariants.{WrongLevel, EqualDatoms}
 use Rattle.answer.specs.declared.Refusal.{Refusal}
 use Rattle.answer.specs.declared.Refusal.TheVariants.{Damaged, TooTall, NoRoom}
 use Rattle.rules.specs.Page.{Node}
-use Rattle.rules.specs.Node.{meets, merge_node, Span, longest_span, any_pending, split_parts, split_up, splice}
+use Rattle.rules.specs.Node.{meets, merge_node, longest_span, any_pending, split_parts, split_up, splice}
 
 -- what reading a page gives
 pub data Fetched : Type 0 where

@@ -1,6 +1,5 @@
 -- `append_bytes` meets its contract on every input. Assumes nothing.
 use Rattle.rules.specs.Append.{append_text}
-use borrow.Author.Rules.{rules}
 use Rattle.append.proofs.append_bytes.Goals as goal
 
 pub returns : goal.returns

@@ -3,7 +3,6 @@ use native.Mathlib.Omega.{arith}
 use mathlib.Core.Path.{sym, ◌∙◌}
 use Rattle.rules.specs.Appended.{heap_in}
 use Rattle.append.specs.Ways.{heap_bad, has_inline, heap_full_law, has_room, part_lent, is_stored}
-use borrow.Author.Rules.{rules}
 use Rattle.append.proofs.append_constant.Goals as goal
 
 pub returns-then-is_bad : goal.returns-then-is_bad

@@ -1,6 +1,5 @@
 -- `append_u64` meets its contract on every input. Assumes nothing.
 use Rattle.rules.specs.Append.{append_word}
-use borrow.Author.Rules.{rules}
 use Rattle.append.proofs.append_u64.Goals as goal
 
 pub returns : goal.returns

@@ -1,7 +1,6 @@
 -- `append::is_full` meets its contract: the offset, the word, then the bytes behind it. Assumes nothing.
 use native.Mathlib.Omega.{arith}
 use Rattle.append.specs.Ways.{offset_large, no_word, no_bytes}
-use borrow.Author.Rules.{rules}
 use Rattle.append.proofs.is_full.Goals as goal
 
 pub returns-then-used-ge-OFFSETS : goal.returns-then-used-ge-OFFSETS

@@ -4,7 +4,6 @@ use mathlib.Core.Path.{◌∙◌}
 use lib.ListN.{length}
 use Rattle.rules.specs.Appended.{up_to}
 use Rattle.append.specs.Ways.{constant_made}
-use borrow.Author.Rules.{rules}
 use Rattle.append.proofs.put_constant.Goals as goal
 
 pub put_padded-requires : goal.put_padded-requires

@@ -1,6 +1,5 @@
 -- `datom_at` meets its contract: four words one after the other. Assumes nothing.
 use Rattle.datom.specs.Datom.{datom_at}
-use borrow.Author.Rules.{rules}
 use Rattle.datom.proofs.datom_at.Goals as goal
 
 pub returns : goal.returns

@@ -1,9 +1,7 @@
 -- `joined` meets its contract: the bytes from the last one on, as a number. Assumes nothing.
-use Prim.Native.Nat.{◌-◌, ◌≤◌}
+use Prim.Native.Nat.{◌-◌}
 use native.Mathlib.Omega.{arith}
 use mathlib.Core.Path.{◌≡◌}
-use lib.ListN.{length, drop}
-use Rattle.store.specs.Words.{little}
 use Rattle.datom.specs.Bytes.{little_rest, little_none, little_step}
 use Rattle.datom.proofs.joined.Goals as goal
 

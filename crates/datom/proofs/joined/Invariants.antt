@@ -1,9 +1,7 @@
-use Prim.Native.Nat.{◌-◌, ◌≤◌}
-use native.Mathlib.Omega.{arith}
+use Prim.Native.Nat.{◌≤◌}
 use mathlib.Core.Path.{◌≡◌}
 use lib.ListN.{length, drop}
 use Rattle.store.specs.Words.{little}
-use Rattle.datom.specs.Bytes.{little_rest, little_none, little_step}
 use Rattle.datom.proofs.joined.Given as goal
 
 abbrev pub invariant-loop-i : goal.invariant-loop-i

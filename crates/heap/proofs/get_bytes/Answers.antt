@@ -2,9 +2,7 @@
 use native.Mathlib.Nat.{add-sub_cancel_left}
 use native.Mathlib.Omega.{arith}
 use mathlib.Core.Path.{sym, ◌∙◌}
-use borrow.Author.Tests.{not-true, not-false}
 use Rattle.heap.specs.Laws.{bytes_in, bytes_gone, bytes_there_law}
-use borrow.Author.Rules.{rules}
 use Rattle.heap.proofs.get_bytes.Goals as goal
 
 pub returns-then-not-has_bytes : goal.returns-then-not-has_bytes

@@ -1,10 +1,6 @@
 -- `heap::get_u64` meets its contract. Assumes nothing.
-use mathlib.Core.Bool.{true, false}
-use mathlib.Core.Path.{◌≡◌, sym, ◌∙◌}
-use borrow.Author.Tests.{not-true, not-false}
-use Rattle.heap.specs.Constant.{word_there}
+use mathlib.Core.Path.{sym, ◌∙◌}
 use Rattle.heap.specs.Laws.{word_in, integer_there, integer_gone}
-use borrow.Author.Rules.{rules}
 use Rattle.heap.proofs.get_u64.Goals as goal
 
 pub returns-then-not-has_word : goal.returns-then-not-has_word

@@ -1,9 +1,7 @@
 -- `heap::has_bytes` meets its contract. Assumes nothing.
 use native.Mathlib.Omega.{arith}
 use mathlib.Core.Path.{sym, ◌∙◌}
-use borrow.Author.Tests.{not-true, not-false}
 use Rattle.heap.specs.Laws.{word_in, bytes_none, counts}
-use borrow.Author.Rules.{rules}
 use Rattle.heap.proofs.has_bytes.Goals as goal
 
 pub returns-then-not-has_word : goal.returns-then-not-has_word

@@ -1,9 +1,7 @@
 -- `heap::is_bytes_at` meets its contract: each test of the definition in turn. Assumes nothing.
 use native.Mathlib.Omega.{arith}
 use mathlib.Core.Path.{sym, ◌∙◌}
-use borrow.Author.Tests.{not-true, not-false}
 use Rattle.heap.specs.Laws.{bytes_in, str_askew, str_gone, str_short, str_there}
-use borrow.Author.Rules.{rules}
 use Rattle.heap.proofs.is_bytes_at.Goals as goal
 
 -- src/lib.rt:91:9

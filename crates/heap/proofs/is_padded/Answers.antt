@@ -1,8 +1,6 @@
 -- `heap::is_padded` meets its contract: the zeros are what is left of the last word. Assumes nothing.
 use native.Mathlib.Omega.{arith}
-use mathlib.Core.Path.{◌∙◌}
 use Rattle.heap.specs.Laws.{even_padded, padding_gone, padding_there}
-use borrow.Author.Rules.{rules}
 use Rattle.heap.proofs.is_padded.Goals as goal
 
 -- src/lib.rt:78:9

@@ -1,8 +1,6 @@
 -- `heap::is_u64_at` meets its contract: each test of the definition in turn. Assumes nothing.
 use mathlib.Core.Path.{sym, ◌∙◌}
-use borrow.Author.Tests.{not-true, not-false}
 use Rattle.heap.specs.Laws.{word_in, int_askew, int_gone, int_there}
-use borrow.Author.Rules.{rules}
 use Rattle.heap.proofs.is_u64_at.Goals as goal
 
 pub returns-then-offset-ne0 : goal.returns-then-offset-ne0

@@ -2,7 +2,6 @@
 use native.Mathlib.Nat.{sub-zero}
 use native.Mathlib.Omega.{arith}
 use Rattle.heap.specs.Laws.{heap_in}
-use borrow.Author.Rules.{rules}
 use Rattle.heap.proofs.used_of.Goals as goal
 
 pub slice_bounds-result-end : goal.slice_bounds-result-end

@@ -4,7 +4,6 @@ use mathlib.Core.Path.{sym, ◌∙◌}
 use Rattle.datom.specs.Value.{str_len}
 use Rattle.index.specs.Key.{key}
 use Rattle.index.specs.Keys.{turned_below}
-use borrow.Author.Rules.{rules}
 use Rattle.index.proofs.key_of.Goals as goal
 
 pub returns-then-is_u64 : goal.returns-then-is_u64

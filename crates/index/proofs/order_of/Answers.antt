@@ -6,7 +6,6 @@ use Rattle.index.specs.declared.Index.TheVariants.{Eavt, Aevt, Avet}
 use Rattle.index.specs.Front.{both_small, the_eavt, the_aevt, the_avet}
 use Rattle.index.specs.Parts.{attribute_first}
 use Rattle.index.proofs.Ways.{less_first, greater_first, less_two, greater_two, behind_attribute}
-use borrow.Author.Rules.{rules}
 use Rattle.index.proofs.order_of.Goals as goal
 
 pub returns-then-a-b : goal.returns-then-a-b

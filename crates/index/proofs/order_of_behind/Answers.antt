@@ -1,7 +1,6 @@
 -- `index::order_of_behind` meets its contract: the values decide, or the numbers behind them. Assumes nothing.
 use mathlib.Core.Path.{sym, ◌∙◌}
 use Rattle.index.proofs.Ways.{less_front, equal_front, greater_front}
-use borrow.Author.Rules.{rules}
 use Rattle.index.proofs.order_of_behind.Goals as goal
 
 pub returns-in-Less : goal.returns-in-Less

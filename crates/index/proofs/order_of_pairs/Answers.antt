@@ -2,7 +2,6 @@
 use native.Mathlib.Omega.{arith}
 use mathlib.Core.Path.{sym, ◌∙◌}
 use Rattle.index.proofs.Ways.{less_number, greater_number, same_number, less_front, greater_front, equal_front}
-use borrow.Author.Rules.{rules}
 use Rattle.index.proofs.order_of_pairs.Goals as goal
 
 pub returns-then-x-y : goal.returns-then-x-y

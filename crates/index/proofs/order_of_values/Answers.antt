@@ -1,9 +1,7 @@
 -- `index::order_of_values` meets its contract: by the keys of values that stand in their words, by the contents of all others. Assumes nothing.
 use mathlib.Core.Path.{sym, ap, ◌∙◌}
-use borrow.Author.Tests.{not-true}
 use Rattle.index.specs.Order.{named}
 use Rattle.index.specs.Keys.{keyed}
-use borrow.Author.Rules.{rules}
 use Rattle.index.proofs.order_of_values.Goals as goal
 
 pub returns-then-not-is_external-2 : goal.returns-then-not-is_external-2

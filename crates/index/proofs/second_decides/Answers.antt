@@ -1,6 +1,5 @@
 -- `second_decides` meets its contract: the words are the same, or small, or the order says. Assumes nothing.
 use Prim.Native.Nat.{◌^◌}
-use borrow.Author.Rules.{rules}
 use borrow.Author.Tests.{eq-eqb, ne_eqb, lt-ltb, le-ltb}
 use native.Mathlib.Omega.{arith}
 use lib.Bits.{bit_or}

@@ -2,7 +2,6 @@
 use native.Mathlib.Omega.{arith}
 use Rattle.index.specs.Key.{turned}
 use Rattle.index.specs.Keys.{swap_fits}
-use borrow.Author.Rules.{rules}
 use Rattle.index.proofs.swap.Goals as goal
 
 pub overflow_add-result-7 : goal.overflow_add-result-7

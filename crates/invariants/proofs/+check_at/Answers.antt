@@ -1,15 +1,12 @@
 -- `check_at` meets its contract: along a page the walk that is left gives what the whole gives, and a child is one level lower. Assumes
 -- nothing.
-use Prim.Native.Nat.{ℕ, ◌+◌, ◌-◌, ◌<◌}
 use native.Mathlib.Omega.{arith}
 use mathlib.Core.Path.{refl, ◌∙◌, sym}
-use borrow.Author.Rules.{rules}
-use borrow.Author.Tests.{not-true, not-false}
 use Rattle.index.specs.Order.{order_in}
 use Rattle.memory_store.specs.Opened.{opened_node}
 use Rattle.invariants.specs.Bounds.{bound_of}
 use Rattle.invariants.specs.Walk.{page_faulty}
-use Rattle.invariants.specs.Along.{Along, along_start, along_datoms, along_child, along_few, along_end, along_outside, along_none, along_above, along_sound, along_unsound, along_refused}
+use Rattle.invariants.specs.Along.{along_start, along_datoms, along_child, along_few, along_end, along_outside, along_none, along_above, along_sound, along_unsound, along_refused}
 use Rattle.invariants.proofs.+check_at.Goals as goal
 
 pub loop-i-init : goal.loop-i-init

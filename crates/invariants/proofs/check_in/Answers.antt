@@ -1,6 +1,5 @@
 -- `check_in` meets its contract: the checks in their order, then the root. Assumes nothing.
 use mathlib.Core.Path.{◌∙◌, sym, ap}
-use borrow.Author.Rules.{rules}
 use Rattle.index.specs.Order.{order_in}
 use Rattle.memory_store.specs.Reading.{told}
 use Rattle.memory_store.specs.Readable.{told_fine, told_faulty}

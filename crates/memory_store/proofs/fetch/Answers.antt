@@ -1,5 +1,5 @@
 -- `fetch` meets its contract: a page that is given lies in the store. Assumes nothing.
-use Rattle.std.proofs.Common.{sym, ◌∙◌, rules}
+use Rattle.std.proofs.Common.{sym, ◌∙◌}
 use Rattle.memory_store.specs.FetchLaws.{given, given_fetched, refused_fetched}
 use Rattle.memory_store.proofs.fetch.Goals as goal
 

@@ -1,5 +1,5 @@
 -- `fetch_refusal` meets its contract: the tests in their order. Assumes nothing.
-use Rattle.std.proofs.Common.{sym, ◌∙◌, rules}
+use Rattle.std.proofs.Common.{sym, ◌∙◌}
 use Rattle.memory_store.specs.FetchLaws.{fetch_bad, fetch_past, fetch_given}
 use Rattle.memory_store.proofs.fetch_refusal.Goals as goal
 

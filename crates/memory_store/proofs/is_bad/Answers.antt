@@ -1,7 +1,7 @@
 -- `is_bad` meets its contract: dividing the length answers what the product asks. Assumes nothing.
-use Rattle.std.proofs.Common.{◌≡◌, length, sym, ◌∙◌, arith, rules, eq-eqb, ne_eqb}
+use Rattle.std.proofs.Common.{◌≡◌, length, sym, ◌∙◌, arith, eq-eqb, ne_eqb}
 use Rattle.store.specs.Size.{capacity}
-use Rattle.store.specs.Laws.{Known, known_size}
+use Rattle.store.specs.Laws.{known_size}
 use Rattle.rules.specs.Store.{bad_store}
 use Rattle.memory_store.specs.FetchLaws.{by_room}
 use Rattle.memory_store.proofs.is_bad.Goals as goal

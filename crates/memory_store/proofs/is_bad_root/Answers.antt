@@ -1,6 +1,6 @@
 -- `is_bad_root` meets its contract. Assumes nothing.
 use Rattle.memory_store.specs.FetchLaws.{root_none, root_past, root_given}
-use Rattle.std.proofs.Common.{sym, ◌∙◌, rules}
+use Rattle.std.proofs.Common.{sym, ◌∙◌}
 use Rattle.memory_store.proofs.is_bad_root.Goals as goal
 
 pub returns-then-is_none : goal.returns-then-is_none

@@ -1,6 +1,6 @@
 -- `part_of` meets its contract: a page below the count lies in the store. Assumes nothing.
 use native.Mathlib.Nat.{add-sub_cancel_left}
-use Rattle.std.proofs.Common.{arith, rules}
+use Rattle.std.proofs.Common.{arith}
 use Rattle.rules.specs.Store.{page_at}
 use Rattle.memory_store.specs.FetchLaws.{in_order, page_inside}
 use Rattle.memory_store.proofs.part_of.Goals as goal

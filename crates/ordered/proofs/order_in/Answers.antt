@@ -1,7 +1,6 @@
 -- `ordered::order_in` meets its contract: one law for each way through. Assumes nothing.
 use mathlib.Core.Path.{sym, ◌∙◌}
 use Rattle.ordered.specs.Ways.{heap_first, pages_next, order_then, order_known_law}
-use borrow.Author.Rules.{rules}
 use Rattle.ordered.proofs.order_in.Goals as goal
 
 pub returns-then-is_bad : goal.returns-then-is_bad

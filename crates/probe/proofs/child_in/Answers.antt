@@ -7,7 +7,6 @@ use Rattle.store.specs.Page.{none}
 use Rattle.store.specs.Size.{capacity}
 use Rattle.rules.specs.Page.{node_of}
 use Rattle.probe.specs.Laws.{of_unread, of_good, good_held, child_here, child_past}
-use borrow.Author.Rules.{rules}
 use Rattle.probe.proofs.child_in.Goals as goal
 
 pub returns-in_default : goal.returns-in_default

@@ -5,7 +5,6 @@ use Rattle.store.specs.Laws.{cells_length}
 use Rattle.datom.specs.Datom.{datom_of}
 use Rattle.rules.specs.Page.{node_of}
 use Rattle.probe.specs.Laws.{of_unread, of_good}
-use borrow.Author.Rules.{rules}
 use Rattle.probe.proofs.count_in.Goals as goal
 
 pub returns-in_default : goal.returns-in_default

@@ -9,7 +9,6 @@ use Rattle.rules.specs.Page.{node_of}
 use Rattle.rules.specs.Node.{rank}
 use Rattle.probe.specs.Seen.{of_datom}
 use Rattle.probe.specs.Laws.{of_unread, of_good, good_held, of_datom_law, of_others}
-use borrow.Author.Rules.{rules}
 use Rattle.probe.proofs.first_in.Goals as goal
 
 pub returns-in_default : goal.returns-in_default

@@ -4,7 +4,6 @@ use Rattle.datom.specs.declared.Datom.{Datom}
 use Rattle.index.specs.Order.{order_in, named}
 use Rattle.probe.specs.Seen.{order_number}
 use Rattle.probe.specs.Laws.{of_others, ordered, not_ordered}
-use borrow.Author.Rules.{rules}
 use Rattle.probe.proofs.in_order.Goals as goal
 
 pub returns-then-a-ne32 : goal.returns-then-a-ne32

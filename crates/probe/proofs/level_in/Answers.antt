@@ -1,7 +1,6 @@
 -- `level_in` meets its contract. Assumes nothing.
 use Rattle.rules.specs.Page.{node_of}
 use Rattle.probe.specs.Laws.{of_unread, of_good}
-use borrow.Author.Rules.{rules}
 use Rattle.probe.proofs.level_in.Goals as goal
 
 pub returns-in_default : goal.returns-in_default

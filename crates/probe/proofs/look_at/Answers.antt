@@ -4,7 +4,6 @@ use Rattle.index.specs.Order.{order_in}
 use Rattle.memory_store.specs.Reading.{said}
 use Rattle.probe.specs.Seen.{shown, unread}
 use Rattle.probe.specs.Laws.{look_none, look_fits, look_broken, look_good}
-use borrow.Author.Rules.{rules}
 use Rattle.probe.proofs.look_at.Goals as goal
 
 pub returns-then-c-eq0 : goal.returns-then-c-eq0

@@ -7,7 +7,6 @@ use Rattle.rules.specs.Page.{node_of}
 use Rattle.rules.specs.Node.{next_midpoint}
 use Rattle.rules.specs.Lookup.{child_of}
 use Rattle.probe.specs.Laws.{of_unread, of_good, good_held}
-use borrow.Author.Rules.{rules}
 use Rattle.probe.proofs.next_in.Goals as goal
 
 pub returns-in_default : goal.returns-in_default

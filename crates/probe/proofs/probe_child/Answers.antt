@@ -1,6 +1,5 @@
 -- `probe_child` meets its contract: in the order that the number names. Assumes nothing.
 use mathlib.Core.Path.{sym, ◌∙◌}
-use borrow.Author.Rules.{rules}
 use Rattle.probe.proofs.probe_child.Goals as goal
 
 pub returns-in-By : goal.returns-in-By

@@ -1,6 +1,5 @@
 -- `probe_count` meets its contract: in the order that the number names. Assumes nothing.
 use mathlib.Core.Path.{sym, ◌∙◌}
-use borrow.Author.Rules.{rules}
 use Rattle.probe.proofs.probe_count.Goals as goal
 
 pub returns-in-By : goal.returns-in-By

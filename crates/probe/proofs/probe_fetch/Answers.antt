@@ -2,7 +2,6 @@
 use mathlib.Core.Path.{sym, ◌∙◌, ap}
 use Rattle.answer.specs.declared.Fetch.{Fetch}
 use Rattle.answer.specs.Table.{fetch_words}
-use borrow.Author.Rules.{rules}
 use Rattle.probe.proofs.probe_fetch.Goals as goal
 
 pub returns-in-Given : goal.returns-in-Given

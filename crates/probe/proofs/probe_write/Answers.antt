@@ -1,6 +1,5 @@
 -- `probe_write` meets its contract: in the order that the number names. Assumes nothing.
 use mathlib.Core.Path.{refl, sym, ◌∙◌}
-use borrow.Author.Rules.{rules}
 use Rattle.probe.proofs.probe_write.Goals as goal
 
 pub returns-in-By : goal.returns-in-By

@@ -1,7 +1,6 @@
 -- `rule_in` meets its contract. Assumes nothing.
 use mathlib.Core.Path.{sym, ◌∙◌, ap}
 use Rattle.probe.specs.Seen.{shown, rule_of}
-use borrow.Author.Rules.{rules}
 use Rattle.probe.proofs.rule_in.Goals as goal
 
 pub returns-in-Unread : goal.returns-in-Unread

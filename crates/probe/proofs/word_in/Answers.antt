@@ -5,7 +5,6 @@ use lib.ListN.{drop}
 use Rattle.rules.specs.Page.{node_of}
 use Rattle.probe.specs.Seen.{head_word}
 use Rattle.probe.specs.Laws.{of_unread, of_good, good_held, word_here, word_past, word_none}
-use borrow.Author.Rules.{rules}
 use Rattle.probe.proofs.word_in.Goals as goal
 
 pub returns-in_default : goal.returns-in_default

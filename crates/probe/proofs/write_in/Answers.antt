@@ -3,7 +3,6 @@ use native.Mathlib.Omega.{arith}
 use mathlib.Core.Path.{◌∙◌}
 use Rattle.index.specs.Order.{order_in}
 use Rattle.probe.specs.Laws.{good_held, not_written, no_place, written}
-use borrow.Author.Rules.{rules}
 use Rattle.probe.proofs.write_in.Goals as goal
 
 pub returns-in_default : goal.returns-in_default

@@ -1,5 +1,4 @@
 -- `child_at` meets its contract: a word read is a page id. Assumes nothing.
-use borrow.Author.Rules.{rules}
 use Rattle.store.proofs.child_at.Goals as goal
 
 pub returns : goal.returns

@@ -1,10 +1,10 @@
 -- `clear` meets its contract: what is cleared so far are zeros over what there was. Assumes nothing.
 use borrow.Author.Rules.{rules}
-use Prim.Native.Nat.{ℕ, ◌-◌, ◌≤◌}
+use Prim.Native.Nat.{ℕ, ◌-◌}
 use native.Mathlib.Omega.{arith}
 use mathlib.Core.List.{List}
 use mathlib.Core.Path.{◌≡◌, refl, ap, ◌∙◌}
-use lib.ListN.{length, set, length-set}
+use lib.ListN.{set, length-set}
 use Rattle.store.specs.Words.{zeros, patch}
 use Rattle.store.specs.Padding.{cleared_none, cleared}
 use Rattle.store.proofs.clear.Goals as goal

@@ -1,5 +1,5 @@
 -- `store::put` meets its contract: a part that comes back as the bytes that were copied. Assumes nothing.
-use Rattle.std.proofs.Common.{◌≡◌, ℕ, ◌+◌, ◌-◌, ◌≤◌, List, ◌++◌, length, take, drop, sym, append_assoc, arith}
+use Rattle.std.proofs.Common.{◌≡◌, ℕ, ◌+◌, ◌-◌, List, ◌++◌, length, take, drop, sym, append_assoc, arith}
 use Rattle.std.proofs.Math.Seq.{drop-drop}
 use Rattle.store.specs.Words.{patch}
 use Rattle.store.proofs.put.Goals as goal

@@ -1,5 +1,4 @@
 -- `put_padded` meets its contract: zeros behind a store. Assumes nothing.
-use borrow.Author.Rules.{rules}
 use native.Mathlib.Omega.{arith}
 use mathlib.Core.Path.{◌∙◌}
 use Rattle.store.specs.Padding.{padded}

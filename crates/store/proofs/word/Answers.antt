@@ -2,7 +2,6 @@
 use native.Mathlib.Omega.{arith}
 use mathlib.Core.Path.{◌∙◌}
 use Rattle.store.specs.Cells.{word_is}
-use borrow.Author.Rules.{rules}
 use Rattle.store.proofs.word.Goals as goal
 
 pub returns : goal.returns

@@ -1,7 +1,6 @@
 -- `answer::Refusal::detail` meets its contract. Assumes nothing.
 use mathlib.Core.Path.{sym, ap}
 use Rattle.answer.specs.Table.{detail_of}
-use borrow.Author.Rules.{rules}
 use Rattle.answer.proofs.Refusal.detail.Goals as goal
 
 pub returns-in-Damaged : goal.returns-in-Damaged

@@ -1,7 +1,6 @@
 -- `answer::Refusal::fault` meets its contract. Assumes nothing.
 use mathlib.Core.Path.{ap}
 use Rattle.answer.specs.Names.{fault_in}
-use borrow.Author.Rules.{rules}
 use Rattle.answer.proofs.Refusal.fault.Goals as goal
 
 pub returns-in-Damaged : goal.returns-in-Damaged

@@ -1,6 +1,5 @@
 -- `Datom::is_bound` meets its contract: its value decides. Assumes nothing.
 use Rattle.datom.specs.Datom.{bound_datom}
-use borrow.Author.Rules.{rules}
 use Rattle.datom.proofs.Datom.is_bound.Goals as goal
 
 pub returns : goal.returns

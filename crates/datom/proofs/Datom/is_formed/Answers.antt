@@ -1,6 +1,5 @@
 -- `Datom::is_formed` meets its contract: its value decides. Assumes nothing.
 use Rattle.datom.specs.Datom.{formed_datom}
-use borrow.Author.Rules.{rules}
 use Rattle.datom.proofs.Datom.is_formed.Goals as goal
 
 pub returns : goal.returns

@@ -1,6 +1,5 @@
 -- `Datom::is_stored` meets its contract: its value decides. Assumes nothing.
 use Rattle.datom.specs.Datom.{stored_datom}
-use borrow.Author.Rules.{rules}
 use Rattle.datom.proofs.Datom.is_stored.Goals as goal
 
 pub returns : goal.returns

@@ -1,5 +1,4 @@
 -- `Datom::new` meets its contract: the last word is what `TidOp::new` makes. Assumes nothing.
-use borrow.Author.Rules.{rules}
 use Rattle.datom.proofs.Datom.new.Goals as goal
 
 pub returns : goal.returns

@@ -1,6 +1,5 @@
 -- `TidOp::new` meets its contract: the operation's bit stands beside the even part. Assumes nothing.
 use native.Mathlib.Nat.{add-zero}
-use borrow.Author.Rules.{rules}
 use Rattle.datom.proofs.TidOp.new.Goals as goal
 
 pub returns-in-Retract : goal.returns-in-Retract

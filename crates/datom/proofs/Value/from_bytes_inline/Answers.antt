@@ -1,7 +1,6 @@
 -- `Value::from_bytes_inline` meets its contract, by the length. Assumes nothing.
 use native.Mathlib.Omega.{arith}
 use Rattle.datom.specs.Bytes.{little_below, too_long, is_short}
-use borrow.Author.Rules.{rules}
 use Rattle.datom.proofs.Value.from_bytes_inline.Goals as goal
 
 pub returns-then-n-gt-MAX_LENGTH : goal.returns-then-n-gt-MAX_LENGTH

@@ -1,7 +1,6 @@
 -- `Value::is_bound` meets its contract: max, or what may be stored. Assumes nothing.
 use mathlib.Core.Path.{sym, ◌∙◌}
 use Rattle.datom.specs.Stored.{bound_max, bound_stored}
-use borrow.Author.Rules.{rules}
 use Rattle.datom.proofs.Value.is_bound.Goals as goal
 
 pub returns-then-is_max : goal.returns-then-is_max

@@ -3,7 +3,6 @@ use native.Mathlib.Omega.{arith}
 use borrow.Author.Tests.{eq-eqb, ne_eqb, le-leb, lt-leb}
 use Rattle.datom.specs.Value.{str_len, is_str}
 use Rattle.datom.specs.Bytes.{bytes_tag_law, other_tag}
-use borrow.Author.Rules.{rules}
 use Rattle.datom.proofs.Value.is_bytes.Goals as goal
 
 pub returns-then-self-ne-TAG_BYTES : goal.returns-then-self-ne-TAG_BYTES

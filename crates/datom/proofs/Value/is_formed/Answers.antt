@@ -3,7 +3,6 @@ use native.Mathlib.Omega.{arith}
 use mathlib.Core.Bool.{not}
 use mathlib.Core.Path.{◌∙◌, ap}
 use Rattle.datom.specs.Stored.{formed_low, formed_str, formed_high}
-use borrow.Author.Rules.{rules}
 use Rattle.datom.proofs.Value.is_formed.Goals as goal
 
 pub returns-then-self-lt-TAG_BYTES : goal.returns-then-self-lt-TAG_BYTES

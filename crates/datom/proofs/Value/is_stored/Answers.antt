@@ -2,7 +2,6 @@
 use native.Mathlib.Omega.{arith}
 use mathlib.Core.Path.{sym, ◌∙◌}
 use Rattle.datom.specs.Stored.{stored_int, stored_far_int, stored_str, stored_max, stored_far_str}
-use borrow.Author.Rules.{rules}
 use Rattle.datom.proofs.Value.is_stored.Goals as goal
 
 pub returns-then-self-lt-TAG_EXTERNAL : goal.returns-then-self-lt-TAG_EXTERNAL

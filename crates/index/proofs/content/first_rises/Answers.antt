@@ -6,7 +6,6 @@ use borrow.Author.Tests.{ltb-true}
 use Rattle.store.specs.Laws.{apart}
 use Rattle.index.specs.Key.{swapped}
 use Rattle.index.specs.Eight.{words_less}
-use borrow.Author.Rules.{rules}
 use Rattle.index.proofs.content.first_rises.Goals as goal
 
 pub returns-then-a-lt8 : goal.returns-then-a-lt8

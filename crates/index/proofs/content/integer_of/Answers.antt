@@ -1,9 +1,7 @@
 -- `content::integer_of` meets its contract: the word itself, or the constant. Assumes nothing.
 use mathlib.Core.Path.{sym, ◌∙◌}
-use Rattle.datom.specs.Value.{int}
 use Rattle.datom.specs.Content.{content_int}
 use Rattle.index.specs.Kinds.{integer_far}
-use borrow.Author.Rules.{rules}
 use Rattle.index.proofs.content.integer_of.Goals as goal
 
 pub returns-then-is_u64 : goal.returns-then-is_u64

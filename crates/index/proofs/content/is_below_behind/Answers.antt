@@ -2,7 +2,6 @@
 use mathlib.Core.Path.{sym, ◌∙◌}
 use Rattle.index.proofs.Ways.{less_front}
 use Rattle.index.specs.Named.{less_named, equal_named, greater_named}
-use borrow.Author.Rules.{rules}
 use Rattle.index.proofs.content.is_below_behind.Goals as goal
 
 pub returns-then-texts_rise : goal.returns-then-texts_rise

@@ -3,7 +3,6 @@ use native.Mathlib.Omega.{arith}
 use mathlib.Core.Path.{sym, ◌∙◌, ap}
 use Rattle.heap.specs.Constant.{word_there, bytes_there}
 use Rattle.index.specs.Kinds.{kind_int, kind_far_int, kind_lost_int, kind_str, kind_bad_str, kind_max, kind_far_str, kind_lost_str}
-use borrow.Author.Rules.{rules}
 use Rattle.index.proofs.content.kind_of.Goals as goal
 
 pub returns-then-v-lt-TAG_EXTERNAL : goal.returns-then-v-lt-TAG_EXTERNAL

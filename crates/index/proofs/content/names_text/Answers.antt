@@ -4,7 +4,6 @@ use mathlib.Core.Path.{sym, ◌∙◌, ap}
 use Rattle.store.specs.Laws.{apart}
 use Rattle.heap.specs.Constant.{bytes_there}
 use Rattle.index.specs.Kinds.{text_there}
-use borrow.Author.Rules.{rules}
 use Rattle.index.proofs.content.names_text.Goals as goal
 
 pub returns-then-v-lt-TAG_MASK : goal.returns-then-v-lt-TAG_MASK

@@ -1,13 +1,9 @@
 -- `content::order_of_bytes` meets its contract: the rests compare as the whole does. Assumes nothing.
-use Prim.Native.Nat.{◌+◌, ◌-◌, ◌≤◌}
 use native.Mathlib.Omega.{arith}
-use mathlib.Core.Path.{◌≡◌, refl, sym, ◌∙◌, ap}
-use lib.ListN.{length, drop}
-use Rattle.store.specs.Words.{word_at}
-use Rattle.index.specs.Order.{cmp_bytes, named}
+use mathlib.Core.Path.{refl, ◌∙◌, ap}
+use Rattle.index.specs.Order.{named}
 use Rattle.index.specs.Key.{swapped}
 use Rattle.index.specs.Eight.{words_less, words_greater, words_on}
-use borrow.Author.Rules.{rules}
 use Rattle.index.proofs.content.order_of_bytes.Goals as goal
 
 pub loop-i-init : goal.loop-i-init

@@ -1,12 +1,7 @@
-use Prim.Native.Nat.{◌+◌, ◌-◌, ◌≤◌}
-use native.Mathlib.Omega.{arith}
-use mathlib.Core.Path.{◌≡◌, refl, sym, ◌∙◌, ap}
-use lib.ListN.{length, drop}
-use Rattle.store.specs.Words.{word_at}
-use Rattle.index.specs.Order.{cmp_bytes, named}
-use Rattle.index.specs.Key.{swapped}
-use Rattle.index.specs.Eight.{words_less, words_greater, words_on}
-use borrow.Author.Rules.{rules}
+use Prim.Native.Nat.{◌-◌, ◌≤◌}
+use mathlib.Core.Path.{◌≡◌}
+use lib.ListN.{drop}
+use Rattle.index.specs.Order.{cmp_bytes}
 use Rattle.index.proofs.content.order_of_bytes.Given as goal
 
 abbrev pub invariant-loop-i : goal.invariant-loop-i

@@ -1,11 +1,8 @@
 -- `content::order_of_bytes_from` meets its contract: the rests compare as what they are the rests of. Assumes nothing.
-use Prim.Native.Nat.{◌+◌, ◌-◌, ◌≤◌}
 use native.Mathlib.Omega.{arith}
-use mathlib.Core.Path.{◌≡◌, refl, ◌∙◌, ap}
-use lib.ListN.{length, drop}
-use Rattle.index.specs.Order.{cmp_bytes, named}
+use mathlib.Core.Path.{refl, ◌∙◌, ap}
+use Rattle.index.specs.Order.{named}
 use Rattle.index.specs.Strings.{bytes_less, bytes_greater, bytes_on, bytes_longer, bytes_ended}
-use borrow.Author.Rules.{rules}
 use Rattle.index.proofs.content.order_of_bytes_from.Goals as goal
 
 pub loop-i-init : goal.loop-i-init

@@ -1,10 +1,7 @@
-use Prim.Native.Nat.{◌+◌, ◌-◌, ◌≤◌}
-use native.Mathlib.Omega.{arith}
-use mathlib.Core.Path.{◌≡◌, refl, ◌∙◌, ap}
+use Prim.Native.Nat.{◌-◌, ◌≤◌}
+use mathlib.Core.Path.{◌≡◌}
 use lib.ListN.{length, drop}
-use Rattle.index.specs.Order.{cmp_bytes, named}
-use Rattle.index.specs.Strings.{bytes_less, bytes_greater, bytes_on, bytes_longer, bytes_ended}
-use borrow.Author.Rules.{rules}
+use Rattle.index.specs.Order.{cmp_bytes}
 use Rattle.index.proofs.content.order_of_bytes_from.Given as goal
 
 abbrev pub invariant-loop-i : goal.invariant-loop-i

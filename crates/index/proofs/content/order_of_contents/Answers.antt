@@ -1,9 +1,7 @@
 -- `content::order_of_contents` meets its contract: two byte strings of the heap by their bytes, all else by kinds. Assumes nothing.
-use mathlib.Core.Path.{sym, ◌∙◌, ap}
+use mathlib.Core.Path.{◌∙◌}
 use Rattle.index.specs.Order.{cmp_value}
 use Rattle.index.specs.Kinds.{both_texts}
-use borrow.Author.Tests.{not-false}
-use borrow.Author.Rules.{rules}
 use Rattle.index.proofs.content.order_of_contents.Goals as goal
 
 pub returns : goal.returns

@@ -1,9 +1,8 @@
 -- `content::order_of_kinds` meets its contract: by the kinds, and by what is of one kind. Assumes nothing.
 use native.Mathlib.Omega.{arith}
-use mathlib.Core.Path.{sym, ◌∙◌}
+use mathlib.Core.Path.{◌∙◌}
 use Rattle.index.specs.Order.{cmp_value}
 use Rattle.index.specs.Kinds.{kind_less, kind_greater, kind_top, integers}
-use borrow.Author.Rules.{rules}
 use Rattle.index.proofs.content.order_of_kinds.Goals as goal
 
 pub returns-then-v-w : goal.returns-then-v-w

@@ -6,7 +6,6 @@ use mathlib.Core.Path.{sym, ◌∙◌, ap}
 use Rattle.datom.specs.Value.{str_len}
 use Rattle.index.specs.Order.{cmp_bytes, named}
 use Rattle.index.specs.Kinds.{text_near, text_far, laid, texts}
-use borrow.Author.Rules.{rules}
 use Rattle.index.proofs.content.order_of_text.Goals as goal
 
 pub returns-then-is_external : goal.returns-then-is_external

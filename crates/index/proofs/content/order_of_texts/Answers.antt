@@ -2,11 +2,10 @@
 use Prim.Native.Nat.{ℕ, ◌-◌}
 use native.Mathlib.Omega.{arith}
 use mathlib.Core.List.{List}
-use mathlib.Core.Path.{◌≡◌, sym, ◌∙◌, ap}
+use mathlib.Core.Path.{sym, ◌∙◌, ap}
 use Rattle.datom.specs.Value.{str_len, str, content}
 use Rattle.index.specs.Order.{cmp_content, named}
 use Rattle.index.specs.Kinds.{text_near, text_far, laid}
-use borrow.Author.Rules.{rules}
 use Rattle.index.proofs.content.order_of_texts.Goals as goal
 
 pub returns-then-is_external : goal.returns-then-is_external

@@ -1,10 +1,8 @@
 -- `content::texts_rise` meets its contract. Assumes nothing.
-use mathlib.Core.Path.{sym, ◌∙◌, ap}
-use borrow.Author.Tests.{not-false}
+use mathlib.Core.Path.{◌∙◌}
 use Rattle.store.specs.Laws.{apart}
 use Rattle.index.specs.Order.{cmp_value}
 use Rattle.index.specs.Kinds.{both_texts}
-use borrow.Author.Rules.{rules}
 use Rattle.index.proofs.content.texts_rise.Goals as goal
 
 pub returns-then-not-names_text : goal.returns-then-not-names_text

@@ -3,7 +3,6 @@ use Rattle.invariants.specs.Bounds.{bound_at_datom, bound_past, bound_of}
 use mathlib.Core.Path.{◌∙◌, ap}
 use Rattle.invariants.specs.declared.bound.Bound.TheVariants.{At}
 use Rattle.datom.specs.declared.Datom.{Datom}
-use borrow.Author.Rules.{rules}
 use Rattle.invariants.proofs.bound.bound_at.Goals as goal
 
 pub returns-then-i-k : goal.returns-then-i-k

@@ -4,7 +4,6 @@ use Rattle.invariants.specs.Bounds.{above_nothing, above_at}
 use Rattle.index.specs.Named.{less_named, equal_named, greater_named}
 use mathlib.Core.Bool.{true, false}
 use mathlib.Core.Path.{◌∙◌, sym}
-use borrow.Author.Rules.{rules}
 use Rattle.invariants.proofs.bound.is_above.Goals as goal
 
 pub returns-in-Nothing : goal.returns-in-Nothing

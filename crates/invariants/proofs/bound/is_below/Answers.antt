@@ -2,7 +2,6 @@
 use Rattle.index.specs.Order.{order_in}
 use Rattle.invariants.specs.Bounds.{below_nothing, below_at}
 use mathlib.Core.Path.{◌∙◌}
-use borrow.Author.Rules.{rules}
 use Rattle.invariants.proofs.bound.is_below.Goals as goal
 
 pub returns-in-Nothing : goal.returns-in-Nothing

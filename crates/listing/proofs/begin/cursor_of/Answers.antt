@@ -1,6 +1,5 @@
 -- `cursor_of` meets its contract: the used places of both ends. Assumes nothing.
 use Rattle.listing.specs.Starts.{cursor_is}
-use borrow.Author.Rules.{rules}
 use Rattle.listing.proofs.begin.cursor_of.Goals as goal
 
 pub returns : goal.returns

@@ -2,7 +2,6 @@
 use Rattle.index.specs.Named.{less_named, equal_named, greater_named}
 use mathlib.Core.Path.{sym, ◌∙◌}
 use Rattle.index.specs.Order.{order_in}
-use borrow.Author.Rules.{rules}
 use Rattle.listing.proofs.begin.is_any_between.Goals as goal
 
 pub returns-in-Less : goal.returns-in-Less

@@ -1,5 +1,4 @@
 -- `refused` meets its contract. Assumes nothing.
-use borrow.Author.Rules.{rules}
 use Rattle.listing.proofs.begin.refused.Goals as goal
 
 pub returns : goal.returns

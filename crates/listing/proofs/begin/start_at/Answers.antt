@@ -6,7 +6,6 @@ use Rattle.listing.specs.Descent.{test_of, down_of}
 use Rattle.listing.specs.declared.descent.Seek.TheVariants.{NotBelow}
 use mathlib.Core.Path.{◌∙◌}
 use native.Mathlib.Omega.{arith}
-use borrow.Author.Rules.{rules}
 use Rattle.listing.proofs.begin.start_at.Goals as goal
 
 pub descend-b-requires : goal.descend-b-requires

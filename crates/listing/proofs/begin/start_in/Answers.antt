@@ -2,9 +2,7 @@
 use Rattle.index.specs.Order.{order_in}
 use Rattle.index.specs.Form.{order_bound}
 use Rattle.listing.specs.StartLaws.{start_bad, start_lower, start_upper, start_root, start_on}
-use borrow.Author.Tests.{not-true, not-false}
 use mathlib.Core.Path.{sym, ◌∙◌}
-use borrow.Author.Rules.{rules}
 use Rattle.listing.proofs.begin.start_in.Goals as goal
 
 pub returns-then-is_bad : goal.returns-then-is_bad

@@ -3,9 +3,7 @@ use Rattle.index.specs.Order.{order_in}
 use Rattle.listing.specs.StartLaws.{under_nothing, under_damaged, under_read}
 use Rattle.memory_store.specs.Readable.{opens, told_fine, told_faulty}
 use Rattle.memory_store.specs.Reading.{told}
-use borrow.Author.Tests.{not-true, not-false}
 use mathlib.Core.Path.{sym, ◌∙◌, ap}
-use borrow.Author.Rules.{rules}
 use Rattle.listing.proofs.begin.start_under.Goals as goal
 
 pub returns-then-not-is_any_between : goal.returns-then-not-is_any_between

@@ -2,7 +2,6 @@
 use Rattle.index.specs.Order.{order_in}
 use Rattle.listing.specs.CandidateLaws.{one_first, one_twice, one_less, one_equal, one_greater}
 use mathlib.Core.Path.{sym, ◌∙◌}
-use borrow.Author.Rules.{rules}
 use Rattle.listing.proofs.candidate.against.Goals as goal
 
 pub returns-in-Nothing : goal.returns-in-Nothing

@@ -5,7 +5,6 @@ use Rattle.index.specs.Order.{order_in}
 use Rattle.memory_store.specs.Readable.{opens}
 use Rattle.memory_store.specs.FetchLaws.{in_order}
 use Rattle.listing.specs.CandidateLaws.{read_node, pick_past, pick_at}
-use borrow.Author.Rules.{rules}
 use Rattle.listing.proofs.candidate.chosen.Goals as goal
 
 pub count_of-requires : goal.count_of-requires

@@ -1,6 +1,4 @@
 -- `smallest` meets its contract: the minimum so far is that of the levels below. Assumes nothing.
-use borrow.Author.Rules.{rules}
-use Prim.Native.Nat.{◌≤◌, ◌-◌}
 use native.Mathlib.Omega.{arith}
 use mathlib.Core.Path.{◌≡◌, ap, ◌∙◌}
 use Rattle.index.specs.Order.{order_in}

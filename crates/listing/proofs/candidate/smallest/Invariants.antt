@@ -1,13 +1,8 @@
-use borrow.Author.Rules.{rules}
 use Prim.Native.Nat.{◌≤◌, ◌-◌}
-use native.Mathlib.Omega.{arith}
-use mathlib.Core.Path.{◌≡◌, ap, ◌∙◌}
+use mathlib.Core.Path.{◌≡◌}
 use Rattle.index.specs.Order.{order_in}
 use Rattle.rules.specs.Store.{fetch_page}
-use Rattle.listing.specs.Opening.{open_at}
 use Rattle.listing.specs.Candidate.{candidate_below}
-use Rattle.listing.specs.CandidateLaws.{candidate_none, candidate_on}
-use Rattle.listing.specs.Levels.{fine_in}
 use Rattle.listing.proofs.candidate.smallest.Given as goal
 
 abbrev pub invariant-loop-level : goal.invariant-loop-level

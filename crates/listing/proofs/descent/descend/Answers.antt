@@ -1,10 +1,8 @@
 -- `descend` meets its contract: the way from the page at hand ends as the whole way ends. Assumes nothing.
-use borrow.Author.Rules.{rules}
-use Prim.Native.Nat.{◌≤◌}
 use native.Mathlib.Omega.{arith}
-use mathlib.Core.Path.{◌≡◌, refl, sym, ◌∙◌}
+use mathlib.Core.Path.{refl, sym, ◌∙◌}
 use Rattle.index.specs.Order.{order_in}
-use Rattle.listing.specs.Descent.{test_of, descent_of, down_of, down_lost, down_ends, down_on, down_stuck}
+use Rattle.listing.specs.Descent.{test_of, down_lost, down_ends, down_on, down_stuck}
 use Rattle.listing.proofs.descent.descend.Goals as goal
 
 pub loop-fault-init : goal.loop-fault-init

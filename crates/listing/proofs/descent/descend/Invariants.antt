@@ -1,9 +1,7 @@
-use borrow.Author.Rules.{rules}
 use Prim.Native.Nat.{◌≤◌}
-use native.Mathlib.Omega.{arith}
-use mathlib.Core.Path.{◌≡◌, refl, sym, ◌∙◌}
+use mathlib.Core.Path.{◌≡◌}
 use Rattle.index.specs.Order.{order_in}
-use Rattle.listing.specs.Descent.{test_of, descent_of, down_of, down_lost, down_ends, down_on, down_stuck}
+use Rattle.listing.specs.Descent.{test_of, descent_of, down_of}
 use Rattle.listing.proofs.descent.descend.Given as goal
 
 abbrev pub invariant-loop-fault : goal.invariant-loop-fault

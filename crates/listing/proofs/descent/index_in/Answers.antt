@@ -3,7 +3,6 @@ use Rattle.index.specs.Order.{order_in}
 use Rattle.listing.specs.Descent.{index_first, index_bound}
 use mathlib.Core.Path.{◌∙◌}
 use Rattle.datom.specs.Datom.{datoms_of}
-use borrow.Author.Rules.{rules}
 use Rattle.listing.proofs.descent.index_in.Goals as goal
 
 pub returns-in-First : goal.returns-in-First

@@ -1,5 +1,4 @@
 -- `lost_at` meets its contract. Assumes nothing.
-use borrow.Author.Rules.{rules}
 use Rattle.listing.proofs.descent.lost_at.Goals as goal
 
 pub returns : goal.returns

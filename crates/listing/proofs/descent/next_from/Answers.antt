@@ -3,7 +3,6 @@ use Prim.Native.Nat.{suc}
 use mathlib.Core.Path.{◌∙◌}
 use Rattle.rules.specs.Page.{children_of}
 use Rattle.listing.specs.Descent.{next_bottom, next_up}
-use borrow.Author.Rules.{rules}
 use Rattle.listing.proofs.descent.next_from.Goals as goal
 
 pub returns-then-level-eq0 : goal.returns-then-level-eq0

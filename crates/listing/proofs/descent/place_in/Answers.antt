@@ -5,7 +5,6 @@ use Rattle.index.specs.Order.{order_in}
 use Rattle.memory_store.specs.Readable.{opens}
 use Rattle.memory_store.specs.Opened.{opened_node}
 use Rattle.listing.specs.Descent.{place_lost, place_at, test_of}
-use borrow.Author.Rules.{rules}
 use Rattle.listing.proofs.descent.place_in.Goals as goal
 
 pub index_in-index-requires : goal.index_in-index-requires

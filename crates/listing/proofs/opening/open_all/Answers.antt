@@ -1,11 +1,9 @@
 -- `open_all` meets its contract: what is left to open says what the whole says. Assumes nothing.
-use borrow.Author.Rules.{rules}
-use Prim.Native.Nat.{◌≤◌}
 use native.Mathlib.Omega.{arith}
-use mathlib.Core.Path.{◌≡◌, refl, sym, ◌∙◌}
+use mathlib.Core.Path.{refl, sym, ◌∙◌}
 use Rattle.index.specs.Order.{order_in}
 use Rattle.rules.specs.Store.{fetch_page}
-use Rattle.listing.specs.Opening.{open_below, open_none, open_on, open_bad}
+use Rattle.listing.specs.Opening.{open_none, open_on, open_bad}
 use Rattle.listing.proofs.opening.open_all.Goals as goal
 
 pub loop-level-init : goal.loop-level-init

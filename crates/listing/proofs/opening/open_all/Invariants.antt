@@ -1,10 +1,8 @@
-use borrow.Author.Rules.{rules}
 use Prim.Native.Nat.{◌≤◌}
-use native.Mathlib.Omega.{arith}
-use mathlib.Core.Path.{◌≡◌, refl, sym, ◌∙◌}
+use mathlib.Core.Path.{◌≡◌}
 use Rattle.index.specs.Order.{order_in}
 use Rattle.rules.specs.Store.{fetch_page}
-use Rattle.listing.specs.Opening.{open_below, open_none, open_on, open_bad}
+use Rattle.listing.specs.Opening.{open_below}
 use Rattle.listing.proofs.opening.open_all.Given as goal
 
 abbrev pub invariant-loop-level : goal.invariant-loop-level

@@ -2,7 +2,6 @@
 use mathlib.Core.Path.{sym, ◌∙◌}
 use Rattle.index.specs.Order.{order_in}
 use Rattle.listing.specs.Opening.{open_lost, open_within, open_past}
-use borrow.Author.Rules.{rules}
 use Rattle.listing.proofs.opening.open_one.Goals as goal
 
 pub returns-then-index-k : goal.returns-then-index-k

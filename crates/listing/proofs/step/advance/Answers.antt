@@ -1,14 +1,12 @@
 -- `advance` meets its contract: beside a pending datom the levels below stay, behind a midpoint they are filled anew. Assumes nothing.
 use native.Mathlib.Omega.{arith}
 use mathlib.Core.Path.{sym, ap, ◌∙◌}
-use borrow.Author.Tests.{not-true, not-false}
 use lib.ListN.{get_or}
 use Rattle.store.specs.Page.{page}
 use Rattle.index.specs.Order.{order_in}
 use Rattle.rules.specs.Node.{is_midpoint}
 use Rattle.memory_store.specs.FetchLaws.{in_order}
 use Rattle.listing.specs.AdvanceLaws.{within_open, within_most, within_children, adv_bottom, adv_pending, adv_child, adv_stuck}
-use borrow.Author.Rules.{rules}
 use Rattle.listing.proofs.step.advance.Goals as goal
 
 pub count_of-count-requires : goal.count_of-count-requires

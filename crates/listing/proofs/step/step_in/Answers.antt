@@ -2,7 +2,6 @@
 use mathlib.Core.Path.{sym, ◌∙◌}
 use Rattle.index.specs.Order.{order_in}
 use Rattle.listing.specs.StepLaws.{step_bad, step_tall, step_ended, step_goes}
-use borrow.Author.Rules.{rules}
 use Rattle.listing.proofs.step.step_in.Goals as goal
 
 pub returns-then-is_bad : goal.returns-then-is_bad

@@ -5,7 +5,7 @@ use lib.ListN.{length}
 use Rattle.index.specs.Order.{order_in}
 use Rattle.rules.specs.Store.{fetch_page}
 use Rattle.rules.specs.Listing.{begin_frames, open_frames}
-use Rattle.listing.specs.WayLaws.{Full, mapped_length}
+use Rattle.listing.specs.WayLaws.{Full}
 use Rattle.listing.specs.Opening.{open_at}
 use Rattle.listing.specs.Advance.{begin_of}
 use Rattle.listing.specs.Taken.{on_damaged, on_nothing, on_twice, on_under, on_at, within_of}

@@ -1,7 +1,6 @@
 -- `yield_at` meets its contract: a page that is lost while the cursor advances refuses the step. Assumes nothing.
 use mathlib.Core.Path.{◌∙◌}
 use Rattle.listing.specs.AdvanceLaws.{yield_lost, yield_bottom}
-use borrow.Author.Rules.{rules}
 use Rattle.listing.proofs.step.yield_at.Goals as goal
 
 pub advance-d-requires : goal.advance-d-requires

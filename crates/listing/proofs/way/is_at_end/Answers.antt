@@ -1,9 +1,7 @@
 -- `is_at_end` meets its contract: what is left to compare says what the whole says. Assumes nothing.
 use native.Mathlib.Omega.{arith}
-use borrow.Author.Rules.{rules}
-use Prim.Native.Nat.{◌≤◌}
-use mathlib.Core.Path.{◌≡◌, ◌∙◌}
-use Rattle.listing.specs.WayLaws.{same_below, same_none, same_on, same_stops}
+use mathlib.Core.Path.{◌∙◌}
+use Rattle.listing.specs.WayLaws.{same_none, same_on, same_stops}
 use Rattle.listing.proofs.way.is_at_end.Goals as goal
 
 pub returns-then-cursor-level : goal.returns-then-cursor-level

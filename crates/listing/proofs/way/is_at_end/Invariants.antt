@@ -1,8 +1,6 @@
-use native.Mathlib.Omega.{arith}
-use borrow.Author.Rules.{rules}
 use Prim.Native.Nat.{◌≤◌}
-use mathlib.Core.Path.{◌≡◌, ◌∙◌}
-use Rattle.listing.specs.WayLaws.{same_below, same_none, same_on, same_stops}
+use mathlib.Core.Path.{◌≡◌}
+use Rattle.listing.specs.WayLaws.{same_below}
 use Rattle.listing.proofs.way.is_at_end.Given as goal
 
 abbrev pub invariant-loop-level : goal.invariant-loop-level

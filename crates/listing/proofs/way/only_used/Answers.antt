@@ -1,11 +1,10 @@
 -- `only_used` meets its contract: clearing from a level on gives what clearing from the height gives. Assumes nothing.
 use native.Mathlib.Omega.{arith}
 use borrow.Author.Rules.{rules}
-use Prim.Native.Nat.{◌≤◌, ◌-◌}
 use lib.ListN.{length, length-set}
 use mathlib.Core.Path.{◌≡◌, refl, ◌∙◌}
 use Rattle.store.specs.Page.{page}
-use Rattle.listing.specs.WayLaws.{mapped_length, Full, cleared, clear_on, used_is}
+use Rattle.listing.specs.WayLaws.{Full, clear_on, used_is}
 use Rattle.listing.proofs.way.only_used.Goals as goal
 
 pub loop-level-init : goal.loop-level-init

@@ -1,10 +1,7 @@
-use native.Mathlib.Omega.{arith}
-use borrow.Author.Rules.{rules}
 use Prim.Native.Nat.{◌≤◌, ◌-◌}
-use lib.ListN.{length, length-set}
-use mathlib.Core.Path.{◌≡◌, refl, ◌∙◌}
+use mathlib.Core.Path.{◌≡◌}
 use Rattle.store.specs.Page.{page}
-use Rattle.listing.specs.WayLaws.{mapped_length, Full, cleared, clear_on, used_is}
+use Rattle.listing.specs.WayLaws.{Full, cleared}
 use Rattle.listing.proofs.way.only_used.Given as goal
 
 abbrev pub invariant-loop-level : goal.invariant-loop-level

@@ -1,5 +1,5 @@
 -- `count_of` meets its contract: the header's second byte is the count. Assumes nothing.
-use Rattle.std.proofs.Common.{◌+◌, ◌*◌, refl, arith, rules}
+use Rattle.std.proofs.Common.{◌+◌, ◌*◌, refl, arith}
 use Rattle.rules.specs.Page.{count_of}
 use Rattle.memory_store.proofs.access.count_of.Goals as goal
 

@@ -1,10 +1,9 @@
 -- `first_not_below` meets its contract: the index sought lies between the two ends. Assumes nothing.
-use Rattle.std.proofs.Common.{◌≡◌, ◌+◌, ◌-◌, ◌*◌, ◌/◌, ◌≤◌, zero-le, arith, rules}
-use Rattle.datom.specs.Datom.{datom_at, datoms_of}
+use Rattle.std.proofs.Common.{◌≡◌, ◌+◌, ◌-◌, ◌*◌, ◌/◌, zero-le, arith}
+use Rattle.datom.specs.Datom.{datom_at}
 use Rattle.index.specs.declared.Order.TheVariants.{Less, Equal, Greater}
 use Rattle.index.specs.Order.{order_in, named}
 use Rattle.index.proofs.Laws.{order_preorder}
-use Rattle.rules.specs.Node.{rank}
 use Rattle.memory_store.specs.RankLaws.{seek_right, seek_left, rank_within}
 use Rattle.index.specs.Named.{less_named, equal_named, greater_named}
 use Rattle.memory_store.proofs.access.first_not_below.Goals as goal

@@ -1,5 +1,5 @@
 -- `is_midpoint_at` meets its contract: the child there is not none. Assumes nothing.
-use Rattle.std.proofs.Common.{suc, ◌*◌, arith, rules}
+use Rattle.std.proofs.Common.{suc, ◌*◌, arith}
 use Rattle.store.specs.Page.{none}
 use Rattle.store.specs.Cells.{pages_at}
 use Rattle.rules.specs.Node.{is_midpoint}

@@ -1,5 +1,5 @@
 -- `level_of` meets its contract: the header's first byte is the level. Assumes nothing.
-use Rattle.std.proofs.Common.{◌+◌, ◌*◌, refl, arith, rules}
+use Rattle.std.proofs.Common.{◌+◌, ◌*◌, refl, arith}
 use Rattle.rules.specs.Page.{level_of}
 use Rattle.memory_store.proofs.access.level_of.Goals as goal
 

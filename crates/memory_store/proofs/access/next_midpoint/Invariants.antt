@@ -1,10 +1,6 @@
-use Rattle.std.proofs.Common.{◌≡◌, suc, ◌-◌, ◌*◌, true, false, drop, sym, refl, ◌∙◌, arith, rules}
-use borrow.Author.Tests.{not-true, not-false}
-use Rattle.store.specs.Page.{is_none}
-use Rattle.store.specs.Cells.{pages_from}
+use Rattle.std.proofs.Common.{◌≡◌, suc, ◌-◌, drop}
 use Rattle.rules.specs.Page.{children_of}
 use Rattle.rules.specs.Node.{next_midpoint}
-use Rattle.memory_store.specs.Steps.{next_on, next_stop, next_end}
 use Rattle.memory_store.proofs.access.next_midpoint.Given as goal
 
 abbrev pub invariant-loop-i : goal.invariant-loop-i

@@ -1,5 +1,5 @@
 -- `node_at` meets its contract: a page below the count lies in the store, and the reader tells the rest. Assumes nothing.
-use Rattle.std.proofs.Common.{sym, ap, ◌∙◌, arith, rules}
+use Rattle.std.proofs.Common.{sym, ap, ◌∙◌, arith}
 use Rattle.index.specs.Order.{order_in}
 use Rattle.memory_store.specs.Reading.{said}
 use Rattle.memory_store.specs.FetchLaws.{in_order, page_long, found_missing, found_broken, found_fine}

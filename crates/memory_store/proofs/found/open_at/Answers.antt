@@ -1,5 +1,5 @@
 -- `open_at` meets its contract: what the reader tells, at the level asked for. Assumes nothing.
-use Rattle.std.proofs.Common.{sym, ap, ◌∙◌, rules}
+use Rattle.std.proofs.Common.{sym, ap, ◌∙◌}
 use Rattle.index.specs.Order.{order_in}
 use Rattle.memory_store.specs.Reading.{told}
 use Rattle.memory_store.specs.Opened.{open_faulty, open_other, open_node}

@@ -1,10 +1,8 @@
 -- `all_older` meets its contract: the test on the rest of the list is the test on the whole. Assumes nothing.
-use Rattle.std.proofs.Common.{◌≡◌, ◌-◌, drop, sym, ◌∙◌, arith, rules}
-use borrow.Author.Tests.{not-true, not-false}
-use Rattle.store.specs.Words.{cells}
+use Rattle.std.proofs.Common.{sym, ◌∙◌, arith}
 use Rattle.store.specs.Page.{page_of}
 use Rattle.store.specs.Cells.{pages_from}
-use Rattle.rules.specs.Page.{all, older}
+use Rattle.rules.specs.Page.{older}
 use Rattle.memory_store.specs.Steps.{all_on, all_stop, all_end}
 use Rattle.memory_store.proofs.reader.all_older.Goals as goal
 

@@ -1,10 +1,7 @@
-use Rattle.std.proofs.Common.{◌≡◌, ◌-◌, drop, sym, ◌∙◌, arith, rules}
-use borrow.Author.Tests.{not-true, not-false}
+use Rattle.std.proofs.Common.{◌≡◌, ◌-◌, drop}
 use Rattle.store.specs.Words.{cells}
 use Rattle.store.specs.Page.{page_of}
-use Rattle.store.specs.Cells.{pages_from}
 use Rattle.rules.specs.Page.{all, older}
-use Rattle.memory_store.specs.Steps.{all_on, all_stop, all_end}
 use Rattle.memory_store.proofs.reader.all_older.Given as goal
 
 abbrev pub invariant-loop-i : goal.invariant-loop-i

@@ -1,9 +1,7 @@
 -- `all_rising` meets its contract: the rest rises as the whole does. Assumes nothing.
-use Rattle.std.proofs.Common.{◌≡◌, ◌+◌, ◌-◌, ◌*◌, ◌≤◌, true, false, drop, sym, refl, ◌∙◌, arith, rules}
-use borrow.Author.Tests.{not-true, not-false}
-use Rattle.datom.specs.Datom.{datom_at, datoms_of}
+use Rattle.std.proofs.Common.{◌≡◌, ◌+◌, ◌*◌, true, false, sym, refl, ◌∙◌, arith, rules}
+use Rattle.datom.specs.Datom.{datom_at}
 use Rattle.index.specs.Order.{order_in, is_less}
-use Rattle.rules.specs.Page.{rising}
 use Rattle.memory_store.specs.Steps.{rising_on, rising_stop, rising_end}
 use Rattle.memory_store.proofs.reader.all_rising.Goals as goal
 

@@ -1,9 +1,7 @@
-use Rattle.std.proofs.Common.{◌≡◌, ◌+◌, ◌-◌, ◌*◌, ◌≤◌, true, false, drop, sym, refl, ◌∙◌, arith, rules}
-use borrow.Author.Tests.{not-true, not-false}
-use Rattle.datom.specs.Datom.{datom_at, datoms_of}
-use Rattle.index.specs.Order.{order_in, is_less}
+use Rattle.std.proofs.Common.{◌≡◌, ◌-◌, ◌≤◌, drop}
+use Rattle.datom.specs.Datom.{datoms_of}
+use Rattle.index.specs.Order.{order_in}
 use Rattle.rules.specs.Page.{rising}
-use Rattle.memory_store.specs.Steps.{rising_on, rising_stop, rising_end}
 use Rattle.memory_store.proofs.reader.all_rising.Given as goal
 
 abbrev pub invariant-loop-i : goal.invariant-loop-i

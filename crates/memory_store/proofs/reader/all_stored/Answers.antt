@@ -1,11 +1,9 @@
 -- `all_stored` meets its contract: the test on the rest of the list is the test on the whole. Assumes nothing.
-use Rattle.std.proofs.Common.{◌≡◌, ◌+◌, ◌-◌, ◌*◌, true, false, drop, sym, refl, ◌∙◌, arith, rules}
-use borrow.Author.Tests.{not-true, not-false}
+use Rattle.std.proofs.Common.{◌≡◌, ◌+◌, ◌*◌, true, false, sym, refl, ◌∙◌, arith}
 use Rattle.store.specs.Words.{word_at}
 use Rattle.datom.specs.Value.{stored_value}
-use Rattle.datom.specs.Datom.{datom_of, datoms_of, stored_datom}
+use Rattle.datom.specs.Datom.{datom_of, stored_datom}
 use Rattle.datom.specs.Laws.{datoms_from}
-use Rattle.rules.specs.Page.{all}
 use Rattle.memory_store.specs.Steps.{all_on, all_stop, all_end, stored_word}
 use Rattle.memory_store.proofs.reader.all_stored.Goals as goal
 

@@ -1,5 +1,5 @@
 -- `four_integers` meets its contract: none of the four is above the bits of all. Assumes nothing.
-use Rattle.std.proofs.Common.{◌^◌, ◌<◌, arith, rules, ltb-true}
+use Rattle.std.proofs.Common.{◌^◌, ◌<◌, arith, ltb-true}
 use lib.Bits.{bit_or}
 use Rattle.index.specs.Compare.{or_left, or_right}
 use Rattle.memory_store.proofs.reader.four_integers.Goals as goal

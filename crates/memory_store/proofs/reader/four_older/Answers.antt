@@ -1,6 +1,5 @@
 -- `four_older` meets its contract: one test for each. Assumes nothing.
-use Rattle.std.proofs.Common.{sym, ◌∙◌, rules}
-use borrow.Author.Tests.{not-false}
+use Rattle.std.proofs.Common.{sym, ◌∙◌}
 use Rattle.memory_store.specs.Fours.{never}
 use Rattle.memory_store.proofs.reader.four_older.Goals as goal
 

@@ -1,7 +1,5 @@
 -- `four_words_rise` meets its contract: one test for each. Assumes nothing.
-use borrow.Author.Tests.{not-false}
 use Rattle.memory_store.specs.Fours.{never}
-use Rattle.std.proofs.Common.{rules}
 use Rattle.memory_store.proofs.reader.four_words_rise.Goals as goal
 
 pub returns-then-not-words_rise : goal.returns-then-not-words_rise

@@ -1,5 +1,5 @@
 -- `is_older` meets its contract: the number after a word tells. Assumes nothing.
-use Rattle.std.proofs.Common.{arith, rules}
+use Rattle.std.proofs.Common.{arith}
 use Rattle.memory_store.specs.Steps.{older_word}
 use Rattle.memory_store.proofs.reader.is_older.Goals as goal
 

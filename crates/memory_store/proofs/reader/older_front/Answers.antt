@@ -1,9 +1,5 @@
 -- `older_front` meets its contract: the test on the rest of the list is the test on the whole. Assumes nothing.
-use Rattle.std.proofs.Common.{◌≡◌, ◌-◌, ◌≤◌, drop, sym, refl, ◌∙◌, arith, rules}
-use borrow.Author.Tests.{not-false}
-use Rattle.store.specs.Words.{cells}
-use Rattle.store.specs.Page.{page_of}
-use Rattle.rules.specs.Page.{all, older}
+use Rattle.std.proofs.Common.{sym, refl, ◌∙◌, arith, rules}
 use Rattle.memory_store.specs.Fours.{older_on}
 use Rattle.memory_store.proofs.reader.older_front.Goals as goal
 

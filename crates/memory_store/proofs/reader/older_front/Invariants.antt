@@ -1,9 +1,7 @@
-use Rattle.std.proofs.Common.{◌≡◌, ◌-◌, ◌≤◌, drop, sym, refl, ◌∙◌, arith, rules}
-use borrow.Author.Tests.{not-false}
+use Rattle.std.proofs.Common.{◌≡◌, ◌-◌, ◌≤◌, drop}
 use Rattle.store.specs.Words.{cells}
 use Rattle.store.specs.Page.{page_of}
 use Rattle.rules.specs.Page.{all, older}
-use Rattle.memory_store.specs.Fours.{older_on}
 use Rattle.memory_store.proofs.reader.older_front.Given as goal
 
 abbrev pub invariant-loop-i : goal.invariant-loop-i

@@ -1,5 +1,4 @@
 -- `plain_front` meets its contract: one loop for each order. Assumes nothing.
-use Rattle.std.proofs.Common.{rules}
 use Rattle.memory_store.proofs.reader.plain_front.Goals as goal
 
 pub returns-in-Eavt : goal.returns-in-Eavt

@@ -1,10 +1,9 @@
 -- `plain_front_aevt` meets its contract: both rules on the rest of the list are the rules on the whole. Assumes nothing.
-use Rattle.std.proofs.Common.{ℕ, ◌-◌, ◌*◌, ◌≤◌, List, refl, ◌∙◌, arith, rules}
-use borrow.Author.Tests.{not-false}
+use Rattle.std.proofs.Common.{◌*◌, refl, ◌∙◌, arith, rules}
 use Rattle.index.specs.declared.Index.TheVariants.{Aevt}
 use Rattle.index.specs.Order.{order_in}
 use Rattle.index.specs.Form.{order_plain}
-use Rattle.memory_store.specs.Fours.{SameFrom, four_on, four_aevt}
+use Rattle.memory_store.specs.Fours.{four_on, four_aevt}
 use Rattle.memory_store.proofs.reader.plain_front_aevt.Goals as goal
 
 pub loop-i-init : goal.loop-i-init

@@ -1,6 +1,5 @@
 -- `read_children` meets its contract: one law for each way through. Assumes nothing.
-use Rattle.std.proofs.Common.{sym, ◌∙◌, arith, rules}
-use borrow.Author.Tests.{not-true, not-false}
+use Rattle.std.proofs.Common.{sym, ◌∙◌, arith}
 use Rattle.memory_store.specs.Reading.{said}
 use Rattle.memory_store.specs.Steps.{older_zero}
 use Rattle.memory_store.specs.Ways.{way_leaf, way_flat, way_last, way_child, way_tall}

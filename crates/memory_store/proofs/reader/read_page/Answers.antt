@@ -1,6 +1,5 @@
 -- `read_page` meets its contract: one law for each way through. Assumes nothing.
-use Rattle.std.proofs.Common.{sym, ◌∙◌, rules}
-use borrow.Author.Tests.{not-true, not-false}
+use Rattle.std.proofs.Common.{sym, ◌∙◌}
 use Rattle.index.specs.Order.{order_in}
 use Rattle.memory_store.specs.Reading.{said}
 use Rattle.memory_store.specs.Ways.{way_level, way_count, way_form, way_order, way_on}

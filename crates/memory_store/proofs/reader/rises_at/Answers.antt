@@ -1,5 +1,5 @@
 -- `rises_at` meets its contract: by the first words, by the second, or by what is behind them. Assumes nothing.
-use Rattle.std.proofs.Common.{sym, ◌∙◌, arith, rules}
+use Rattle.std.proofs.Common.{sym, ◌∙◌, arith}
 use Rattle.index.specs.Parts.{place_fits, first, second}
 use Rattle.memory_store.specs.Rises.{rises_first, rises_second, rises_rest}
 use Rattle.memory_store.proofs.reader.rises_at.Goals as goal

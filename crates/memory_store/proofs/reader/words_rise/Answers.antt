@@ -1,5 +1,5 @@
 -- `words_rise` meets its contract: by the first word, or by the second where the first is the same. Assumes nothing.
-use Rattle.std.proofs.Common.{◌<◌, inl, inr, arith, rules, ltb-true}
+use Rattle.std.proofs.Common.{◌<◌, inl, inr, arith, ltb-true}
 use Rattle.memory_store.specs.Fours.{never}
 use Rattle.memory_store.proofs.reader.words_rise.Goals as goal
 

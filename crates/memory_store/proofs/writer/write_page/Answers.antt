@@ -1,5 +1,5 @@
 -- `write_page` meets its contract: what three stores lay down, each with zeros behind it, is the encoding. Assumes nothing.
-use Rattle.std.proofs.Common.{◌∙◌, arith, rules}
+use Rattle.std.proofs.Common.{◌∙◌, arith}
 use native.Mathlib.Nat.{add-sub_cancel_left}
 use Rattle.memory_store.specs.WriterLaws.{page_made}
 use Rattle.memory_store.proofs.writer.write_page.Goals as goal

@@ -11,10 +11,10 @@ use Rattle.rules.specs.Node.{rank_by, next_midpoint}
 use Rattle.rules.specs.Tree.{Fetched}
 use Rattle.rules.specs.Lookup.{child_of}
 use Rattle.rules.specs.Lists.{In}
-use Rattle.history.proofs.Order.{clash, Front, AtMost}
-use Rattle.history.proofs.Rank.{Stop}
-use Rattle.history.proofs.Tree.{Tree, blank, last, item, InTree, own, Real, Good}
-use Rattle.history.proofs.Pages.{page, Holds, no_page, a_page, h_last, h_item, Stored, holds_real}
+use Rattle.history.specs.Order.{clash, Front, AtMost}
+use Rattle.history.specs.Rank.{Stop}
+use Rattle.history.specs.Tree.{Tree, blank, last, item, InTree, own, Real, Good}
+use Rattle.history.specs.Pages.{page, Holds, no_page, a_page, h_last, h_item, Stored, holds_real}
 
 -- a child, or what comes after it where it is none
 abbrev pub or_next : Tree → Tree → Tree

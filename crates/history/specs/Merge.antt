@@ -13,9 +13,9 @@ use Rattle.rules.specs.Node.{merge_datoms, merge_children, meets}
 use Rattle.rules.specs.Tree.{Fetched}
 use Rattle.rules.specs.Lists.{In, Rising, less, turned, below_all}
 use Rattle.rules.specs.MergeLaws.{merge_out}
-use Rattle.history.proofs.Order.{not_both, other}
-use Rattle.history.proofs.Tree.{Tree, blank, last, item, InTree, own, Good, Exactly, item_in, pend_in, Apart, pending, pending_in, pending_own, alone, pending_good}
-use Rattle.history.proofs.Pages.{page, Holds, no_page, h_last, h_item, holds_pending, none_is}
+use Rattle.history.specs.Order.{not_both, other}
+use Rattle.history.specs.Tree.{Tree, blank, last, item, InTree, own, Good, Exactly, item_in, pend_in, Apart, pending, pending_in, pending_own, alone, pending_good}
+use Rattle.history.specs.Pages.{page, Holds, no_page, h_last, h_item, holds_pending, none_is}
 
 -- a batch among the datoms of a page: behind the page's last datom, or before the first that is not below it
 pub data Merged (cmp : Datom → Datom → Ordering) : Tree → List Datom → Tree → Type 0 where

@@ -21,13 +21,13 @@ use Rattle.rules.specs.Tree.{Fetched, fine, at_level}
 use Rattle.rules.specs.Store.{bad_store, fetch_page}
 use Rattle.rules.specs.Listing.{Frame, begin_frames, end_frames, cursor_of, frame_of, Least, same_indices, staying, moved, onward, step_list}
 use Rattle.rules.specs.Lists.{In, Rising, less, turned}
-use Rattle.history.proofs.Order.{clash, is_true, is_false, same_test, up_to, Front, AtMost, up_false, up_above, same_below_law, one_way, not_self, below_front, up_front}
-use Rattle.history.proofs.Rank.{Stop, stop_fails}
-use Rattle.history.proofs.Tree.{Tree, blank, last, item, InTree, own, Good}
-use Rattle.history.proofs.Pages.{page, Holds, Stored, holds_own}
-use Rattle.history.proofs.Child.{child_by, child_stored, child_leaf, child_good, cover}
-use Rattle.history.proofs.Cursor.{frames_back}
-use Rattle.history.proofs.Step.{down, opens_by, along, frames_agree, LeastOk, is_nothing, is_least, step_ok}
+use Rattle.history.specs.Order.{clash, is_true, is_false, same_test, up_to, Front, AtMost, up_false, up_above, same_below_law, one_way, not_self, below_front, up_front}
+use Rattle.history.specs.Rank.{Stop, stop_fails}
+use Rattle.history.specs.Tree.{Tree, blank, last, item, InTree, own, Good}
+use Rattle.history.specs.Pages.{page, Holds, Stored, holds_own}
+use Rattle.history.specs.Child.{child_by, child_stored, child_leaf, child_good, cover}
+use Rattle.history.specs.Cursor.{frames_back}
+use Rattle.history.specs.Step.{down, opens_by, along, frames_agree, LeastOk, is_nothing, is_least, step_ok}
 
 -- the child is given by the index
 child_rank : (p q : Datom → Bool) (t : Tree) → rank_by p (own t) ≡ rank_by q (own t) → child_by p t ≡ child_by q t

@@ -8,7 +8,7 @@ use Rattle.store.specs.Page.{none, is_none}
 use Rattle.rules.specs.Node.{Span, span_from, longest_span, any_pending}
 use Rattle.rules.specs.Lists.{In, in_append, in_get_d}
 use Rattle.rules.proofs.Spans.{Closed}
-use Rattle.history.proofs.Order.{clash}
+use Rattle.history.specs.Order.{clash}
 
 -- all none
 abbrev pub Nones : List PageId → Type 0

@@ -1,5 +1,5 @@
 -- Words of 64 bits hold every cursor that a listing over the pages of a slice gives. Rests on Step alone.
-use Rattle.std.specs.Prelude.{ℕ, zero, suc, ◌+◌, ◌-◌, ◌*◌, ◌^◌, ◌≤◌, ◌<◌, Bool, ◌≡◌, length, get_or, replicate}
+use Rattle.std.specs.Prelude.{ℕ, zero, suc, ◌-◌, ◌*◌, ◌^◌, ◌≤◌, ◌<◌, Bool, ◌≡◌, length, get_or, replicate}
 use Rattle.std.proofs.Common.{arith, mul-le-mul_left, length-append}
 use mathlib.Core.List.{List, [], ◌∷◌, ◌++◌, map, reverse, reverse_aux}
 use Rattle.std.proofs.lemmas.List.{length-map, length-replicate, length-reverse}
@@ -18,10 +18,10 @@ use Rattle.rules.specs.Listing.{Frame, eight, indices_of, pages_of, cursor_of, f
 use Rattle.rules.specs.Lists.{rank_most}
 use Rattle.rules.proofs.ReadLaws.{fetch_tells, read_count}
 use Rattle.rules.proofs.Sizes.{level_fine}
-use Rattle.history.proofs.Tree.{Tree}
-use Rattle.history.proofs.Pages.{page, Holds, Stored}
-use Rattle.history.proofs.Child.{child_by, child_stored}
-use Rattle.history.proofs.Step.{down, opens_by}
+use Rattle.history.specs.Tree.{Tree}
+use Rattle.history.specs.Pages.{page, Holds, Stored}
+use Rattle.history.specs.Child.{child_by, child_stored}
+use Rattle.history.specs.Step.{down, opens_by}
 
 -- every one of a list
 abbrev pub Each : {A : Type 0} → (A → Type 0) → List A → Type 0

@@ -1,5 +1,5 @@
 -- Batches as bytes: their datoms have words of 64 bits, and the bytes of datoms are a batch of these datoms. Rests on the rules alone.
-use Rattle.std.specs.Prelude.{ℕ, zero, suc, ◌+◌, ◌*◌, ◌/◌, ◌%◌, ◌≤◌, List, [], ◌∷◌, ◌++◌, ◌≡◌, length, take, drop}
+use Rattle.std.specs.Prelude.{ℕ, zero, suc, ◌*◌, ◌/◌, ◌%◌, ◌≤◌, List, [], ◌∷◌, ◌++◌, ◌≡◌, length, take, drop}
 use Rattle.std.proofs.Common.{zero-le, suc-le-suc, arith, append-nil, inl, inr, sym, ◌∙◌, ap, eq-eqb, length-drop, length-take-le}
 use Rattle.store.specs.declared.PageId.{PageId}
 use Rattle.store.specs.declared.StoreRecord.{StoreRecord}

@@ -18,8 +18,8 @@ use Rattle.rules.specs.Store.{or_else}
 use Rattle.rules.specs.Insert.{count_fault, form_fault, word_fault, order_fault, has_same, twin_fault, bytes_fault}
 use Rattle.rules.specs.Lists.{In, Rising, rising_of, rising_in}
 use Rattle.rules.specs.Checks.{order_tells}
-use Rattle.history.proofs.Order.{clash}
-use Rattle.history.proofs.Sort.{Distinct}
+use Rattle.history.specs.Order.{clash}
+use Rattle.history.specs.Sort.{Distinct}
 
 -- a refusal by 2, by 3 or 11, or by 4
 abbrev pub Early : Refusal → Type 0

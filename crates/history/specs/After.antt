@@ -26,8 +26,8 @@ use Rattle.rules.specs.Tree.{fine}
 use Rattle.rules.specs.Store.{bad_store, page_at, fetch_page, env_of, store_after}
 use Rattle.rules.specs.Round.{Writable, encoded_length, read_back}
 use Rattle.rules.proofs.ReadLaws.{fetch_tells}
-use Rattle.history.proofs.Pages.{Extends}
-use Rattle.history.proofs.Held.{nth, nth_lt, held, EnvOk}
+use Rattle.history.specs.Pages.{Extends}
+use Rattle.history.specs.Held.{nth, nth_lt, held, EnvOk}
 
 -- a part of a list that lies in a front that two lists share
 same_part : (n k m : ℕ) (b b₁ : List ℕ) → take n b₁ ≡ take n b → k + m ≤ n → take m (drop k b₁) ≡ take m (drop k b)

@@ -14,7 +14,7 @@ use Rattle.index.proofs.Laws.{Preorder}
 use Rattle.rules.specs.Node.{below}
 use Rattle.rules.specs.Insert.{place, sort}
 use Rattle.rules.specs.Lists.{In, in_append, Rising, less, turned, below_all}
-use Rattle.history.proofs.Order.{clash, not_both, not_self, one_way, same_below_law, other}
+use Rattle.history.specs.Order.{clash, not_both, not_self, one_way, same_below_law, other}
 
 -- what lies from the lower bound up to but not including the upper
 unfoldable pub within : (Datom → Datom → Ordering) → Datom → Datom → List Datom → List Datom

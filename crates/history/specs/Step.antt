@@ -20,11 +20,11 @@ use Rattle.rules.specs.Node.{rank_by, is_midpoint, next_midpoint}
 use Rattle.rules.specs.Tree.{Fetched, faulty, fine, at_level}
 use Rattle.rules.specs.Listing.{Path, path, longer, path_by, never, Open, frame_of, opened, open_one, open_frames, Least, none_left, least, after, taking, choose, least_of}
 use Rattle.rules.specs.Lists.{Rising, turned, rank_most}
-use Rattle.history.proofs.Order.{clash, is_true, up_to, Front, AtMost, not_both, up_false, up_true, one_way, not_self, lower}
-use Rattle.history.proofs.Rank.{Head, head_in, Stop, stop_fails, stop_short, rank_agree, rank_next, own_cover}
-use Rattle.history.proofs.Tree.{Tree, blank, last, item, InTree, own, Good, own_in, own_rising}
-use Rattle.history.proofs.Pages.{page, Holds, h_last, h_item, Stored, holds_own, holds_lengths, child_real}
-use Rattle.history.proofs.Child.{child_by, first_child, next_child, child_at, child_stored, child_leaf, or_in, first_in, child_in, child_good, cover}
+use Rattle.history.specs.Order.{clash, is_true, up_to, Front, AtMost, not_both, up_false, up_true, one_way, not_self, lower}
+use Rattle.history.specs.Rank.{Head, head_in, Stop, stop_fails, stop_short, rank_agree, rank_next, own_cover}
+use Rattle.history.specs.Tree.{Tree, blank, last, item, InTree, own, Good, own_in, own_rising}
+use Rattle.history.specs.Pages.{page, Holds, h_last, h_item, Stored, holds_own, holds_lengths, child_real}
+use Rattle.history.specs.Child.{child_by, first_child, next_child, child_at, child_stored, child_leaf, or_in, first_in, child_in, child_good, cover}
 
 -- beside a pending datom the next child stays
 same_child :

@@ -33,9 +33,9 @@ use Rattle.append.specs.Answers.{Appends}
 use Rattle.history.specs.Statement.{Known, Moment, at, Start, Call, inserts, Constant, appending, beginning, Lent, Fair, left, outcome_of, Next, Later, now, next, History, gathered, Between, StepsAlong, handed, WellFormed, Shared}
 use Rattle.history.specs.Statement as history
 use Rattle.history.specs.More.{Asked}
-use Rattle.history.proofs.Order.{same_self}
+use Rattle.history.specs.Order.{same_self}
 use Rattle.history.proofs.Heap.{at_laws}
-use Rattle.history.proofs.Batch.{insert_records, initialise_records}
+use Rattle.history.specs.Batch.{insert_records, initialise_records}
 use Rattle.history.proofs.Base.{base, base_beyond, shared_same}
 use Rattle.demand.specs.Runs.{SameBelow, SameConstants, changed, Runs, start, then}
 

@@ -8,8 +8,8 @@ use Rattle.datom.specs.declared.Datom.{Datom}
 use Rattle.rules.specs.Page.{Node}
 use Rattle.rules.specs.Tree.{Fetched, faulty, fine, at_level}
 use Rattle.rules.specs.Lists.{In}
-use Rattle.history.proofs.Order.{clash}
-use Rattle.history.proofs.Tree.{Tree, blank, last, item, InTree, own, Real, is_blank, real_flag, Ends, Full, pending}
+use Rattle.history.specs.Order.{clash}
+use Rattle.history.specs.Tree.{Tree, blank, last, item, InTree, own, Real, is_blank, real_flag, Ends, Full, pending}
 
 -- where a tree may stand: in the datoms and children of a page of level l, or as a child in such a page
 pub data Place : Type 0 where

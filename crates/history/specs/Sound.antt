@@ -14,9 +14,9 @@ use Rattle.rules.specs.Page.{Node}
 use Rattle.rules.specs.Tree.{Fetched, fine, at_level}
 use Rattle.rules.specs.Check.{above_lower, below_upper, Under, check_child, midpoint_next, walk, check_at}
 use Rattle.rules.specs.Lists.{In}
-use Rattle.history.proofs.Order.{clash}
-use Rattle.history.proofs.Tree.{Tree, InTree, own, Good, own_in}
-use Rattle.history.proofs.Pages.{page, child, Holds, no_page, a_page, h_last, h_item, child_real}
+use Rattle.history.specs.Order.{clash}
+use Rattle.history.specs.Tree.{Tree, InTree, own, Good, own_in}
+use Rattle.history.specs.Pages.{page, child, Holds, no_page, a_page, h_last, h_item, child_real}
 
 -- a tree between two bounds that may be missing
 record Bounded (cmp : Datom → Datom → Ordering) (lower upper : Option Datom) (t : Tree) : Type 0 where

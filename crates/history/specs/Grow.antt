@@ -8,7 +8,6 @@ use mathlib.Core.List.{List, [], ◌∷◌, ◌++◌}
 use mathlib.Core.Logic.Iff as Iff
 use Rattle.std.proofs.Math.Path.{refl}
 use Rattle.store.specs.declared.PageId.{PageId}
-use Rattle.store.specs.Laws.{apart}
 use Rattle.datom.specs.declared.Datom.{Datom}
 use Rattle.index.specs.Order.{DatomOrd}
 use Rattle.rules.specs.Page.{Node}
@@ -17,14 +16,14 @@ use Rattle.rules.specs.Tree.{Env, Stage, go, fetch_at, put, split, is_over, sett
 use Rattle.rules.specs.Lists.{In, Rising}
 use Rattle.rules.proofs.Sizes.{level_is}
 use Rattle.rules.proofs.Spans.{pendings}
-use Rattle.history.proofs.Order.{clash}
-use Rattle.history.proofs.Tree.{Tree, last, InTree, Full, Good, own_in, Exactly, Apart}
-use Rattle.history.proofs.Pages.{Place, page, child, Holds, h_last, h_item, Stored, holds_extends, holds_own, holds_lengths, holds_real, leaf_full, real_last}
-use Rattle.history.proofs.Merge.{merge_holds, merged_in, merged_good, merge_clear}
-use Rattle.history.proofs.Held.{held, EnvOk, held_old, Storable, Written, none_written, More, same_more, more_more, Grown, Goes, goes, goes_then, goes_map, put_ok}
-use Rattle.history.proofs.Split.{Made, split_ok}
-use Rattle.history.proofs.Span.{Spotted, longest_ok, Cuts, cuts}
-use Rattle.history.proofs.Flush.{Row, row_of, row_holds, row_pendings, row_full, Target, target, pendings_fewer, none_pending}
+use Rattle.history.specs.Order.{clash}
+use Rattle.history.specs.Tree.{Tree, last, InTree, Full, Good, own_in, Exactly, Apart}
+use Rattle.history.specs.Pages.{Place, page, child, Holds, h_last, h_item, Stored, holds_extends, holds_own, holds_lengths, holds_real, leaf_full, real_last}
+use Rattle.history.specs.Merge.{merge_holds, merged_in, merged_good, merge_clear}
+use Rattle.history.specs.Held.{held, EnvOk, held_old, Storable, Written, none_written, More, same_more, more_more, Grown, Goes, goes, goes_then, goes_map, put_ok}
+use Rattle.history.specs.Split.{Made, split_ok}
+use Rattle.history.specs.Span.{Spotted, longest_ok, Cuts, cuts}
+use Rattle.history.specs.Flush.{Row, row_of, row_holds, row_pendings, row_full, Target, target, pendings_fewer, none_pending}
 
 -- the same pages for a larger start and other words for the contents
 abbrev pub regrown :

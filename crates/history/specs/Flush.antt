@@ -1,7 +1,7 @@
 -- Flush: a run of pending datoms and the child that ends it, replaced by what an insert into that child gives. "An insert reads only
 -- pages below the old count": a child behind a pending datom is held by the old pages, any other by the old and the new.
 -- Rests on Pages, Graft and Span.
-use Prim.Native.Nat.{ℕ, suc, ◌+◌, ◌≤◌, ◌<◌, zero-le, suc-le-suc, Ordering}
+use Prim.Native.Nat.{ℕ, suc, ◌≤◌, ◌<◌, zero-le, suc-le-suc, Ordering}
 use Rattle.std.proofs.Common.{arith, inl, inr, ap}
 use Rattle.std.specs.Prelude.{Bool, List, [], ◌∷◌, ◌++◌, ◌⊎◌, ◌≡◌}
 use Rattle.std.proofs.Math.Bool.{true, false}
@@ -15,11 +15,11 @@ use Rattle.rules.specs.Node.{any_pending}
 use Rattle.rules.specs.Tree.{Fetched}
 use Rattle.rules.specs.Lists.{In, Rising}
 use Rattle.rules.proofs.Spans.{pendings, pendings_append, Closed}
-use Rattle.history.proofs.Order.{clash}
-use Rattle.history.proofs.Tree.{Tree, blank, last, item, InTree, Real, is_blank, real_flag, Full, Good, Exactly, Apart, pending, pending_in}
-use Rattle.history.proofs.Graft.{prepend, Tail, nothing, then, join, graft, graft_in, join_in, prepend_in, prepend_has, prepend_rest, ClosedItems, Around, graft_good, run_around, prepend_good}
-use Rattle.history.proofs.Pages.{page, child, Holds, no_page, a_page, h_last, h_item, Stored, Extends, holds_extends, child_real, child_blank, child_flag, child_page}
-use Rattle.history.proofs.Span.{Nones}
+use Rattle.history.specs.Order.{clash}
+use Rattle.history.specs.Tree.{Tree, blank, last, item, InTree, Real, is_blank, real_flag, Full, Good, Exactly, Apart, pending, pending_in}
+use Rattle.history.specs.Graft.{prepend, Tail, nothing, then, join, graft, graft_in, join_in, prepend_in, prepend_has, prepend_rest, ClosedItems, Around, graft_good, run_around, prepend_good}
+use Rattle.history.specs.Pages.{page, child, Holds, no_page, a_page, h_last, h_item, Stored, Extends, holds_extends, child_real, child_blank, child_flag, child_page}
+use Rattle.history.specs.Span.{Nones}
 
 -- the old pages, or the old and the new
 abbrev pub choose : Bool → (PageId → Fetched) → (PageId → Fetched) → (PageId → Fetched)

@@ -25,8 +25,8 @@ use Rattle.rules.specs.Tree.{Fetched, faulty, fine, at_level, Env, Stage, stop, 
 use Rattle.rules.specs.Lists.{all_of, rising_of}
 use Rattle.rules.specs.Round.{Writable}
 use Rattle.rules.proofs.Sizes.{level_fine}
-use Rattle.history.proofs.Tree.{Tree, InTree, Good, own_in, own_rising, Exactly}
-use Rattle.history.proofs.Pages.{Place, page, child, Holds, no_page, a_page, Extends, holds_extends, holds_own, holds_lengths, holds_child, real_last}
+use Rattle.history.specs.Tree.{Tree, InTree, Good, own_in, own_rising, Exactly}
+use Rattle.history.specs.Pages.{Place, page, child, Holds, no_page, a_page, Extends, holds_extends, holds_own, holds_lengths, holds_child, real_last}
 
 -- a page written, by its place
 unfoldable pub nth : List Node → ℕ → Fetched

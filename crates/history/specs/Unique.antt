@@ -6,9 +6,9 @@ use Rattle.store.specs.declared.PageId.{PageId}
 use Rattle.store.specs.Page.{is_none}
 use Rattle.datom.specs.declared.Datom.{Datom}
 use Rattle.rules.specs.Tree.{Fetched}
-use Rattle.history.proofs.Order.{clash}
-use Rattle.history.proofs.Tree.{Tree, last, item}
-use Rattle.history.proofs.Pages.{Place, page, Holds, no_page, a_page, h_last, h_item, child_flag}
+use Rattle.history.specs.Order.{clash}
+use Rattle.history.specs.Tree.{Tree, last, item}
+use Rattle.history.specs.Pages.{Place, page, Holds, no_page, a_page, h_last, h_item, child_flag}
 
 pub same_tree : {f : PageId → Fetched} {w : Place} {t t₁ : Tree} → Holds f w t → Holds f w t₁ → t ≡ t₁
 same_tree (no_page n) (no_page k) = refl

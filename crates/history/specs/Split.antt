@@ -16,9 +16,9 @@ use Rattle.rules.specs.Node.{split_parts, split_up}
 use Rattle.rules.specs.Tree.{Fetched, Env, then, put, put_all, split, is_over}
 use Rattle.rules.specs.Lists.{In}
 use Rattle.rules.proofs.SplitLaws.{weave, all_children, Part, split_keeps_every_datom, split_keeps_every_child, split_parts_fit, split_midpoints_fewer, split_shrinks}
-use Rattle.history.proofs.Tree.{Tree, last, item, InTree, Ends, Full, Good, item_in, item_same, midpoint}
-use Rattle.history.proofs.Pages.{page, Holds, h_last, h_item, holds_extends, holds_lengths, holds_real, leaf_own}
-use Rattle.history.proofs.Held.{held, EnvOk, Storable, Written, more_more, Grown, Goes, goes, goes_then, put_ok}
+use Rattle.history.specs.Tree.{Tree, last, item, InTree, Ends, Full, Good, item_in, item_same, midpoint}
+use Rattle.history.specs.Pages.{page, Holds, h_last, h_item, holds_extends, holds_lengths, holds_real, leaf_own}
+use Rattle.history.specs.Held.{held, EnvOk, Storable, Written, more_more, Grown, Goes, goes, goes_then, put_ok}
 
 -- a node cut behind a child: the datom there goes up, below all right of it and above all left of it
 record Halves

@@ -4,7 +4,7 @@ use Rattle.std.specs.Prelude.{Bool, true, false, List, [], ◌∷◌, ◌++◌, 
 use Rattle.std.proofs.Common.{inl, inr, ap}
 use Rattle.datom.specs.declared.Datom.{Datom}
 use Rattle.rules.specs.Lists.{In, in_append, Rising}
-use Rattle.history.proofs.Order.{clash, not_both}
+use Rattle.history.specs.Order.{clash, not_both}
 
 -- no page; or a page with all that is below it, from left to right: each datom with the child before it, then the last child
 pub data Tree : Type 0 where

@@ -11,7 +11,7 @@ use Rattle.datom.specs.declared.Datom.{Datom}
 use Rattle.index.proofs.Laws.{Preorder}
 use Rattle.rules.specs.Node.{rank_by}
 use Rattle.rules.specs.Lists.{In, Rising}
-use Rattle.history.proofs.Order.{clash, up_to, AtMost, up_false, up_true, one_way, not_self}
+use Rattle.history.specs.Order.{clash, up_to, AtMost, up_false, up_true, one_way, not_self}
 
 -- the first datom of a list
 abbrev pub Head : Datom → List Datom → Type 0

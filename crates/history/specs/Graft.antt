@@ -6,8 +6,8 @@ use mathlib.Core.Logic.Iff as Iff
 use Rattle.datom.specs.declared.Datom.{Datom}
 use Rattle.index.proofs.Laws.{Preorder}
 use Rattle.rules.specs.Lists.{In, in_left, in_right, Rising}
-use Rattle.history.proofs.Order.{clash}
-use Rattle.history.proofs.Tree.{Tree, blank, last, item, InTree, own, Real, is_blank, flag_real, Full, Good, own_in, Exactly, item_in, item_same, Apart, pending, pending_in, pending_own, midpoint}
+use Rattle.history.specs.Order.{clash}
+use Rattle.history.specs.Tree.{Tree, blank, last, item, InTree, own, Real, is_blank, flag_real, Full, Good, own_in, Exactly, item_in, item_same, Apart, pending, pending_in, pending_own, midpoint}
 
 -- items in front of a tree: each a child and the datom behind it
 abbrev pub prepend : List (Tree × Datom) → Tree → Tree

@@ -19,11 +19,11 @@ use Rattle.rules.specs.Node.{rank_by, below, head_same}
 use Rattle.rules.specs.Tree.{fine, Env, fetch_at}
 use Rattle.rules.specs.Lookup.{Look, met, absent, lookup, Finding, clear, found, after_look, lookup_all}
 use Rattle.rules.specs.Lists.{In, turned}
-use Rattle.history.proofs.Order.{clash, AtMost, below_same, below_front}
-use Rattle.history.proofs.Rank.{head_in, Stop, stop_fails}
-use Rattle.history.proofs.Tree.{Tree, InTree, own, Good, own_in, Apart}
-use Rattle.history.proofs.Pages.{page, Holds, Stored, holds_own}
-use Rattle.history.proofs.Child.{child_by, child_at, child_stored, child_leaf, child_in, child_good, cover}
+use Rattle.history.specs.Order.{clash, AtMost, below_same, below_front}
+use Rattle.history.specs.Rank.{head_in, Stop, stop_fails}
+use Rattle.history.specs.Tree.{Tree, InTree, own, Good, own_in, Apart}
+use Rattle.history.specs.Pages.{page, Holds, Stored, holds_own}
+use Rattle.history.specs.Child.{child_by, child_at, child_stored, child_leaf, child_in, child_good, cover}
 
 -- the tree has a datom equal to d
 abbrev pub Has : (Datom → Datom → Ordering) → Datom → Tree → Type 0

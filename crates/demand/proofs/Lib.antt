@@ -1,3 +1,3 @@
--- What is proved of the definitions of specs/.
+-- Demand 3 of the code for a caller in C or C++: Called is about one call, Upheld has the theorem.
 pub mod Called
 pub mod Upheld

@@ -3,7 +3,6 @@ use Rattle.std.specs.Prelude.{ℕ, ◌+◌, ◌*◌, ◌≤◌, List, ◌≡◌,
 use Rattle.std.proofs.Common.{add-zero, mul-le-mul_right, arith}
 use Rattle.store.specs.declared.Extent.{Extent}
 use Rattle.store.specs.Size.{most_datoms, room_for, scratch_need}
-use Rattle.store.specs.Laws.{Known}
 use Rattle.memory_store.specs.FetchLaws.{InOrder, in_order}
 use Rattle.htree.specs.Told.{Ready}
 use Rattle.entry.specs.Checks.{Roomy}

@@ -1,4 +1,4 @@
--- What a history of calls promises: Statement says it, Demand and Again prove it, Base is its instance, Example, Wide and Long are histories.
+-- What a history of calls promises: Statement and More say it, and proofs/ has what is proved of it, and histories.
 pub mod Statement
 pub mod Fit
 pub mod More
@@ -28,6 +28,3 @@ pub mod Sort
 pub mod Batch
 pub mod Checks
 pub mod After
-
--- what a growing heap leaves as it was
--- histories

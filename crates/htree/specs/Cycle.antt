@@ -4,7 +4,7 @@ use Rattle.std.proofs.Common.{add-mul, one-mul, arith, ◌∙◌, drop-drop}
 use Rattle.store.specs.declared.PageId.{PageId}
 use Rattle.store.specs.declared.Extent.{Extent}
 use Rattle.store.specs.Size.{capacity}
-use Rattle.store.specs.Laws.{Known, cells_length}
+use Rattle.store.specs.Laws.{cells_length}
 use Rattle.datom.specs.Datom.{datom_of, datoms_of}
 use Rattle.index.specs.Order.{DatomOrd}
 use Rattle.answer.specs.declared.Refusal.{Refusal}
@@ -24,7 +24,7 @@ use Rattle.htree.specs.declared.place.Inserted.{Inserted}
 use Rattle.htree.specs.declared.place.Inserted.TheVariants as inserted
 use Rattle.htree.specs.declared.insert.Loaded.TheVariants as loaded
 use Rattle.htree.specs.Wrote.{wrote_length}
-use Rattle.htree.specs.Told.{blanks, blanks_length, Ready, Told, Tells, Went, Stopped, went, stopped, tell_went, tell_stopped}
+use Rattle.htree.specs.Told.{blanks, blanks_length, Ready, Told, Tells, went, stopped, tell_went, tell_stopped}
 use Rattle.htree.specs.Split.{ready_after}
 use Rattle.htree.specs.Load.{batch_at, Loads, loads_node}
 use Rattle.htree.specs.Flush.{insert_lower, flush_stops, flush_goes, comes_back, no_bigger, Draining, draining_start, drained, drained_count, draining_on, draining_stop, all_small, all_sent, all_none, is_not_over, node_children, insert_damaged, insert_leaf, inner_stops, on_count, inner_goes, inner_fails}

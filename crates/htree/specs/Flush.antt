@@ -10,7 +10,7 @@ use Rattle.store.specs.declared.Extent.{Extent}
 use Rattle.store.specs.Words.{cells}
 use Rattle.store.specs.Page.{none, page_of}
 use Rattle.store.specs.Size.{capacity}
-use Rattle.store.specs.Laws.{Known, apart, cells_length}
+use Rattle.store.specs.Laws.{apart, cells_length}
 use Rattle.store.specs.Cells.{pages_at}
 use Rattle.datom.specs.declared.Datom.{Datom}
 use Rattle.datom.specs.Datom.{datom_of, datoms_of}
@@ -23,12 +23,12 @@ use Rattle.rules.specs.Node.{longest_span, any_pending, splice}
 use Rattle.rules.specs.Tree.{Env, Stage, stop, go, then, fetch_at, is_over, settle, Below, flush, flush_all, insert_merged, insert_into}
 use Rattle.rules.specs.Store.{env_of}
 use Rattle.rules.proofs.ReadLaws.{env_capped}
-use Rattle.rules.proofs.Sizes.{Capped, Few, flush_no_bigger, insert_gives_few}
+use Rattle.rules.proofs.Sizes.{Few, flush_no_bigger, insert_gives_few}
 use Rattle.memory_store.specs.FetchLaws.{InOrder}
 use Rattle.node.specs.declared.Span.{Span}
 use Rattle.node.specs.Spans.{Spans}
 use Rattle.htree.specs.Wrote.{Wrote, wrote_none, wrote_more, wrote_env}
-use Rattle.htree.specs.Told.{node_count, Ready, Went, Stopped}
+use Rattle.htree.specs.Told.{node_count, Went, Stopped}
 use Rattle.htree.specs.declared.insert.Loaded.TheVariants as loaded
 use Rattle.htree.specs.Load.{batch_at, Loads, loads_node, loads_bad}
 

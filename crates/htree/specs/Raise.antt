@@ -20,7 +20,7 @@ use Rattle.htree.specs.declared.place.Inserted.TheVariants as inserted
 use Rattle.htree.specs.declared.root.Rooted.{Rooted}
 use Rattle.htree.specs.declared.root.Rooted.TheVariants as rooted
 use Rattle.htree.specs.Wrote.{wrote_env}
-use Rattle.htree.specs.Told.{blanks, blanks_length, node_count, Ready, Tells, Went, Stopped, went, stopped}
+use Rattle.htree.specs.Told.{blanks, blanks_length, node_count, Ready, Tells, went, stopped}
 use Rattle.htree.specs.Split.{ready_after}
 use Rattle.htree.specs.Flush.{flush_all_level}
 use Rattle.htree.specs.Root.{Roots, tell_no_root, root_after, split_gives}

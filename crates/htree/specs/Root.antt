@@ -11,7 +11,7 @@ use Rattle.store.specs.declared.Extent.{Extent}
 use Rattle.store.specs.Words.{little, word_at, cells}
 use Rattle.store.specs.Page.{page, page_of}
 use Rattle.store.specs.Size.{capacity}
-use Rattle.store.specs.Laws.{Known, apart}
+use Rattle.store.specs.Laws.{apart}
 use Rattle.index.specs.Order.{DatomOrd}
 use Rattle.answer.specs.declared.Refusal.{Refusal}
 use Rattle.rules.specs.Page.{Node, node_of, children_of, child_at}
@@ -19,7 +19,7 @@ use Rattle.rules.specs.Node.{split_up, split_parts}
 use Rattle.rules.specs.Tree.{Env, Stage, stop, go, then, put, put_all, split, is_over, root_of, write_root}
 use Rattle.rules.specs.Store.{env_of}
 use Rattle.rules.proofs.SplitLaws.{split_shrinks}
-use Rattle.memory_store.specs.FetchLaws.{InOrder, in_order}
+use Rattle.memory_store.specs.FetchLaws.{in_order}
 use Rattle.htree.specs.declared.place.Put.TheVariants as put
 use Rattle.htree.specs.declared.place.Inserted.TheVariants as inserted
 use Rattle.htree.specs.declared.root.Rooted.{Rooted}

@@ -8,18 +8,18 @@ use Rattle.store.specs.declared.Extent.{Extent}
 use Rattle.store.specs.Words.{cells, patch}
 use Rattle.store.specs.Page.{page_bytes}
 use Rattle.store.specs.Size.{capacity}
-use Rattle.store.specs.Laws.{Known, cells_length}
+use Rattle.store.specs.Laws.{cells_length}
 use Rattle.datom.specs.Datom.{datom_of}
 use Rattle.index.specs.Order.{DatomOrd}
 use Rattle.answer.specs.declared.Refusal.{Refusal}
 use Rattle.rules.specs.Page.{Node, node_of}
-use Rattle.rules.specs.Tree.{Env, go, then, put, split, is_over, settle}
+use Rattle.rules.specs.Tree.{go, then, put, split, is_over, settle}
 use Rattle.rules.specs.Store.{env_of}
-use Rattle.memory_store.specs.FetchLaws.{InOrder, in_order}
+use Rattle.memory_store.specs.FetchLaws.{in_order}
 use Rattle.node.specs.Parts.{splitting_start, splitting_end}
 use Rattle.htree.specs.declared.place.Put.TheVariants as put
 use Rattle.htree.specs.Told.{Ready, PutTold, put_is, put_is_not, Went, Stopped}
-use Rattle.htree.specs.Wrote.{Wrote, wrote_none}
+use Rattle.htree.specs.Wrote.{wrote_none}
 
 -- the pages past the count, as the code counts them
 pub ready_next : {x : Extent} {s : List ℕ} {c w : ℕ} → Ready x s c w → x.count + w ≤ length s

@@ -12,7 +12,7 @@ use Rattle.store.specs.declared.Extent.{Extent}
 use Rattle.store.specs.Words.{patch}
 use Rattle.store.specs.Page.{page_bytes}
 use Rattle.store.specs.Size.{capacity}
-use Rattle.store.specs.Laws.{Known, page_length}
+use Rattle.store.specs.Laws.{page_length}
 use Rattle.store.specs.Cells.{patch_length}
 use Rattle.datom.specs.declared.Datom.{Datom}
 use Rattle.datom.specs.Datom.{datom_at, datoms_of}
@@ -22,8 +22,8 @@ use Rattle.rules.specs.Page.{Node, children_of, node_of}
 use Rattle.rules.specs.Node.{share, parts, between, pages_for, split_parts, split_up, part_of}
 use Rattle.rules.specs.Tree.{Env, Stage, stop, go, then, put, put_all, split}
 use Rattle.rules.specs.Store.{env_of}
-use Rattle.rules.proofs.SplitLaws.{share_some, share_most, Shares, shares}
-use Rattle.memory_store.specs.FetchLaws.{InOrder, in_order}
+use Rattle.rules.proofs.SplitLaws.{share_some, share_most, shares}
+use Rattle.memory_store.specs.FetchLaws.{in_order}
 use Rattle.node.specs.Parts.{Splitting, parts_step, between_step, splitting_on, splitting_end, splitting_start, parts_start, between_start, share_left, share_inner, share_next}
 use Rattle.htree.specs.declared.place.Put.{Put}
 use Rattle.htree.specs.declared.place.Put.TheVariants as put

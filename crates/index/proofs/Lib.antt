@@ -1,6 +1,6 @@
--- What is proved of the definitions of specs/.
+-- The laws of the order, and what its first words tell.
+pub mod Laws
+pub mod PartWords
 pub mod Ways
 pub mod Below
 pub mod Agree
-pub mod Laws
-pub mod PartWords

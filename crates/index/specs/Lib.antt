@@ -1,4 +1,4 @@
--- The order of datoms, its laws, and a number for each value that is in the order.
+-- The order of datoms, and a number for each value that is in the order. The order's laws are in proofs/.
 pub mod Order
 pub mod Numbers
 pub mod Examples

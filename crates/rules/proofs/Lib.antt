@@ -1,7 +1,7 @@
--- What is proved of the definitions of specs/.
-pub mod Within
+-- What is proved of the rules: no node outgrows its place, a split keeps every datom and child, what a page that is read is known to be.
 pub mod SplitLaws
-pub mod Sizes
-pub mod ReadLaws
-pub mod Turns
 pub mod Spans
+pub mod Sizes
+pub mod Turns
+pub mod ReadLaws
+pub mod Within

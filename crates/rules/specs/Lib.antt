@@ -1,4 +1,4 @@
--- Document 01's rules, in its order, and what is proved of them.
+-- Document 01's rules, in its order, its examples, and some of what is proved of them. The rest is in proofs/.
 pub mod Page
 pub mod Node
 pub mod Tree

@@ -1,15 +1,9 @@
-use Prim.Native.Nat.{◌*◌, ◌-◌, ◌≤◌}
-use native.Mathlib.Omega.{arith}
-use mathlib.Core.Bool.{true, false}
-use mathlib.Core.Path.{◌≡◌, refl, sym, ◌∙◌}
-use borrow.Author.Tests.{not-true, not-false}
+use Prim.Native.Nat.{◌-◌, ◌≤◌}
+use mathlib.Core.Path.{◌≡◌}
 use lib.ListN.{drop}
-use Rattle.datom.specs.Datom.{datom_at, datoms_of, stored_datom}
-use Rattle.datom.specs.Laws.{datoms_from}
+use Rattle.datom.specs.Datom.{datoms_of, stored_datom}
 use Rattle.answer.specs.declared.Refusal.TheVariants.{BadConstant}
 use Rattle.rules.specs.Insert.{form_fault}
-use Rattle.batch.specs.Steps.{form_on, form_stop, form_end}
-use borrow.Author.Rules.{rules}
 use Rattle.batch.proofs.constant_fault.Given as goal
 
 abbrev pub invariant-loop-i : goal.invariant-loop-i

@@ -1,14 +1,11 @@
 -- `form_fault` meets its contract: what is found in the rest is what is found in the whole. Assumes nothing.
-use Prim.Native.Nat.{◌*◌, ◌-◌, ◌≤◌}
+use Prim.Native.Nat.{◌*◌}
 use native.Mathlib.Omega.{arith}
 use mathlib.Core.Bool.{true, false}
 use mathlib.Core.Path.{◌≡◌, refl, sym, ◌∙◌}
-use borrow.Author.Tests.{not-true, not-false}
-use lib.ListN.{drop}
-use Rattle.datom.specs.Datom.{datom_at, datoms_of, formed_datom}
+use Rattle.datom.specs.Datom.{datom_at, formed_datom}
 use Rattle.datom.specs.Laws.{datoms_from}
 use Rattle.answer.specs.declared.Refusal.TheVariants.{BadDatom}
-use Rattle.rules.specs.Insert.{form_fault}
 use Rattle.batch.specs.Steps.{form_on, form_stop, form_end}
 use borrow.Author.Rules.{rules}
 use Rattle.batch.proofs.form_fault.Goals as goal

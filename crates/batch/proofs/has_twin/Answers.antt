@@ -1,13 +1,12 @@
 -- `has_twin` meets its contract: what is found among the earlier ones still to look at is what is found among all. Assumes nothing.
-use Prim.Native.Nat.{◌*◌, ◌-◌, ◌≤◌}
+use Prim.Native.Nat.{◌*◌, ◌-◌}
 use native.Mathlib.Omega.{arith}
 use mathlib.Core.Path.{◌≡◌, sym, ◌∙◌}
 use Rattle.datom.specs.Datom.{datom_at}
 use Rattle.index.specs.declared.Order.TheVariants.{Less, Equal, Greater}
 use Rattle.index.specs.Order.{order_in, named}
-use Rattle.rules.specs.Insert.{has_same}
 use Rattle.index.specs.Named.{less_named, equal_named, greater_named}
-use Rattle.batch.specs.Twins.{earlier, earlier_at, any_on, any_stop, any_end}
+use Rattle.batch.specs.Twins.{earlier_at, any_on, any_stop, any_end}
 use borrow.Author.Rules.{rules}
 use Rattle.batch.proofs.has_twin.Goals as goal
 

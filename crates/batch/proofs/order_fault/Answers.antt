@@ -1,13 +1,11 @@
 -- `order_fault` meets its contract: what is found in the rest, behind the last datom passed, is what is found in the whole. Assumes nothing.
-use Prim.Native.Nat.{◌*◌, ◌-◌, ◌≤◌}
+use Prim.Native.Nat.{◌*◌}
 use native.Mathlib.Omega.{arith}
 use mathlib.Core.Path.{◌≡◌, sym, ◌∙◌}
-use lib.ListN.{drop}
-use Rattle.datom.specs.Datom.{datom_at, datoms_of}
+use Rattle.datom.specs.Datom.{datom_at}
 use Rattle.datom.specs.Laws.{datoms_from}
 use Rattle.index.specs.declared.Order.TheVariants.{Less, Equal, Greater}
 use Rattle.index.specs.Order.{order_in, named}
-use Rattle.rules.specs.Insert.{low_fault, order_fault}
 use Rattle.index.specs.Named.{less_named, equal_named, greater_named}
 use Rattle.batch.specs.Steps.{low_on, low_stop, low_end, order_none, order_start}
 use borrow.Author.Rules.{rules}

@@ -1,14 +1,9 @@
 -- `twin_fault` meets its contract: what is found in the rest, behind those passed, is what is found in the whole. Assumes nothing.
-use Prim.Native.Nat.{◌-◌, ◌≤◌}
 use native.Mathlib.Omega.{arith}
-use mathlib.Core.List.{[]}
-use mathlib.Core.Path.{◌≡◌, sym, ◌∙◌}
-use lib.ListN.{drop}
-use Rattle.datom.specs.Datom.{datoms_of}
+use mathlib.Core.Path.{sym, ◌∙◌}
 use Rattle.datom.specs.Laws.{datoms_from}
 use Rattle.index.specs.Order.{order_in}
-use Rattle.rules.specs.Insert.{twin_fault}
-use Rattle.batch.specs.Twins.{earlier, twin_start, twin_on, twin_stop, twin_end}
+use Rattle.batch.specs.Twins.{twin_start, twin_on, twin_stop, twin_end}
 use borrow.Author.Rules.{rules}
 use Rattle.batch.proofs.twin_fault.Goals as goal
 

@@ -1,14 +1,11 @@
 use Prim.Native.Nat.{◌-◌, ◌≤◌}
-use native.Mathlib.Omega.{arith}
 use mathlib.Core.List.{[]}
-use mathlib.Core.Path.{◌≡◌, sym, ◌∙◌}
+use mathlib.Core.Path.{◌≡◌}
 use lib.ListN.{drop}
 use Rattle.datom.specs.Datom.{datoms_of}
-use Rattle.datom.specs.Laws.{datoms_from}
 use Rattle.index.specs.Order.{order_in}
 use Rattle.rules.specs.Insert.{twin_fault}
-use Rattle.batch.specs.Twins.{earlier, twin_start, twin_on, twin_stop, twin_end}
-use borrow.Author.Rules.{rules}
+use Rattle.batch.specs.Twins.{earlier}
 use Rattle.batch.proofs.twin_fault.Given as goal
 
 abbrev pub invariant-loop-i : goal.invariant-loop-i

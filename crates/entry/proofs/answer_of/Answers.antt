@@ -1,7 +1,6 @@
 -- `answer_of` meets its contract. Assumes nothing.
 use mathlib.Core.Path.{sym, ap}
 use Rattle.entry.specs.Reply.{answer_of}
-use borrow.Author.Rules.{rules}
 use Rattle.entry.proofs.answer_of.Goals as goal
 
 pub returns-in-Root : goal.returns-in-Root

@@ -5,9 +5,8 @@ use lib.ListN.{length}
 use Rattle.store.specs.declared.Extent.{Extent}
 use Rattle.rules.specs.Store.{bad_store, bad_scratch}
 use Rattle.rules.specs.Calls.{bad_room, initialise_bytes_call}
-use Rattle.ordered.specs.Ways.{Good, told_refused, told_order}
+use Rattle.ordered.specs.Ways.{told_refused, told_order}
 use Rattle.entry.specs.Reply.{replies_refused}
-use borrow.Author.Rules.{rules}
 use Rattle.entry.proofs.initialise.Goals as goal
 
 pub used_of-used-requires : goal.used_of-used-requires

@@ -2,9 +2,8 @@
 use mathlib.Core.Path.{refl, sym, ◌∙◌, ap}
 use mathlib.Core.List.{[]}
 use Rattle.batch.specs.Finding.{finding_of}
-use Rattle.entry.specs.Reply.{Replies, replies_refused, replies}
+use Rattle.entry.specs.Reply.{replies_refused, replies}
 use Rattle.entry.specs.Checks.{sorted_found, sorted_fresh}
-use borrow.Author.Rules.{rules}
 use Rattle.entry.proofs.initialise_counted.Goals as goal
 
 pub returns-in-Found : goal.returns-in-Found

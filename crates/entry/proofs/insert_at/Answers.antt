@@ -9,7 +9,6 @@ use Rattle.memory_store.specs.Readable.{told_faulty, told_fine}
 use Rattle.batch.specs.Finding.{finding_of}
 use Rattle.entry.specs.Reply.{replies_refused, replies}
 use Rattle.entry.specs.Under.{at_bad, at_found, at_clear}
-use borrow.Author.Rules.{rules}
 use Rattle.entry.proofs.insert_at.Goals as goal
 
 pub lookup_all-requires : goal.lookup_all-requires

@@ -4,7 +4,6 @@ use mathlib.Core.List.{[]}
 use Rattle.batch.specs.Finding.{finding_of}
 use Rattle.entry.specs.Reply.{replies_refused, replies}
 use Rattle.entry.specs.Checks.{fault_rises, counted_found, counted_fresh, counted_missing, counted_at}
-use borrow.Author.Rules.{rules}
 use Rattle.entry.proofs.insert_counted.Goals as goal
 
 pub returns-then-is_bad_root : goal.returns-then-is_bad_root

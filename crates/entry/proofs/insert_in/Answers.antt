@@ -1,9 +1,8 @@
 -- `insert_in` meets its contract on every input: 1 and 2, then the rest. Assumes nothing.
 use mathlib.Core.Path.{sym, ◌∙◌}
 use lib.ListN.{length}
-use Rattle.entry.specs.Reply.{Replies, replies_refused}
+use Rattle.entry.specs.Reply.{replies_refused}
 use Rattle.entry.specs.Checks.{insert_refused, insert_counted_law, passed}
-use borrow.Author.Rules.{rules}
 use Rattle.entry.proofs.insert_in.Goals as goal
 
 pub insert_counted-requires : goal.insert_counted-requires

@@ -1,7 +1,6 @@
 -- `answer_of` meets its contract. Assumes nothing.
 use mathlib.Core.Path.{sym, ap}
 use Rattle.held.specs.Ways.{held_of}
-use borrow.Author.Rules.{rules}
 use Rattle.held.proofs.answer_of.Goals as goal
 
 pub returns-in-Found : goal.returns-in-Found

@@ -3,8 +3,7 @@ use mathlib.Core.Path.{◌≡◌, sym, ap, ◌∙◌}
 use Rattle.store.specs.declared.Extent.{Extent}
 use Rattle.rules.specs.Store.{bad_store}
 use Rattle.rules.specs.Calls.{bad_pages, held_call}
-use Rattle.ordered.specs.Ways.{Good, told_refused, told_order}
-use borrow.Author.Rules.{rules}
+use Rattle.ordered.specs.Ways.{told_refused, told_order}
 use Rattle.held.proofs.held.Goals as goal
 
 pub used_of-used-requires : goal.used_of-used-requires

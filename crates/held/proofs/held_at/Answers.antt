@@ -5,7 +5,6 @@ use Rattle.index.specs.Order.{order_in}
 use Rattle.memory_store.specs.Reading.{told}
 use Rattle.memory_store.specs.Readable.{told_faulty, told_fine}
 use Rattle.held.specs.Ways.{at_bad, at_read}
-use borrow.Author.Rules.{rules}
 use Rattle.held.proofs.held_at.Goals as goal
 
 pub held_all-requires : goal.held_all-requires

@@ -4,7 +4,6 @@ use Rattle.datom.specs.Datom.{datoms_of}
 use Rattle.index.specs.Order.{order_in}
 use Rattle.batch.specs.Finding.{finding_of}
 use Rattle.held.specs.Ways.{counted_found, counted_missing, counted_on}
-use borrow.Author.Rules.{rules}
 use Rattle.held.proofs.held_counted.Goals as goal
 
 pub returns-then-is_bad_root : goal.returns-then-is_bad_root

@@ -4,7 +4,6 @@ use mathlib.Core.Path.{sym, ◌∙◌}
 use Rattle.index.specs.Order.{order_in}
 use Rattle.batch.specs.Finding.{given_count}
 use Rattle.held.specs.Ways.{held_of_law, bytes_bad, bytes_refused, bytes_counted}
-use borrow.Author.Rules.{rules}
 use Rattle.held.proofs.held_in.Goals as goal
 
 pub returns-then-is_bad : goal.returns-then-is_bad

@@ -2,7 +2,6 @@
 use mathlib.Core.Path.{sym, ◌∙◌}
 use Rattle.index.specs.Order.{order_in}
 use Rattle.held.specs.Ways.{tree_empty, tree_none, tree_at}
-use borrow.Author.Rules.{rules}
 use Rattle.held.proofs.held_tree.Goals as goal
 
 pub returns-then-n-eq0 : goal.returns-then-n-eq0

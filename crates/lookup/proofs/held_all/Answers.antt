@@ -1,15 +1,11 @@
 -- `held_all` meets its contract: what the rest of the batch finds is what the whole finds. Assumes nothing.
-use Prim.Native.Nat.{◌-◌, ◌≤◌, ◌<◌}
+use Prim.Native.Nat.{◌<◌}
 use native.Mathlib.Omega.{arith}
-use mathlib.Core.Path.{◌≡◌, refl, sym, ◌∙◌}
-use lib.ListN.{drop}
-use Rattle.datom.specs.Datom.{datoms_of}
+use mathlib.Core.Path.{refl, sym, ◌∙◌}
 use Rattle.datom.specs.Laws.{datoms_from}
 use Rattle.index.specs.Order.{order_in}
-use Rattle.rules.specs.Held.{held_all}
-use Rattle.rules.specs.Store.{fetch_page, env_of}
 use Rattle.lookup.specs.Held.{held_on, held_absent, held_lost, held_end}
-use Rattle.lookup.specs.Path.{Kept, kept_unread}
+use Rattle.lookup.specs.Path.{kept_unread}
 use borrow.Author.Rules.{rules}
 use Rattle.lookup.proofs.held_all.Goals as goal
 

@@ -1,17 +1,13 @@
 -- `lookup_all` meets its contract: what the rest of the batch finds is what the whole finds. Assumes nothing.
-use Prim.Native.Nat.{◌-◌, ◌≤◌, ◌<◌}
+use Prim.Native.Nat.{◌<◌}
 use native.Mathlib.Omega.{arith}
-use mathlib.Core.Path.{◌≡◌, refl, sym, ◌∙◌}
-use lib.ListN.{drop}
-use Rattle.datom.specs.Datom.{datoms_of}
+use mathlib.Core.Path.{refl, sym, ◌∙◌}
 use Rattle.datom.specs.Laws.{datoms_from}
 use Rattle.index.specs.Order.{order_in}
 use Rattle.index.proofs.Laws.{order_preorder}
-use Rattle.rules.specs.Lookup.{lookup_all}
-use Rattle.rules.specs.Store.{fetch_page, env_of}
 use Rattle.lookup.specs.Steps.{all_met, all_lost, all_end}
 use Rattle.lookup.specs.Gap.{next_most, next_finds}
-use Rattle.lookup.specs.Path.{Kept, kept_unread}
+use Rattle.lookup.specs.Path.{kept_unread}
 use borrow.Author.Rules.{rules}
 use Rattle.lookup.proofs.lookup_all.Goals as goal
 

@@ -1,17 +1,11 @@
-use Prim.Native.Nat.{◌-◌, ◌≤◌, ◌<◌}
-use native.Mathlib.Omega.{arith}
-use mathlib.Core.Path.{◌≡◌, refl, sym, ◌∙◌}
+use Prim.Native.Nat.{◌-◌, ◌≤◌}
+use mathlib.Core.Path.{◌≡◌}
 use lib.ListN.{drop}
 use Rattle.datom.specs.Datom.{datoms_of}
-use Rattle.datom.specs.Laws.{datoms_from}
 use Rattle.index.specs.Order.{order_in}
-use Rattle.index.proofs.Laws.{order_preorder}
 use Rattle.rules.specs.Lookup.{lookup_all}
 use Rattle.rules.specs.Store.{fetch_page, env_of}
-use Rattle.lookup.specs.Steps.{all_met, all_lost, all_end}
-use Rattle.lookup.specs.Gap.{next_most, next_finds}
-use Rattle.lookup.specs.Path.{Kept, kept_unread}
-use borrow.Author.Rules.{rules}
+use Rattle.lookup.specs.Path.{Kept}
 use Rattle.lookup.proofs.lookup_all.Given as goal
 
 abbrev pub invariant-loop-i : goal.invariant-loop-i

@@ -6,8 +6,7 @@ use Rattle.index.proofs.Laws.{order_preorder}
 use Rattle.memory_store.specs.Readable.{opens}
 use Rattle.lookup.specs.Gap.{met_leaves, lost_leaves}
 use Rattle.lookup.specs.Steps.{next_real}
-use Rattle.lookup.specs.Path.{Going, gap_is, met_is, next_is, going_met, going_absent, going_free, going_stuck, going_lost, going_down}
-use borrow.Author.Rules.{rules}
+use Rattle.lookup.specs.Path.{gap_is, met_is, next_is, going_met, going_absent, going_free, going_stuck, going_lost, going_down}
 use Rattle.lookup.proofs.lookup_one.Goals as goal
 
 pub loop-part-init : goal.loop-part-init

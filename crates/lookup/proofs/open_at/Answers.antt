@@ -1,6 +1,5 @@
 -- `open_at` meets its contract: what stands in the path was read. Assumes nothing.
 use Rattle.lookup.specs.Path.{kept_hit}
-use borrow.Author.Rules.{rules}
 use Rattle.lookup.proofs.open_at.Goals as goal
 
 pub returns-then-last-page : goal.returns-then-last-page

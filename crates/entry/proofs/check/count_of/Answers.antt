@@ -1,7 +1,6 @@
 -- `count_of` meets its contract: 1, then 2. Assumes nothing.
 use mathlib.Core.Path.{sym, ◌∙◌}
 use Rattle.entry.specs.Checks.{count_bad, count_on_law}
-use borrow.Author.Rules.{rules}
 use Rattle.entry.proofs.check.count_of.Goals as goal
 
 pub returns-then-is_bad : goal.returns-then-is_bad

@@ -2,7 +2,6 @@
 use mathlib.Core.Path.{sym, ◌∙◌, ap}
 use Rattle.batch.specs.Finding.{finding_of}
 use Rattle.entry.specs.Checks.{twin_form, twin_rest}
-use borrow.Author.Rules.{rules}
 use Rattle.entry.proofs.check.initialise_fault.Goals as goal
 
 pub returns-in-Found : goal.returns-in-Found

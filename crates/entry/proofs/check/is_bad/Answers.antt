@@ -3,10 +3,8 @@ use mathlib.Core.Path.{sym, ◌∙◌, ap}
 use native.Mathlib.Omega.{arith}
 use lib.Dec.{ltb}
 use Rattle.store.specs.Size.{scratch_need}
-use Rattle.store.specs.Laws.{Known}
-use Rattle.memory_store.specs.FetchLaws.{InOrder, in_order}
+use Rattle.memory_store.specs.FetchLaws.{in_order}
 use Rattle.entry.specs.Checks.{bad_pages_law, bad_scratch_law}
-use borrow.Author.Rules.{rules}
 use Rattle.entry.proofs.check.is_bad.Goals as goal
 
 pub returns-then-is_bad : goal.returns-then-is_bad

@@ -1,7 +1,6 @@
 -- `need_for` meets its contract. Assumes nothing.
 use native.Mathlib.Omega.{arith}
 use Rattle.entry.specs.Scratch.{room_is, need_is}
-use borrow.Author.Rules.{rules}
 use Rattle.entry.proofs.check.need_for.Goals as goal
 
 pub overflow_mul-result : goal.overflow_mul-result

@@ -1,6 +1,5 @@
 -- `room_for` meets its contract. Assumes nothing.
 use Rattle.entry.specs.Scratch.{room_is}
-use borrow.Author.Rules.{rules}
 use Rattle.entry.proofs.check.room_for.Goals as goal
 
 pub returns : goal.returns

@@ -2,7 +2,6 @@
 use mathlib.Core.Path.{sym, ◌∙◌, ap}
 use Rattle.batch.specs.Finding.{finding_of}
 use Rattle.entry.specs.Checks.{words_form, words_constant}
-use borrow.Author.Rules.{rules}
 use Rattle.entry.proofs.check.word_fault.Goals as goal
 
 pub returns-in-Found : goal.returns-in-Found

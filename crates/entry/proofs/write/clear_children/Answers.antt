@@ -1,9 +1,8 @@
 -- `clear_children` meets its contract: none is stored at one index after another. Assumes nothing.
-use borrow.Author.Rules.{rules}
 use mathlib.Core.Path.{◌≡◌}
 use native.Mathlib.Omega.{arith}
-use Prim.Native.Nat.{◌+◌, ◌-◌, ◌≤◌}
-use Rattle.entry.specs.Leaf.{Cleared, cleared_start, cleared_on}
+use Prim.Native.Nat.{◌+◌}
+use Rattle.entry.specs.Leaf.{cleared_start, cleared_on}
 use Rattle.entry.proofs.write.clear_children.Goals as goal
 
 pub loop-i-init : goal.loop-i-init

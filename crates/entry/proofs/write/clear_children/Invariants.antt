@@ -1,8 +1,5 @@
-use borrow.Author.Rules.{rules}
-use mathlib.Core.Path.{◌≡◌}
-use native.Mathlib.Omega.{arith}
 use Prim.Native.Nat.{◌+◌, ◌-◌, ◌≤◌}
-use Rattle.entry.specs.Leaf.{Cleared, cleared_start, cleared_on}
+use Rattle.entry.specs.Leaf.{Cleared}
 use Rattle.entry.proofs.write.clear_children.Given as goal
 
 abbrev pub invariant-loop-i : goal.invariant-loop-i

@@ -2,10 +2,8 @@
 use mathlib.Core.Path.{refl, ◌∙◌, ap}
 use native.Mathlib.Omega.{arith}
 use Rattle.datom.specs.Datom.{datoms_of}
-use Rattle.entry.specs.Checks.{Passed}
 use Rattle.entry.specs.Scratch.{roomy_area, roomy_small}
 use Rattle.entry.specs.Leaf.{batch_put}
-use borrow.Author.Rules.{rules}
 use Rattle.entry.proofs.write.fresh.Goals as goal
 
 pub put-requires : goal.put-requires

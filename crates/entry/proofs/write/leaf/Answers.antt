@@ -2,7 +2,6 @@
 use native.Mathlib.Omega.{arith}
 use Rattle.entry.specs.Scratch.{roomy_few, roomy_ready, roomy_small, roomy_area}
 use Rattle.entry.specs.Leaf.{fresh_front, cleared_leaf}
-use borrow.Author.Rules.{rules}
 use Rattle.entry.proofs.write.leaf.Goals as goal
 
 pub room_for-m-requires : goal.room_for-m-requires

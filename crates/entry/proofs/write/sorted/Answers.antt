@@ -4,11 +4,8 @@ use native.Mathlib.Omega.{arith}
 use Rattle.datom.specs.Datom.{datoms_of}
 use Rattle.index.specs.Order.{order_in}
 use Rattle.rules.specs.Insert.{sort}
-use Rattle.batch.specs.Sorting.{Sorted}
-use Rattle.entry.specs.Checks.{Passed}
 use Rattle.entry.specs.Scratch.{roomy_area, roomy_small}
 use Rattle.entry.specs.Leaf.{batch_put}
-use borrow.Author.Rules.{rules}
 use Rattle.entry.proofs.write.sorted.Goals as goal
 
 pub put-requires : goal.put-requires

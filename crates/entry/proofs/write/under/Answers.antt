@@ -8,7 +8,6 @@ use Rattle.memory_store.specs.Opened.{node_opened}
 use Rattle.htree.specs.Raise.{raise_stops, raise_ready, raise_few, raise_goes}
 use Rattle.entry.specs.Scratch.{roomy_few, roomy_ready, roomy_small, roomy_area, roomy_node, roomy_areas}
 use Rattle.entry.specs.Leaf.{batch_put}
-use borrow.Author.Rules.{rules}
 use Rattle.entry.proofs.write.under.Goals as goal
 
 pub room_for-m-requires : goal.room_for-m-requires

@@ -1,12 +1,6 @@
-use Prim.Native.Nat.{ℕ, ◌+◌, ◌*◌, ◌<◌}
-use native.Mathlib.Nat.{add-mul, one-mul}
-use native.Mathlib.Omega.{arith}
-use mathlib.Core.Path.{sym, ◌∙◌}
-use borrow.Author.Tests.{not-true, not-false}
-use borrow.Author.Rules.{rules}
-use lib.ListN.{length, length-take, length-drop}
+use Prim.Native.Nat.{◌+◌, ◌*◌}
 use Rattle.index.specs.Order.{order_in}
-use Rattle.htree.specs.Cycle.{Drains, rooms, area_fits, lower, drains_start, drains_ready, drains_length, drains_small, drains_sent, drains_none, drains_on, drains_stop, flush_fails, flush_back, flush_done, insert_bad, loads_few, insert_flat, insert_stops, went_ready, went_few, insert_goes}
+use Rattle.htree.specs.Cycle.{Drains}
 use Rattle.htree.proofs.insert.+drain_flush_insert_into.Given as goal
 
 abbrev pub invariant-drain-loop-turns : goal.invariant-drain-loop-turns

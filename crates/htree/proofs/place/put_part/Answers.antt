@@ -1,16 +1,14 @@
 -- `put_part` meets its contract: too tall, then no room, then one page past those written. Assumes nothing.
 use native.Mathlib.Nat.{div-le_self, add-mul, one-mul, le-div_iff_mul-le}
-use Rattle.rules.specs.Page.{encode_page, Node, node_of}
+use Rattle.rules.specs.Page.{encode_page, node_of}
 use Rattle.rules.specs.Node.{part_of}
 use Rattle.rules.specs.Round.{encoded_length}
-use Rattle.htree.specs.Wrote.{Wrote, wrote_one}
+use Rattle.htree.specs.Wrote.{wrote_one}
 use Prim.Native.Nat.{suc, ◌+◌, ◌*◌, ◌-◌, ◌≤◌}
 use native.Mathlib.Omega.{arith}
 use mathlib.Core.Path.{sym, ◌∙◌, ap}
 use lib.ListN.{length, length-take, length-drop}
-use Rattle.store.specs.Laws.{Known}
-use Rattle.memory_store.specs.FetchLaws.{InOrder, in_order}
-use Rattle.htree.specs.Told.{Ready}
+use Rattle.memory_store.specs.FetchLaws.{in_order}
 use Rattle.htree.specs.PutLaws.{part_back, part_few, part_lens, put_tall, put_full, put_done, one_fits}
 use borrow.Author.Rules.{rules}
 use Rattle.htree.proofs.place.put_part.Goals as goal

@@ -1,9 +1,8 @@
 -- `settle` meets its contract: a split, or one page whose id goes up. Assumes nothing.
 use native.Mathlib.Omega.{arith}
 use Rattle.rules.proofs.SplitLaws.{whole_part}
-use Rattle.htree.specs.Told.{Ready, tell_went, tell_stopped}
+use Rattle.htree.specs.Told.{tell_went, tell_stopped}
 use Rattle.htree.specs.Settle.{ready_next, settle_split, settle_put, settle_refused}
-use borrow.Author.Rules.{rules}
 use Rattle.htree.proofs.place.settle.Goals as goal
 
 pub returns-then-c-n : goal.returns-then-c-n

@@ -1,12 +1,10 @@
 -- `split` meets its contract: the loop stands halfway, whatever was written before, and the last part ends it. Assumes nothing.
-use Rattle.htree.specs.Split.{looping_length, looping_next, looping_on, looping_end, looping_stop, looping_refused, Divided, divided, Looping, halfway_start, looping_ready, looping_same, looping_few, looping_share, looping_inner, looping_last}
+use Rattle.htree.specs.Split.{looping_length, looping_next, looping_on, looping_end, looping_stop, looping_refused, divided, halfway_start, looping_ready, looping_same, looping_few, looping_share, looping_inner, looping_last}
 use borrow.Author.Rules.{rules}
-use Prim.Native.Nat.{◌-◌}
 use native.Mathlib.Omega.{arith}
 use mathlib.Core.Path.{refl}
-use Rattle.store.specs.Laws.{Known}
-use Rattle.memory_store.specs.FetchLaws.{InOrder, in_order}
-use Rattle.htree.specs.Told.{Ready, tell_went, tell_stopped}
+use Rattle.memory_store.specs.FetchLaws.{in_order}
+use Rattle.htree.specs.Told.{tell_went, tell_stopped}
 use Rattle.htree.proofs.place.split.Goals as goal
 
 pub overflow_sub-pages : goal.overflow_sub-pages

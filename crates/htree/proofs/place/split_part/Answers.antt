@@ -1,8 +1,6 @@
 -- `split_part` meets its contract: the page as `put_part` leaves it, then two stores into the area. Assumes nothing.
 use mathlib.Core.Path.{◌≡◌}
 use Rattle.store.specs.Laws.{apart}
-use Rattle.htree.specs.Split.{Parted}
-use borrow.Author.Rules.{rules}
 use Rattle.htree.proofs.place.split_part.Goals as goal
 
 pub returns-in-Placed : goal.returns-in-Placed

@@ -1,10 +1,8 @@
 -- `top` meets its contract: one child is the root, several are written as the root. Assumes nothing.
 use native.Mathlib.Omega.{arith}
 use Rattle.rules.proofs.SplitLaws.{whole_part}
-use Rattle.htree.specs.Told.{Ready}
 use Rattle.htree.specs.Settle.{ready_next}
 use Rattle.htree.specs.Root.{top_one, top_put, top_refused}
-use borrow.Author.Rules.{rules}
 use Rattle.htree.proofs.root.top.Goals as goal
 
 pub returns-then-n-eq0 : goal.returns-then-n-eq0

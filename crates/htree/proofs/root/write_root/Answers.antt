@@ -1,8 +1,6 @@
 -- `write_root` meets its contract: the loop rises, whatever was written before, and the top ends it. Assumes nothing.
-use borrow.Author.Rules.{rules}
 use native.Mathlib.Omega.{arith}
-use Rattle.htree.specs.Told.{Ready}
-use Rattle.htree.specs.Root.{Rises, rises_start, rises_ready, rises_length, rises_end, rises_stop, rises_fewer, rises_on}
+use Rattle.htree.specs.Root.{rises_start, rises_ready, rises_length, rises_end, rises_stop, rises_fewer, rises_on}
 use Rattle.htree.proofs.root.write_root.Goals as goal
 
 pub loop-count-init : goal.loop-count-init

@@ -1,7 +1,4 @@
-use borrow.Author.Rules.{rules}
-use native.Mathlib.Omega.{arith}
-use Rattle.htree.specs.Told.{Ready}
-use Rattle.htree.specs.Root.{Rises, rises_start, rises_ready, rises_length, rises_end, rises_stop, rises_fewer, rises_on}
+use Rattle.htree.specs.Root.{Rises}
 use Rattle.htree.proofs.root.write_root.Given as goal
 
 abbrev pub invariant-loop-count : goal.invariant-loop-count

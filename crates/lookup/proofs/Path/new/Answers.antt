@@ -1,5 +1,4 @@
 -- `Path::new` meets its contract. Assumes nothing.
-use borrow.Author.Rules.{rules}
 use Rattle.lookup.proofs.Path.new.Goals as goal
 
 pub returns : goal.returns

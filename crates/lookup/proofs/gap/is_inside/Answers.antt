@@ -4,7 +4,6 @@ use Rattle.index.specs.declared.Order.TheVariants.{Less, Equal, Greater}
 use Rattle.index.specs.Order.{order_in, named}
 use Rattle.index.specs.Named.{less_named, equal_named, greater_named}
 use Rattle.lookup.specs.Gap.{inside}
-use borrow.Author.Rules.{rules}
 use Rattle.lookup.proofs.gap.is_inside.Goals as goal
 
 pub returns-in_default : goal.returns-in_default

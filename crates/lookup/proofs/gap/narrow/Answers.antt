@@ -9,7 +9,6 @@ use Rattle.index.specs.declared.Order.TheVariants.{Less, Equal, Greater}
 use Rattle.index.specs.Order.{order_in, named}
 use Rattle.index.specs.Named.{less_named, equal_named, greater_named}
 use Rattle.lookup.specs.Gap.{narrowed}
-use borrow.Author.Rules.{rules}
 use Rattle.lookup.proofs.gap.narrow.Goals as goal
 
 pub returns-then-k-i : goal.returns-then-k-i

@@ -1,13 +1,7 @@
 -- `skip` meets its contract: those passed by are in the gap, and the one that it stops at is not. Assumes nothing.
-use Prim.Native.Nat.{◌+◌, ◌-◌, ◌≤◌}
 use native.Mathlib.Omega.{arith}
-use mathlib.Core.Path.{◌≡◌, sym, ◌∙◌}
-use lib.ListN.{drop}
-use Rattle.datom.specs.Datom.{datoms_of}
-use Rattle.index.specs.Order.{order_in}
-use Rattle.rules.specs.Node.{rank_by}
-use borrow.Author.Tests.{not-true, not-false}
-use Rattle.lookup.specs.Gap.{inside, pass_on, pass_stop, pass_end}
+use mathlib.Core.Path.{sym, ◌∙◌}
+use Rattle.lookup.specs.Gap.{pass_on, pass_stop, pass_end}
 use borrow.Author.Rules.{rules}
 use Rattle.lookup.proofs.gap.skip.Goals as goal
 

@@ -1,13 +1,10 @@
 use Prim.Native.Nat.{◌+◌, ◌-◌, ◌≤◌}
-use native.Mathlib.Omega.{arith}
-use mathlib.Core.Path.{◌≡◌, sym, ◌∙◌}
+use mathlib.Core.Path.{◌≡◌}
 use lib.ListN.{drop}
 use Rattle.datom.specs.Datom.{datoms_of}
 use Rattle.index.specs.Order.{order_in}
 use Rattle.rules.specs.Node.{rank_by}
-use borrow.Author.Tests.{not-true, not-false}
-use Rattle.lookup.specs.Gap.{inside, pass_on, pass_stop, pass_end}
-use borrow.Author.Rules.{rules}
+use Rattle.lookup.specs.Gap.{inside}
 use Rattle.lookup.proofs.gap.skip.Given as goal
 
 abbrev pub invariant-loop-i : goal.invariant-loop-i

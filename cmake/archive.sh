@@ -1,12 +1,15 @@
 #!/usr/bin/env bash
-# Makes target/staticlib/libNAME.a, the archive of a crate, unless the one that is there was made from the sources that are there.
+# Makes target/staticlib/libNAME.a, an archive for C, unless the one that is there was made from the sources that are there.
 #
 #   archive.sh [NAME]   florinwick if not said; rt and this script say on the standard error what they do; $RT is an rt off the PATH
 #
-# rt keeps a stamp of every crate that it has proved, and does not prove it again. It keeps none of an archive: each `rt staticlib NAME`
-# proves crate NAME once more and compiles all that it needs. That is over a minute, and nothing but a stamp can save it, so this script
-# leaves one beside the archive: hashes of the kit's identity and place, crates.txt, every .rt and .antt file, and of the archive itself.
-# It trusts target/ as rt does: that rt and this script alone write there. The gate (.ci/run) trusts nothing and removes target/ first.
+# It is what `rt lib` makes of the static library NAME_c, which exports the functions of the library NAME, or of NAME where that is a
+# static library itself (crates.txt).
+#
+# rt keeps what it has proved of every crate in crates/*/out/, and does not prove it again. But each `rt lib` looks through all of that,
+# and compiles all that the archive needs: over ten seconds, and nothing but a stamp can save them, so this script leaves one beside the
+# archive: hashes of the kit's identity and place, crates.txt, every .rt and .antt file, and of the archive itself. It trusts target/ as rt
+# trusts out/: that rt and this script alone write there. The gate (.ci/run) takes nothing from either.
 set -euo pipefail
 
 cd "$(dirname "${BASH_SOURCE[0]}")/.."
@@ -19,20 +22,21 @@ if ! command -v "$rt" > /dev/null; then
     echo "$0: no rt on the PATH; it comes with Rattle's kit, in its bin/ (README.md)" >&2
     exit 77
 fi
+# It is run in the crate's folder.
+rt=$(realpath -s "$(command -v "$rt")")
 
 hash_of_sources() {
-    { "$rt" version; readlink -f "$(command -v "$rt")"; uname -m; sha256sum crates.txt; find crates -name '*.rt' -o -name '*.antt' | LC_ALL=C sort | xargs -d '\n' sha256sum; } |
+    { "$rt" version; readlink -f "$rt"; uname -m; sha256sum crates.txt
+        find crates -name out -prune -o '(' -name '*.rt' -o -name '*.antt' ')' -print | LC_ALL=C sort | xargs -d '\n' sha256sum; } |
         sha256sum
 }
 
-# The crates of the repository that NAME depends on.
-needed() {
-    local crates crate
-    read -ra crates <<< "$(sed -n "s/^$name: *//p" crates.txt)"
-    for crate in "${crates[@]}"; do
-        if [ -d "crates/$crate" ]; then echo "$crate"; fi
-    done
-}
+# The static library that makes the archive.
+crate=$(sed -nE "s/^($name(_c)?) staticlib\b.*:.*/\1/p" crates.txt | head -n 1)
+if [ -z "$crate" ]; then
+    echo "$0: crates.txt has no static library ${name}_c or $name" >&2
+    exit 1
+fi
 
 mkdir -p target/staticlib
 # Two builds at a time would write one archive. The second waits, and finds it made.
@@ -45,10 +49,9 @@ if [ -f "$stamp" ] && [ -f "$archive" ] && [ "$(cat "$stamp")" = "$sources $(sha
     exit 0
 fi
 rm -f "$stamp"
-# `rt staticlib` proves what is not proved yet one crate after the other, `rt check` as many at a time as there are processors.
-# shellcheck disable=SC2046
-"$rt" check $(needed) >&2
-"$rt" staticlib "$name" >&2
+# It proves what is not proved yet, the crates below it first.
+(cd "crates/$crate" && "$rt" lib >&2)
+cp "crates/$crate/out/lib$crate.a" "$archive"
 # What was edited meanwhile is not in the archive for certain.
 if [ "$sources" = "$(hash_of_sources)" ]; then
     echo "$sources $(sha256sum < "$archive")" > "$stamp"

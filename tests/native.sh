@@ -1,5 +1,5 @@
 #!/usr/bin/env bash
-# For a machine that is not x86-64: a kit in build/kit whose `rt staticlib` compiles for this machine, so that the tests that link the
+# For a machine that is not x86-64: a kit in build/kit whose `rt lib` compiles for this machine, so that the tests that link the
 # library and the benchmark can be run on it. Prints where its rt is:
 #
 #   export PATH=$(bash tests/native.sh):$PATH

@@ -53,15 +53,17 @@ holds 'the example without florin' cmake --build without --target replicator > w
 
 # cmake/archive.sh, with a stand-in for rt that leaves the sources as the archive: made once, and again where a source or the archive is
 # not what it was.
-mkdir -p one/cmake one/crates/florinwick/src one/crates/store one/bin
+mkdir -p one/cmake one/crates/florinwick/src one/crates/florinwick_c/out one/crates/store one/bin
 cp "$repo/cmake/archive.sh" one/cmake/
-printf 'store: bytes\nflorinwick: store bytes\n' > one/crates.txt
+printf 'store:\nflorinwick: store\nflorinwick_c staticlib: store florinwick\n' > one/crates.txt
 echo first > one/crates/florinwick/src/lib.rt
 cat > one/bin/rt << 'END'
 #!/bin/sh
+here=$PWD
+cd "${0%/*}/.."
 [ "$1" = version ] && { cat bin/version; exit; }
-echo "$@" >> calls
-[ "$1" = check ] || { [ ! -e bin/broken ] && cp crates/florinwick/src/lib.rt target/staticlib/libflorinwick.a; }
+echo "$@ in ${here##*/crates/}" >> calls
+[ ! -e bin/broken ] && cp crates/florinwick/src/lib.rt crates/florinwick_c/out/libflorinwick_c.a
 END
 chmod +x one/bin/rt
 echo 1 > one/bin/version
@@ -71,7 +73,7 @@ made() {
     PATH=$PWD/$kit:$PATH bash one/cmake/archive.sh > archive.log 2>&1
     equal "$?:$(xargs < one/calls):$(cat one/target/staticlib/libflorinwick.a)" "$2" "the archive, $1"
 }
-all='check store staticlib florinwick'
+all='lib in florinwick_c'
 made 'first' "0:$all:first"
 made 'again' '0::first'
 echo second > one/crates/florinwick/src/lib.rt
@@ -89,6 +91,11 @@ made 'still not proved' "1:$all:second"
 rm one/bin/broken
 made 'proved' "0:$all:second"
 made 'proved before' '0::second'
+mkdir one/crates/store/out
+echo > one/crates/store/out/Lib.antt
+made 'a file that rt keeps' '0::second'
+PATH=$PWD/$kit:$PATH bash one/cmake/archive.sh store > archive.log 2>&1
+equal "$?:$(grep -c 'no static library store_c or store' archive.log)" 1:1 'the archive of a library'
 RT=no-such-rt bash one/cmake/archive.sh > archive.log 2>&1
 equal "$?:$(grep -c 'no rt on the PATH' archive.log)" 77:1 'the archive, no rt'
 

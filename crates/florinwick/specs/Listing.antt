@@ -12,7 +12,7 @@ use Rattle.answer.specs.declared.Started.{Started}
 use Rattle.answer.specs.declared.Start.TheVariants as start
 use Rattle.answer.specs.declared.Stepped.{Stepped}
 use Rattle.answer.specs.declared.Step.TheVariants as step
-use Rattle.answer.specs.Table.{Words, start_words, step_words, refused_words}
+use Rattle.answer.specs.Table.{start_words, step_words, refused_words}
 use Rattle.rules.specs.Store.{refuse_if, or_else}
 use Rattle.rules.specs.Entry.{word_bytes}
 use Rattle.rules.specs.Listing.{refuse_start, refuse_step}

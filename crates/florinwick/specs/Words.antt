@@ -1,7 +1,6 @@
 -- The answer's four words in their area, and the reply of a call.
 use Rattle.std.specs.Prelude.{ℕ, cond, List, ◌≡◌, refl, eqb, length}
 use Rattle.std.proofs.Common.{arith, append-nil, sym, ◌∙◌, ap, eq-eqb, ne_eqb}
-use Rattle.store.specs.declared.PageId.{PageId}
 use Rattle.store.specs.declared.Extent.{Extent}
 use Rattle.store.specs.Words.{bytes_of, spread, patch}
 use Rattle.store.specs.Size.{capacity, scratch_need}

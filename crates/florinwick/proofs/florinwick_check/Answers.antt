@@ -1,7 +1,6 @@
 -- `florinwick_check` meets its contract on every input. Assumes nothing.
 use mathlib.Core.Path.{refl}
 use Rattle.florinwick.specs.Words.{not_answered, answered}
-use borrow.Author.Rules.{rules}
 use Rattle.florinwick.proofs.florinwick_check.Goals as goal
 
 pub returns-then-area-ne-AREA : goal.returns-then-area-ne-AREA

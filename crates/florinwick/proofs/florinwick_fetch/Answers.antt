@@ -1,6 +1,5 @@
 -- `florinwick_fetch` meets its contract on every input. Assumes nothing.
 use Rattle.florinwick.specs.Words.{not_answered, answered}
-use borrow.Author.Rules.{rules}
 use Rattle.florinwick.proofs.florinwick_fetch.Goals as goal
 
 pub returns-then-area-ne-AREA : goal.returns-then-area-ne-AREA

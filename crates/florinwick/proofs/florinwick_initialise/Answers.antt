@@ -1,7 +1,6 @@
 -- `florinwick_initialise` meets its contract on every input. Assumes nothing.
 use Rattle.rules.specs.Entry.{initialise_reply}
 use Rattle.florinwick.specs.Words.{no_area, told_reply}
-use borrow.Author.Rules.{rules}
 use Rattle.florinwick.proofs.florinwick_initialise.Goals as goal
 
 pub returns-then-area-ne-AREA : goal.returns-then-area-ne-AREA

@@ -2,9 +2,8 @@
 use mathlib.Core.Path.{sym, ◌∙◌, ap}
 use native.Mathlib.Omega.{arith}
 use Rattle.store.specs.Size.{scratch_need}
-use Rattle.store.specs.Laws.{Known, known_size}
+use Rattle.store.specs.Laws.{known_size}
 use Rattle.florinwick.specs.Words.{need_none, need_some}
-use borrow.Author.Rules.{rules}
 use Rattle.florinwick.proofs.florinwick_scratch_need.Goals as goal
 
 pub returns-then-c-eq0 : goal.returns-then-c-eq0

@@ -4,7 +4,6 @@ use native.Mathlib.Omega.{arith}
 use mathlib.Core.Path.{sym}
 use lib.ListN.{length, length-take}
 use lib.Seq.{length-take-le}
-use borrow.Author.Rules.{rules}
 use Rattle.records.specs.Laid.{laid_fits}
 use Rattle.records.specs.Handed.{handed_in}
 use Rattle.records.proofs.hand.Goals as goal

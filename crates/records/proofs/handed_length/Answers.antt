@@ -1,6 +1,5 @@
 -- `handed_length` meets its contract: each return rewrites with the test that led there. Assumes nothing.
 use borrow.Author.Tests.{lt-ltb, le-ltb}
-use borrow.Author.Rules.{rules}
 use Rattle.records.specs.Handed.{handed_length}
 use Rattle.records.proofs.handed_length.Goals as goal
 

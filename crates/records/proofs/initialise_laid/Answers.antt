@@ -2,7 +2,6 @@
 use mathlib.Core.Path.{sym}
 use lib.Seq.{length-take-le}
 use Rattle.records.specs.Handed.{handed_area, handed_bytes, handed_fits}
-use borrow.Author.Rules.{rules}
 use Rattle.records.proofs.initialise_laid.Goals as goal
 
 pub slice_bounds-b-end : goal.slice_bounds-b-end

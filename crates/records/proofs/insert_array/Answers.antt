@@ -6,7 +6,6 @@ use Rattle.rules.specs.Calls.{extent_of, insert_call}
 use Rattle.entry.specs.Reply.{Replies}
 use Rattle.records.specs.Laid.{first_of}
 use Rattle.records.specs.Handed.{insert_call_first}
-use borrow.Author.Rules.{rules}
 use Rattle.records.proofs.insert_array.Goals as goal
 
 pub returns : goal.returns

@@ -1,6 +1,5 @@
 -- `laid_count` meets its contract: each return rewrites with the tests that led there. Assumes nothing.
 use borrow.Author.Tests.{lt-ltb, le-ltb}
-use borrow.Author.Rules.{rules}
 use Rattle.records.specs.Laid.{laid_count}
 use Rattle.records.proofs.laid_count.Goals as goal
 

@@ -1,11 +1,7 @@
 use Prim.Native.Nat.{◌-◌, ◌≤◌}
-use native.Mathlib.Numerals.{add-one}
-use native.Mathlib.Omega.{arith}
-use mathlib.Core.Path.{◌≡◌, refl, ◌∙◌, ap}
-use borrow.Author.Rules.{rules}
+use mathlib.Core.Path.{◌≡◌}
 use lib.ListN.{length}
-use Rattle.records.specs.Laid.{laid_count, laid_fits, laid_to, laid_length, laid_first, WordsTo}
-use Rattle.records.proofs.Words.{array_words}
+use Rattle.records.specs.Laid.{laid_count, laid_to, WordsTo}
 use Rattle.records.proofs.lay.Given as goal
 
 abbrev pub invariant-loop-i : goal.invariant-loop-i

@@ -1,11 +1,9 @@
 -- `lay_array` meets its contract: as many records of the array are laid as are laid of a slice. Assumes nothing.
-use Prim.Native.Nat.{◌-◌, ◌≤◌}
 use native.Mathlib.Numerals.{add-one}
 use native.Mathlib.Omega.{arith}
 use mathlib.Core.Path.{◌≡◌, refl, ◌∙◌, ap}
-use borrow.Author.Rules.{rules}
 use lib.ListN.{length}
-use Rattle.records.specs.Laid.{laid_count, laid_fits, laid_to, laid_length, laid_first}
+use Rattle.records.specs.Laid.{laid_count, laid_fits, laid_length, laid_first}
 use Rattle.records.proofs.Words.{array_words}
 use Rattle.records.proofs.lay_array.Goals as goal
 

@@ -1,6 +1,5 @@
 -- `put_datom` meets its contract: four words behind one another. Assumes nothing.
 use Rattle.records.specs.Laid.{datom_words}
-use borrow.Author.Rules.{rules}
 use Rattle.records.proofs.put_datom.Goals as goal
 
 pub returns-clause-laid : goal.returns-clause-laid

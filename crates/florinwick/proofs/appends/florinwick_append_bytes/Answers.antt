@@ -1,6 +1,5 @@
 -- `florinwick_append_bytes` meets its contract on every input. Assumes nothing.
 use Rattle.florinwick.specs.Append.{append_unanswered, append_answered}
-use borrow.Author.Rules.{rules}
 use Rattle.florinwick.proofs.appends.florinwick_append_bytes.Goals as goal
 
 pub returns-then-area-ne-AREA : goal.returns-then-area-ne-AREA

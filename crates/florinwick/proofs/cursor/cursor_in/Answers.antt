@@ -1,6 +1,5 @@
 -- `cursor_in` meets its contract. Assumes nothing.
 use Rattle.florinwick.specs.Cursor.{cursor_in, behind}
-use borrow.Author.Rules.{rules}
 use Rattle.florinwick.proofs.cursor.cursor_in.Goals as goal
 
 pub returns : goal.returns

@@ -1,6 +1,5 @@
 -- `indices_in` meets its contract. Assumes nothing.
 use Rattle.florinwick.specs.Cursor.{eight_words}
-use borrow.Author.Rules.{rules}
 use Rattle.florinwick.proofs.cursor.indices_in.Goals as goal
 
 pub returns : goal.returns

@@ -1,7 +1,6 @@
 -- `pages_in` meets its contract. Assumes nothing.
 use Rattle.florinwick.specs.Cursor.{eight_words}
 use Rattle.store.specs.Page.{page, page_of}
-use borrow.Author.Rules.{rules}
 use Rattle.florinwick.proofs.cursor.pages_in.Goals as goal
 
 pub returns : goal.returns

@@ -3,7 +3,6 @@ use mathlib.Core.Path.{◌≡◌}
 use lib.ListN.{length}
 use Rattle.florinwick.specs.Cursor.{cursor_put}
 use borrow.Author.Rules.{rules}
-use Rattle.listing.specs.WayLaws.{mapped_length}
 use Rattle.florinwick.proofs.cursor.put_cursor.Goals as goal
 
 pub returns : goal.returns

@@ -1,11 +1,10 @@
 -- `put_indices` meets its contract: after i turns the first i indices are stored. Assumes nothing.
-use Prim.Native.Nat.{◌≤◌, ◌-◌}
 use mathlib.Core.Path.{◌≡◌, refl, sym, ◌∙◌}
 use native.Mathlib.Omega.{arith}
-use lib.ListN.{length, take}
+use lib.ListN.{length}
 use lib.Seq.{take-length}
 use borrow.Author.Rules.{rules}
-use Rattle.store.specs.Words.{bytes_of, spread, patch}
+use Rattle.store.specs.Words.{bytes_of, spread}
 use Rattle.store.specs.Cells.{patch_none}
 use Rattle.store.specs.Laws.{bytes_length}
 use Rattle.florinwick.specs.Cursor.{put_next}

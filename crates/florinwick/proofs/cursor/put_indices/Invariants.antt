@@ -1,13 +1,7 @@
 use Prim.Native.Nat.{◌≤◌, ◌-◌}
-use mathlib.Core.Path.{◌≡◌, refl, sym, ◌∙◌}
-use native.Mathlib.Omega.{arith}
+use mathlib.Core.Path.{◌≡◌}
 use lib.ListN.{length, take}
-use lib.Seq.{take-length}
-use borrow.Author.Rules.{rules}
 use Rattle.store.specs.Words.{bytes_of, spread, patch}
-use Rattle.store.specs.Cells.{patch_none}
-use Rattle.store.specs.Laws.{bytes_length}
-use Rattle.florinwick.specs.Cursor.{put_next}
 use Rattle.florinwick.proofs.cursor.put_indices.Given as goal
 
 abbrev pub invariant-loop-i : goal.invariant-loop-i

@@ -1,14 +1,8 @@
 use Prim.Native.Nat.{◌≤◌, ◌-◌}
-use mathlib.Core.Path.{◌≡◌, refl, sym, ◌∙◌}
-use native.Mathlib.Omega.{arith}
+use mathlib.Core.Path.{◌≡◌}
 use lib.ListN.{length, take}
-use lib.Seq.{take-length}
-use borrow.Author.Rules.{rules}
 use Rattle.store.specs.Words.{spread, patch}
-use Rattle.store.specs.Page.{page, page_bytes}
-use Rattle.store.specs.Cells.{patch_none}
-use Rattle.store.specs.Laws.{page_length}
-use Rattle.florinwick.specs.Cursor.{put_next}
+use Rattle.store.specs.Page.{page_bytes}
 use Rattle.florinwick.proofs.cursor.put_pages.Given as goal
 
 abbrev pub invariant-loop-i : goal.invariant-loop-i

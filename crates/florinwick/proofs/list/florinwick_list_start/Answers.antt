@@ -1,6 +1,5 @@
 -- `florinwick_list_start` meets its contract on every input. Assumes nothing.
 use Rattle.florinwick.specs.Listing.{start_unanswered, start_unkept, start_kept}
-use borrow.Author.Rules.{rules}
 use Rattle.florinwick.proofs.list.florinwick_list_start.Goals as goal
 
 pub returns-then-area-ne-AREA : goal.returns-then-area-ne-AREA

@@ -1,6 +1,5 @@
 -- `florinwick_list_step` meets its contract on every input. Assumes nothing.
 use Rattle.florinwick.specs.Listing.{step_unanswered, step_no_cursor, step_no_datom, step_kept}
-use borrow.Author.Rules.{rules}
 use Rattle.florinwick.proofs.list.florinwick_list_step.Goals as goal
 
 pub returns-then-area-ne-AREA : goal.returns-then-area-ne-AREA

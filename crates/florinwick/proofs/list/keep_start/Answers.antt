@@ -1,7 +1,6 @@
 -- `keep_start` meets its contract. Assumes nothing.
 use mathlib.Core.Path.{refl}
 use Rattle.florinwick.specs.Listing.{cursor_started}
-use borrow.Author.Rules.{rules}
 use Rattle.florinwick.proofs.list.keep_start.Goals as goal
 
 pub returns-in-Begun : goal.returns-in-Begun

@@ -1,7 +1,6 @@
 -- `keep_step` meets its contract. Assumes nothing.
 use mathlib.Core.Path.{refl}
 use Rattle.florinwick.specs.Listing.{cursor_stepped, datom_stepped, datom_told}
-use borrow.Author.Rules.{rules}
 use Rattle.florinwick.proofs.list.keep_step.Goals as goal
 
 pub returns-in-Yields : goal.returns-in-Yields

@@ -3,9 +3,8 @@ use mathlib.Core.Path.{◌≡◌, sym, ap, ◌∙◌}
 use Rattle.store.specs.declared.Extent.{Extent}
 use Rattle.rules.specs.Store.{bad_store}
 use Rattle.rules.specs.Calls.{bad_pages}
-use Rattle.ordered.specs.Ways.{Good, told_refused, told_order}
+use Rattle.ordered.specs.Ways.{told_refused, told_order}
 use Rattle.florinwick.specs.Listing.{start_bytes}
-use borrow.Author.Rules.{rules}
 use Rattle.florinwick.proofs.list.start_between.Goals as goal
 
 pub returns-in-Refused : goal.returns-in-Refused

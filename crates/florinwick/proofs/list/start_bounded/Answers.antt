@@ -1,7 +1,6 @@
 -- `start_bounded` meets its contract: one law for each return. Assumes nothing.
 use mathlib.Core.Path.{◌∙◌}
 use Rattle.florinwick.specs.Listing.{lower_short, upper_short, bounds_given}
-use borrow.Author.Rules.{rules}
 use Rattle.florinwick.proofs.list.start_bounded.Goals as goal
 
 pub returns-then-lower-ne32 : goal.returns-then-lower-ne32

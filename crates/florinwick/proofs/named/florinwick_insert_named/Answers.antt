@@ -1,7 +1,6 @@
 -- `florinwick_insert_named` meets its contract on every input. Assumes nothing.
 use Rattle.rules.specs.Entry.{insert_named_reply}
 use Rattle.florinwick.specs.Words.{no_area, told_reply}
-use borrow.Author.Rules.{rules}
 use Rattle.florinwick.proofs.named.florinwick_insert_named.Goals as goal
 
 pub returns-then-area-ne-AREA : goal.returns-then-area-ne-AREA

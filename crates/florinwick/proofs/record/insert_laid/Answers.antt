@@ -1,7 +1,6 @@
 -- `insert_laid` meets its contract: as `florinwick_insert` does, of the records that were laid. Assumes nothing.
 use Rattle.rules.specs.Entry.{insert_reply}
 use Rattle.florinwick.specs.Words.{no_area, told_reply}
-use borrow.Author.Rules.{rules}
 use Rattle.florinwick.proofs.record.insert_laid.Goals as goal
 
 pub returns-then-area-ne-AREA : goal.returns-then-area-ne-AREA

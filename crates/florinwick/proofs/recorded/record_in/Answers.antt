@@ -1,6 +1,5 @@
 -- `record_in` meets its contract: four words, or a record of no pages. Assumes nothing.
 use Rattle.florinwick.specs.Record.{record_read, record_none}
-use borrow.Author.Rules.{rules}
 use Rattle.florinwick.proofs.recorded.record_in.Goals as goal
 
 pub returns-then-b-ne-BYTES : goal.returns-then-b-ne-BYTES

@@ -1,6 +1,5 @@
 -- `plain` meets its contract. Assumes nothing.
 use mathlib.Core.Path.{refl}
-use borrow.Author.Rules.{rules}
 use Rattle.florinwick.proofs.words.plain.Goals as goal
 
 pub returns : goal.returns

@@ -1,6 +1,5 @@
 -- `put_words` meets its contract. Assumes nothing.
 use Rattle.florinwick.specs.Words.{words_put}
-use borrow.Author.Rules.{rules}
 use Rattle.florinwick.proofs.words.put_words.Goals as goal
 
 pub returns : goal.returns

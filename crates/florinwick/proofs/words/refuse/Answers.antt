@@ -1,5 +1,4 @@
 -- `refuse` meets its contract: the words of document 01's table. Assumes nothing.
-use borrow.Author.Rules.{rules}
 use Rattle.florinwick.proofs.words.refuse.Goals as goal
 
 pub returns : goal.returns

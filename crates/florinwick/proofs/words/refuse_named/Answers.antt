@@ -1,5 +1,4 @@
 -- `refuse_named` meets its contract: the words of document 01's table, with the fault's number. Assumes nothing.
-use borrow.Author.Rules.{rules}
 use Rattle.florinwick.proofs.words.refuse_named.Goals as goal
 
 pub returns : goal.returns

@@ -1,6 +1,5 @@
 -- `tell` meets its contract: the words of document 01's table. Assumes nothing.
 use mathlib.Core.Path.{refl}
-use borrow.Author.Rules.{rules}
 use Rattle.florinwick.proofs.words.tell.Goals as goal
 
 pub returns-in-Done : goal.returns-in-Done

@@ -1,6 +1,5 @@
 -- `tell_append` meets its contract: the words of the table. Assumes nothing.
 use mathlib.Core.Path.{refl}
-use borrow.Author.Rules.{rules}
 use Rattle.florinwick.proofs.words.tell_append.Goals as goal
 
 pub returns-in-Stored : goal.returns-in-Stored

@@ -1,6 +1,5 @@
 -- `tell_named` meets its contract: the words of document 01's table, with the fault's number. Assumes nothing.
 use mathlib.Core.Path.{refl}
-use borrow.Author.Rules.{rules}
 use Rattle.florinwick.proofs.words.tell_named.Goals as goal
 
 pub returns-in-Done : goal.returns-in-Done

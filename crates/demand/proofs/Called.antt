@@ -1,5 +1,5 @@
 -- Where a C program goes on by what a call left is where the history goes on. Rests on Area and on what is proved beyond demand 3.
-use Rattle.std.specs.Prelude.{ℕ, ◌+◌, ◌*◌, ◌^◌, ◌≤◌, ◌<◌, Bool, true, false, cond, List, ◌∷◌, ◌≡◌, refl, eqb, ltb, length}
+use Rattle.std.specs.Prelude.{ℕ, ◌+◌, ◌^◌, ◌≤◌, ◌<◌, Bool, true, false, cond, List, ◌∷◌, ◌≡◌, refl, eqb, ltb, length}
 use Rattle.std.proofs.Common.{add-zero, mul-le-mul_left, arith, inl, ◌∙◌, ap, eq-eqb, ne_eqb, eqb-true, ltb-true}
 use Rattle.store.specs.declared.PageId.{PageId}
 use Rattle.store.specs.declared.Extent.{Extent}
@@ -7,7 +7,7 @@ use Rattle.store.specs.Words.{word_at}
 use Rattle.store.specs.Record.{extent_of}
 use Rattle.store.specs.Size.{sizes}
 use Rattle.store.specs.Page.{is_none}
-use Rattle.store.specs.Laws.{apart, Known}
+use Rattle.store.specs.Laws.{apart}
 use Rattle.answer.specs.declared.Refusal.{Refusal}
 use Rattle.answer.specs.declared.Refusal.TheVariants.{BadStore, TooMany, BadDatom, OutOfOrder, NoPage, Repeated, Damaged, TooTall, NoRoom, BadBound, BadConstant, HeapFull, BadOrder, NotHeld}
 use Rattle.answer.specs.declared.Answer.{Answer}
@@ -18,17 +18,16 @@ use Rattle.answer.specs.declared.Append.TheVariants.{Stored}
 use Rattle.answer.specs.declared.Append.TheVariants as append
 use Rattle.answer.specs.Names.{fault_in}
 use Rattle.answer.specs.Named.{unnamed_words}
-use Rattle.answer.specs.Table.{Words, number_of, answer_words, named_answer, append_words}
+use Rattle.answer.specs.Table.{number_of, answer_words, named_answer, append_words}
 use Rattle.rules.specs.Store.{bad_root, env_of, store_after}
 use Rattle.rules.specs.Entry.{word_bytes, reply, reply_in, insert_reply, insert_named_reply, initialise_reply}
 use Rattle.rules.specs.Append.{heap_after}
-use Rattle.rules.specs.Appended.{heap_in, Keeps}
+use Rattle.rules.specs.Appended.{heap_in}
 use Rattle.rules.specs.Calls.{insert_bytes_call, initialise_bytes_call}
 use Rattle.rules.specs.Lists.{In}
 use Rattle.rules.proofs.Within.{Writes, insert_bytes_writes, initialise_bytes_writes, written_fits}
 use Rattle.memory_store.specs.FetchLaws.{InOrder, in_order}
 use Rattle.florinwick.specs.Words.{Replied}
-use Rattle.florinwick.specs.Record.{record_in}
 use Rattle.florinwick.specs.Append.{HeapReplied}
 use Rattle.history.specs.Statement.{Known as Root, Moment, at, Constant, appending, appended, appends, Call, inserts, initialises, given_root, given_batch, no_root, Fair, outcome_of, after, calls, Later, now, next, History}
 use Rattle.history.specs.Statement as history

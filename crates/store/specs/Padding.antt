@@ -1,7 +1,7 @@
 -- Stores with zeros behind them.
-use Rattle.std.specs.Prelude.{ℕ, ◌+◌, ◌-◌, ◌<◌, ◌≤◌, List, [], ◌∷◌, ◌++◌, ◌≡◌, length, set}
-use Rattle.std.proofs.Common.{add-one, arith, append_assoc, ap, ◌∙◌, length-append}
-use Rattle.std.proofs.lemmas.List.{length-replicate, replicate-append-replicate, set_split}
+use Rattle.std.specs.Prelude.{ℕ, take, ◌+◌, ◌-◌, ◌<◌, ◌≤◌, List, [], ◌∷◌, ◌++◌, ◌≡◌, length, set}
+use Rattle.std.proofs.Common.{add-one, arith, append_assoc, ap, sym, ◌∙◌, get_or, length-append, length-take-le}
+use Rattle.std.proofs.lemmas.List.{take_more, length-replicate, replicate-append-replicate, set_split}
 use Rattle.store.specs.Words.{zeros, pad, patch}
 use Rattle.store.specs.Cells.{patch_none, patch_length, patch_patch}
 
@@ -44,3 +44,16 @@ unfolding pad
 pad_append n m p q e =
     let k : n + m - length (p ++ q) ≡ m - length q = omega (arith, length-append p q) in
     rw (k, append_assoc)
+
+-- the bytes that a loop has put so far: none, and one more
+pub put_none : (s : List ℕ) (at : ℕ) (p : List ℕ) → s ≡ patch s at (take 0 p)
+put_none s at p = sym (patch_none s at)
+
+pub put_more : (s p : List ℕ) (at i : ℕ) → i < length p → at + length p ≤ length s → set (patch s at (take i p)) (at + i) (get_or p i 0) ≡ patch s at (take (i + 1) p)
+put_more s p at i h l =
+    let z = take i p in
+    let zl : length z ≡ i = length-take-le i p (omega arith) in
+    let k : at + length z ≡ at + i = omega (arith, zl) in
+    let n : length (patch s at z) ≡ length s = patch_length s at z (omega (arith, zl)) in
+    set_one (patch s at z) (at + i) (get_or p i 0) (omega arith) ∙ rw k at (patch_patch s at z (get_or p i 0 ∷ []) (omega (arith, zl)))
+    ∙ ap (patch s at) (sym (take_more p i 0 h))

@@ -108,12 +108,16 @@ pub fn child_at(s: &[u8], m: usize, i: usize) -> PageId
     PageId(word(s, 32 * m + 8 * i))
 }
 
-// All of `p` goes into `s` from byte `at` on.
+// All of `p` goes into `s` from byte `at` on: one copying of memory to the compiler.
 pub fn put(s: &mut [u8], at: usize, p: &[u8])
     requires { at + length p.now ≤ length s.old }
     ensures { s.new ≡ patch s.old at p.now }
 {
-    s[at..at + p.len()].copy_from_slice(p);
+    let mut i = 0;
+    while i < p.len() {
+        s[at + i] = p[i];
+        i += 1;
+    }
 }
 
 // The eight bytes of `w` go into `s` from byte `at` on.

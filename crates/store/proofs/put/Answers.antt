@@ -1,15 +1,14 @@
--- `store::put` meets its contract: a part that comes back as the bytes that were copied. Assumes nothing.
-use Rattle.std.proofs.Common.{◌≡◌, ℕ, ◌+◌, ◌-◌, List, ◌++◌, length, take, drop, sym, append_assoc, arith}
-use Rattle.std.proofs.Math.Seq.{drop-drop}
-use Rattle.store.specs.Words.{patch}
+-- `store::put` meets its contract: what is put so far lies over what there was. Assumes nothing.
+use Rattle.std.proofs.Common.{rules, arith, ap, refl, ◌∙◌, List, ℕ, ◌+◌, slice_set, slice_index_or}
+use Rattle.std.proofs.Math.ListN.{length-set}
+use Rattle.store.specs.Padding.{put_none, put_more}
 use Rattle.store.proofs.put.Goals as goal
 
--- the rest of a store stands behind what was copied
-back : (d s : List ℕ) (at : ℕ) → take at d ++ (s ++ drop (at + length s - at) (drop at d)) ≡ patch d at s
-unfolding patch
-back d s at =
-    let n : at + length s - at ≡ length s = omega arith in
-    rw (n, drop-drop) (sym (append_assoc (take at d) s (drop (at + length s) d)))
+pub loop-i-init : goal.loop-i-init
+loop-i-init c = (search rules, refl, put_none _ _ c.args.p.now)
 
-pub returns : goal.returns
-returns c = rw c.copy_from_slice.ensures.after (back _ c.args.p.now _)
+pub loop-i-preserved : goal.loop-i-preserved
+loop-i-preserved c =
+    let a = c.args in
+    let l = c.loop-i in
+    (omega arith, length-set l.s (a.at + l.i) _ ∙ l.invariant.1, ap (λ (s : List ℕ). slice_set s (a.at + l.i) (slice_index_or a.p.now l.i 0)) l.invariant.2 ∙ put_more a.s.now a.p.now a.at l.i (omega arith) (omega arith))

@@ -86,24 +86,6 @@ drain-returns t c =
     let P = c.requires in
     λ o e. drains_none I (omega (arith, P.2)) o e (omega arith)
 
--- FORMER slice-bounds-insert-into-start
--- flush-part-insert-into-start : tie.Need-slice-bounds-insert-into-start
--- flush-part-insert-into-start c =
---     let a = c.before.before.before.before.before.before.before.before.before.before.before.before.before.before.args in
---     let P = c.before.before.before.before.before.before.before.before.before.before.before.before.before.before.requires.1 in
---     let g = rooms a.level (40 * a.m + 8) (32 * a.m) (length a.s.now) P.1 P.3 in
---     let Q = c.before.before.before.before.before.before.before.before.before.longest-pending-span.ensures in
---     omega arith
-
--- FORMER slice-bounds-insert-into-end
--- flush-part-insert-into-end : tie.Need-slice-bounds-insert-into-end
--- flush-part-insert-into-end c =
---     let a = c.before.before.before.before.before.before.before.before.before.before.before.before.before.before.args in
---     let P = c.before.before.before.before.before.before.before.before.before.before.before.before.before.before.requires.1 in
---     let g = rooms a.level (40 * a.m + 8) (32 * a.m) (length a.s.now) P.1 P.3 in
---     let Q = c.before.before.before.before.before.before.before.before.before.longest-pending-span.ensures in
---     search rules
-
 pub flush-longest_pending_span-span-requires : goal.flush-longest_pending_span-span-requires
 flush-longest_pending_span-span-requires t c =
     let a = c.args in

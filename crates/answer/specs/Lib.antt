@@ -3,3 +3,4 @@ pub mod Names
 pub mod Table
 pub mod Named
 pub mod Fit
+pub mod Damage

@@ -4,6 +4,8 @@
 ghost use Rattle.std.specs.Prelude.{◌≡◌};
 ghost use Rattle.answer.specs.Names.{rule_number, fault_number, fault_in};
 ghost use Rattle.answer.specs.Table.{number_of, detail_of};
+ghost use Rattle.answer.specs.Damage.{damaged};
+ghost use Rattle.answer.specs.declared.Fault.TheVariants.{Breaks};
 
 use datom::{Datom, Value};
 use store::PageId;
@@ -65,6 +67,21 @@ impl Fault {
             Fault::NothingLeft => 14,
         }
     }
+}
+
+impl From<Rule> for Fault {
+    ghost from_gives = { λ rule fault. fault ≡ Breaks rule };
+
+    fn from(rule: Rule) -> Fault {
+        Fault::Breaks(rule)
+    }
+}
+
+// A page and what is wrong with it.
+#[derive(Clone, Copy)]
+pub struct Damage {
+    pub page: PageId,
+    pub fault: Fault,
 }
 
 // Why a call is refused, with the batch index or the page that it names.
@@ -150,6 +167,14 @@ impl Refusal {
             Refusal::BadOrder => 0,
             Refusal::NotHeld(_) => 0,
         }
+    }
+}
+
+impl From<Damage> for Refusal {
+    ghost from_gives = { λ damage refusal. refusal ≡ damaged damage };
+
+    fn from(damage: Damage) -> Refusal {
+        Refusal::Damaged(damage.page, damage.fault)
     }
 }
 

@@ -18,7 +18,7 @@ use answer::{Answer, Refusal};
 use batch::{Count, Finding};
 use htree::root::Rooted;
 use index::Index;
-use memory_store::found::Found;
+use memory_store::reader::Header;
 use ordered::Ordered;
 use store::{Extent, PageId, StoreRecord};
 
@@ -55,8 +55,8 @@ fn insert_at(
     ensures { Replies extent store.old store.new result (insert_at (env_of (order_in by heap.now) extent store.old) root (datoms_of n b.now) (fetch_page (order_in by heap.now) extent store.old root)) }
 {
     match memory_store::found::node_at(store, extent, c, root, by, heap) {
-        Found::Faulty(fault) => Answer::Refused(Refusal::Damaged(root, fault)),
-        Found::Fine { level, count } => {
+        Err(fault) => Answer::Refused(Refusal::Damaged(root, fault)),
+        Ok(Header { level, count }) => {
             match lookup::lookup_all(store, extent, c, root, level, count, b, n, by, heap) {
                 Finding::Found(refusal) => Answer::Refused(refusal),
                 Finding::Clear => {

@@ -14,7 +14,6 @@ use crate::check;
 use htree::place::Inserted;
 use htree::root::Rooted;
 use index::Index;
-use memory_store::found::Opened;
 use store::{Extent, PageId};
 
 // The n datoms at the front of the area become those of a leaf: no child beside any of them.
@@ -86,7 +85,7 @@ pub fn under(
 {
     let m = check::room_for(c);
     store::put(s, 40 * m + 8, b);
-    let opened = Opened::Node(count);
+    let opened = Ok(count);
     match htree::insert::insert_into(store, extent, c, 0, level, root, opened, s, m, n, by, heap) {
         Inserted::Placed { datoms, written } => {
             htree::root::write_root(store, extent, c, written, level + 1, s, m, datoms)

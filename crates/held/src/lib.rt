@@ -15,7 +15,7 @@ ghost use Rattle.held.specs.Ways.{held_of};
 use answer::{Held, Refusal};
 use batch::{Count, Finding};
 use index::Index;
-use memory_store::found::Found;
+use memory_store::reader::Header;
 use ordered::Ordered;
 use store::{Extent, PageId, StoreRecord};
 
@@ -44,8 +44,8 @@ fn held_at(
     ensures { finding_of result ≡ held_at (env_of (order_in by heap.now) extent store.now) root (datoms_of n b.now) (fetch_page (order_in by heap.now) extent store.now root) }
 {
     match memory_store::found::node_at(store, extent, c, root, by, heap) {
-        Found::Faulty(fault) => Finding::Found(Refusal::Damaged(root, fault)),
-        Found::Fine { level, count } => {
+        Err(fault) => Finding::Found(Refusal::Damaged(root, fault)),
+        Ok(Header { level, count }) => {
             lookup::held_all(store, extent, c, root, level, count, b, n, by, heap)
         }
     }

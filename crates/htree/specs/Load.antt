@@ -1,5 +1,5 @@
 -- What loading a page with a batch leaves for the insert into it.
-use Rattle.std.specs.Prelude.{ℕ, ◌+◌, ◌*◌, ◌≤◌, true, false, List, ◌≡◌, length, drop}
+use Rattle.std.specs.Prelude.{ℕ, ◌+◌, ◌*◌, ◌≤◌, true, false, List, ◌≡◌, length, drop, Ok, Err}
 use Rattle.std.proofs.Common.{arith, ◌∙◌}
 use Rattle.std.proofs.Math.Path.{refl}
 use Rattle.store.specs.declared.PageId.{PageId}
@@ -16,7 +16,6 @@ use Rattle.rules.specs.Node.{meets, merge_node}
 use Rattle.rules.specs.Tree.{fine, Env, Stage, stop, then, fetch_at, settle, insert_merged}
 use Rattle.rules.specs.Store.{bad_store, page_at, env_of}
 use Rattle.memory_store.specs.Readable.{node_at, Opens, opens}
-use Rattle.memory_store.specs.declared.found.Opened.TheVariants as opened
 use Rattle.memory_store.specs.Opened.{opened_of, at_its_level, opened_faulty, opened_node}
 use Rattle.htree.specs.declared.insert.Loaded.{Loaded}
 use Rattle.htree.specs.declared.insert.Loaded.TheVariants as loaded
@@ -53,11 +52,11 @@ datoms_are c l k s = refl
 
 -- by what the page was opened as
 module _ (t : DatomOrd) (x : Extent) (s : List ℕ) (l : ℕ) (p : PageId) (a : List ℕ) (m n : ℕ) where
-  pub load_faulty : (f : Fault) → opened.Faulty f ≡ opened_of (fetch_at (env_of t x s) l p) → Loads t x s l p a m n a (loaded.Faulty f)
+  pub load_faulty : (f : Fault) → Err f ≡ opened_of (fetch_at (env_of t x s) l p) → Loads t x s l p a m n a (loaded.Faulty f)
   unfolding insert_merged
   load_faulty f h = loads_bad {g = f} refl λ g o. rw (opened_faulty f (fetch_at (env_of t x s) l p) h)
 
-  module _ (k : ℕ) (ok : bad_store x s ≡ false) (e : opened.Node k ≡ opened_of (fetch_at (env_of t x s) l p)) where
+  module _ (k : ℕ) (ok : bad_store x s ≡ false) (e : Ok k ≡ opened_of (fetch_at (env_of t x s) l p)) where
     pub load_opens : Opens t x s p l k
     load_opens = opens t x s p l k ok (opened_node t x s p l k e)
 

@@ -15,7 +15,6 @@ use crate::place::Inserted;
 use answer::{Fault, Refusal};
 use index::Index;
 use memory_store::found;
-use memory_store::found::Opened;
 use node::Merged;
 use store::{Extent, PageId};
 
@@ -33,7 +32,7 @@ fn load(
     c: usize,
     level: usize,
     page: PageId,
-    opened: Opened,
+    opened: Result<usize, Fault>,
     s: &mut [u8],
     m: usize,
     n: usize,
@@ -44,8 +43,8 @@ fn load(
     ensures { Loads (order_in by heap.now) extent store.now level page s.old m n s.new result }
 {
     match opened {
-        Opened::Faulty(fault) => Loaded::Faulty(fault),
-        Opened::Node(k) => {
+        Err(fault) => Loaded::Faulty(fault),
+        Ok(k) => {
             let part = memory_store::part_of(store, extent, page);
             match node::merge(part, c, k, s, m, 40 * m + 8, n, by, heap) {
                 Merged::Whole => Loaded::Node(k + n),
@@ -65,7 +64,7 @@ pub fn insert_into(
     written: u64,
     level: usize,
     page: PageId,
-    opened: Opened,
+    opened: Result<usize, Fault>,
     s: &mut [u8],
     m: usize,
     n: usize,

@@ -2,7 +2,7 @@
 use Prim.Native.Nat.{ℕ, zero, suc, ◌+◌, ◌-◌, ◌*◌, ◌<◌, ◌≤◌}
 use Rattle.std.proofs.Math.Decide.{dec_le}
 use Rattle.std.proofs.Common.{arith, ◌∙◌, drop-drop}
-use Rattle.std.specs.Prelude.{true, false, cond, ◌≡◌, leb, drop, get_or}
+use Rattle.std.specs.Prelude.{true, false, cond, ◌≡◌, leb, drop, get_or, Err}
 use mathlib.Core.List.{List, [], ◌∷◌}
 use Rattle.std.proofs.Math.Option.{Option, some}
 use Rattle.std.proofs.Math.Path.{refl, sym, ap}
@@ -25,7 +25,6 @@ use Rattle.rules.specs.Page.{child_at, children_of, node_of}
 use Rattle.rules.specs.Tree.{Fetched, faulty, fine, at_level, fetch_at}
 use Rattle.rules.specs.Store.{page_at, fetch_page, env_of}
 use Rattle.rules.specs.Check.{below_upper, Under, check_child, midpoint_next, walk, check_at}
-use Rattle.memory_store.specs.declared.found.Opened.TheVariants as opened
 use Rattle.memory_store.specs.Readable.{node_at}
 use Rattle.memory_store.specs.Opened.{opened_of, opened_faulty}
 use Rattle.invariants.specs.Bounds.{bound_at}
@@ -184,7 +183,7 @@ module _ (t : DatomOrd) (x : Extent) (s : List ℕ) (l : ℕ) (p : PageId) (lowe
   unsound zero f = refl
   unsound (suc m) f = refl
 
-  pub page_faulty : (f : Fault) → opened.Faulty f ≡ opened_of (fetch_at (env_of t x s) l p) → Unsound p f ≡ check_page
+  pub page_faulty : (f : Fault) → Err f ≡ opened_of (fetch_at (env_of t x s) l p) → Unsound p f ≡ check_page
   unfolding fetch_at env_of
   page_faulty f e = rw (opened_faulty f (at_level l (fetch_page t x s p)) e) (unsound l f)
 

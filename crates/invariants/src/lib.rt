@@ -18,7 +18,6 @@ use crate::bound::Bound;
 use answer::{Check, Fault, Refusal};
 use index::Index;
 use memory_store::found;
-use memory_store::found::{Found, Opened};
 use ordered::Ordered;
 use store::{Extent, PageId, StoreRecord};
 
@@ -55,10 +54,8 @@ fn check_at(
         if !child.is_none() {
             let low = level - 1;
             match found::open_at(store, extent, c, low, child, by, heap) {
-                Opened::Faulty(fault) => return Check::Unsound(child, fault),
-                Opened::Node(n) => match check_at(
-                    store, extent, c, low, child, n, midpoint, next, by, heap,
-                ) {
+                Err(fault) => return Check::Unsound(child, fault),
+                Ok(n) => match check_at(store, extent, c, low, child, n, midpoint, next, by, heap) {
                     Check::Sound => {
                         midpoint = next;
                     }
@@ -87,14 +84,14 @@ pub fn check_in(store: &[u8], extent: Extent, root: PageId, by: Index, heap: &[u
     }
     let c = store::capacity_of(extent.size);
     match found::node_at(store, extent, c, root, by, heap) {
-        Found::Faulty(fault) => Check::Unsound(root, fault),
-        Found::Fine { level, count } => check_at(
+        Err(fault) => Check::Unsound(root, fault),
+        Ok(header) => check_at(
             store,
             extent,
             c,
-            level,
+            header.level,
             root,
-            count,
+            header.count,
             Bound::Nothing,
             Bound::Nothing,
             by,

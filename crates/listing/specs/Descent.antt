@@ -1,7 +1,7 @@
 -- A way down, as the code writes it into an end of a cursor.
 use Prim.Native.Nat.{ℕ, zero, suc, pred, ◌-◌, ◌≤◌}
 use Rattle.std.proofs.Common.{arith, sym, ◌∙◌, ap}
-use Rattle.std.specs.Prelude.{Bool, List, [], ◌∷◌, ◌≡◌, drop, set}
+use Rattle.std.specs.Prelude.{Bool, List, [], ◌∷◌, ◌≡◌, drop, set, Err}
 use Rattle.std.proofs.Math.Path.{refl}
 use borrow.Author.Tests.{eq-eqb}
 use Rattle.store.specs.declared.PageId.{PageId}
@@ -30,7 +30,6 @@ use Rattle.listing.specs.declared.descent.Placed.TheVariants as placed
 use Rattle.listing.specs.declared.descent.Descent.{Descent}
 use Rattle.listing.specs.declared.descent.End.TheVariants.{Bottom, Lost}
 use Rattle.listing.specs.Way.{way_of}
-use Rattle.memory_store.specs.declared.found.Opened.TheVariants as opened
 use Rattle.memory_store.specs.FetchLaws.{none_missing}
 use Rattle.memory_store.specs.Readable.{node_at}
 use Rattle.memory_store.specs.Opened.{opened_of, opened_faulty}
@@ -74,7 +73,7 @@ placed_of p l (faulty f) = placed.Lost f
 placed_of p l (fine n) = placed.At (rank_by p n.datoms) (next_from l (rank_by p n.datoms) n.children)
 
 module _ (t : DatomOrd) (x : Extent) (s : List ℕ) (q : PageId) (p : Datom → Bool) (l : ℕ) where
-  pub place_lost : (f : Fault) → opened.Faulty f ≡ opened_of (fetch_at (env_of t x s) l q) → placed.Lost f ≡ placed_of p l (at_level l (fetch_page t x s q))
+  pub place_lost : (f : Fault) → Err f ≡ opened_of (fetch_at (env_of t x s) l q) → placed.Lost f ≡ placed_of p l (at_level l (fetch_page t x s q))
   unfolding fetch_at env_of placed_of
   place_lost f e = rw (opened_faulty f (at_level l (fetch_page t x s q)) e)
 

@@ -1,5 +1,5 @@
 -- Whether the begin pages of a cursor are open, and what they hold then.
-use Rattle.std.specs.Prelude.{ℕ, zero, suc, ◌-◌, ◌<◌, ◌≤◌, Bool, true, false, List, ◌≡◌, refl, leb, eqb, get_or}
+use Rattle.std.specs.Prelude.{ℕ, zero, suc, ◌-◌, ◌<◌, ◌≤◌, Bool, true, false, List, ◌≡◌, refl, leb, eqb, get_or, Ok, Err}
 use Rattle.std.proofs.Math.Decide.{dec_le}
 use Rattle.std.proofs.Common.{arith, sym, ap, ◌∙◌, eqb-true, leb-true, le-leb}
 use Rattle.std.proofs.Math.Bool.{cond}
@@ -21,7 +21,6 @@ use Rattle.listing.specs.declared.opening.Opening.TheVariants.{Open, Damaged}
 use Rattle.listing.specs.declared.opening.PageOpening.{PageOpening}
 use Rattle.listing.specs.declared.opening.PageOpening.TheVariants as one
 use Rattle.listing.specs.WayLaws.{frames_count}
-use Rattle.memory_store.specs.declared.found.Opened.TheVariants as found
 use Rattle.memory_store.specs.Opened.{opened_of, opened_faulty}
 
 -- a page is open with no fewer datoms than the index
@@ -35,16 +34,16 @@ opening_of (opened os) = Open
 
 -- one page, by what it is opened as at its level
 module _ (t : DatomOrd) (x : Extent) (s : List ℕ) (q : PageId) (i l : ℕ) where
-  pub open_lost : (f : Fault) → found.Faulty f ≡ opened_of (fetch_at (env_of t x s) l q) → one.Shut f ≡ open_of i (at_level l (fetch_page t x s q))
+  pub open_lost : (f : Fault) → Err f ≡ opened_of (fetch_at (env_of t x s) l q) → one.Shut f ≡ open_of i (at_level l (fetch_page t x s q))
   unfolding fetch_at env_of open_of
   open_lost f e = rw (opened_faulty f (at_level l (fetch_page t x s q)) e)
 
-  module _ (k : ℕ) (e : found.Node k ≡ opened_of (fetch_at (env_of t x s) l q)) where
+  module _ (k : ℕ) (e : Ok k ≡ opened_of (fetch_at (env_of t x s) l q)) where
     open_node : open_of i (at_level l (fetch_page t x s q)) ≡ cond (leb i k) one.Open (one.Shut PastCount)
     unfolding fetch_at env_of open_of opened_of
     open_node = side (at_level l (fetch_page t x s q)) e
       where
-        side : (r : Fetched) → found.Node k ≡ opened_of r → open_of i r ≡ cond (leb i k) one.Open (one.Shut PastCount)
+        side : (r : Fetched) → Ok k ≡ opened_of r → open_of i r ≡ cond (leb i k) one.Open (one.Shut PastCount)
         side (faulty f) u = absurd (apart (cc))
         side (fine n) u = let w : k ≡ length n.datoms = cc in rw w
 

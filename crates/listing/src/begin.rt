@@ -17,7 +17,6 @@ use answer::{Cursor, Refusal, Start, Started};
 use datom::Datom;
 use index::{Index, Order};
 use memory_store::found;
-use memory_store::found::Found;
 use ordered::Ordered;
 use store::{Extent, PageId, StoreRecord};
 
@@ -148,10 +147,8 @@ fn start_under(
     }
     let c = store::capacity_of(extent.size);
     match found::node_at(store, extent, c, root, by, heap) {
-        Found::Faulty(fault) => refused(Refusal::Damaged(root, fault)),
-        Found::Fine { level, count: _ } => {
-            start_at(store, extent, c, root, level, lower, upper, by, heap)
-        }
+        Err(fault) => refused(Refusal::Damaged(root, fault)),
+        Ok(header) => start_at(store, extent, c, root, header.level, lower, upper, by, heap),
     }
 }
 

@@ -14,7 +14,6 @@ use crate::way::Way;
 use answer::{Fault, NextMidpoint};
 use datom::Datom;
 use index::Index;
-use memory_store::found::Opened;
 use memory_store::{access, found};
 use store::{Extent, PageId};
 
@@ -93,8 +92,8 @@ fn place_in(
     ensures { result ≡ placed_of (test_of (order_in by heap.now) seek) level (at_level level (fetch_page (order_in by heap.now) extent store.now page)) }
 {
     match found::open_at(store, extent, c, level, page, by, heap) {
-        Opened::Faulty(fault) => Placed::Lost(fault),
-        Opened::Node(k) => {
+        Err(fault) => Placed::Lost(fault),
+        Ok(k) => {
             let part = memory_store::fetch(store, extent, page);
             let index = index_in(part, k, seek, by, heap);
             let next = next_from(part, level, c, k, index);

@@ -10,7 +10,6 @@ ghost use Rattle.listing.specs.Opening.{open_of, opening_of};
 use answer::{Cursor, Fault};
 use index::Index;
 use memory_store::found;
-use memory_store::found::Opened;
 use store::{Extent, PageId};
 
 // Whether all pages are open, or the first that is not and what is wrong with it.
@@ -42,8 +41,8 @@ fn open_one(
     ensures { result ≡ open_of index (at_level level (fetch_page (order_in by heap.now) extent store.now page)) }
 {
     match found::open_at(store, extent, c, level, page, by, heap) {
-        Opened::Faulty(fault) => PageOpening::Shut(fault),
-        Opened::Node(k) => {
+        Err(fault) => PageOpening::Shut(fault),
+        Ok(k) => {
             if index <= k as u64 {
                 return PageOpening::Open;
             }

@@ -1,5 +1,5 @@
 -- What was read on the last path stays known, and a path on its way.
-use Rattle.std.specs.Prelude.{ℕ, suc, ◌-◌, ◌<◌, ◌≤◌, Bool, true, false, List, ◌≡◌, refl, eqb, length, drop, get_or, set, replicate}
+use Rattle.std.specs.Prelude.{ℕ, suc, ◌-◌, ◌<◌, ◌≤◌, Bool, true, false, List, ◌≡◌, refl, eqb, length, drop, get_or, set, replicate, Ok, Err}
 use Rattle.std.proofs.Common.{arith, sym, ap, ◌∙◌, eqb-true, length-set, get_or-set_same, get_or-set_other}
 use Rattle.std.proofs.lemmas.Bool.{eqb-false}
 use Rattle.std.proofs.lemmas.List.{get_or-replicate}
@@ -21,7 +21,6 @@ use Rattle.rules.specs.Node.{rank, head_same, next_midpoint}
 use Rattle.rules.specs.Tree.{fine, fetch_at}
 use Rattle.rules.specs.Store.{page_at, fetch_page, env_of}
 use Rattle.memory_store.specs.Readable.{node_at}
-use Rattle.memory_store.specs.declared.found.Opened.TheVariants as opened
 use Rattle.memory_store.specs.Opened.{opened_of, node_opened, opened_node}
 use Rattle.lookup.specs.declared.Path.{Path}
 use Rattle.lookup.specs.declared.Look.TheVariants.{Met, Absent, Lost}
@@ -61,7 +60,7 @@ kept_unread t x s =
     }
 
 module _ {t : DatomOrd} {x : Extent} {s : List ℕ} {path : Path} (K : Kept t x s path) (l : ℕ) (h : l < 8) (p : PageId) where
-  pub kept_hit : is_none p ≡ false → (page_on path l).0 ≡ p.0 → opened.Node (count_on path l) ≡ opened_of (fetch_at (env_of t x s) l p)
+  pub kept_hit : is_none p ≡ false → (page_on path l).0 ≡ p.0 → Ok (count_on path l) ≡ opened_of (fetch_at (env_of t x s) l p)
   kept_hit real e =
       let same : page_on path l ≡ p = ap page e in
       node_opened t x s p l (count_on path l) (rw same at (K.read l h (rw same real)))
@@ -128,11 +127,11 @@ module _ {t : DatomOrd} {x : Extent} {s : List ℕ} {d : Datom} {h : ℕ} {top :
         going_stuck few next = way_stuck t x s d p l k g.read other up few next ∙ ap look_of g.rest
 
         module _ {c : PageId} (next : next_in t x s d p k ≡ Child c) where
-          pub going_lost : {f : Fault} → opened.Faulty f ≡ opened_of (fetch_at (env_of t x s) (l - 1) c) → Lost c f ≡ look_of (path_of t x s d h top)
+          pub going_lost : {f : Fault} → Err f ≡ opened_of (fetch_at (env_of t x s) (l - 1) c) → Lost c f ≡ look_of (path_of t x s d h top)
           going_lost {f} e = way_lost t x s d p l k g.read other up c next f e ∙ ap look_of g.rest
 
           pub going_down :
-              Preorder t.cmp → {n : ℕ} → opened.Node n ≡ opened_of (fetch_at (env_of t x s) (l - 1) c) → l - 1 < 8 →
+              Preorder t.cmp → {n : ℕ} → Ok n ≡ opened_of (fetch_at (env_of t x s) (l - 1) c) → l - 1 < 8 →
               Going t x s d h top (with_page path (l - 1) c n) (gap_in t x s d gap p k) c (l - 1) n
           going_down L {n} e low =
               let read = opened_node t x s c (l - 1) n e in

@@ -1,7 +1,7 @@
 -- One page of a datom's path, and one datom of a batch.
 use Prim.Native.Nat.{ℕ, zero, suc, ◌+◌, ◌-◌, ◌*◌, ◌<◌, ◌≤◌, Ordering}
 use Rattle.std.proofs.Common.{add-one, arith, sym, ap, ◌∙◌}
-use Rattle.std.specs.Prelude.{Bool, true, false, List, [], ◌∷◌, ◌≡◌, drop}
+use Rattle.std.specs.Prelude.{Bool, true, false, List, [], ◌∷◌, ◌≡◌, drop, Err}
 use Rattle.std.proofs.Math.Path.{refl}
 use Rattle.store.specs.declared.PageId.{PageId}
 use Rattle.store.specs.declared.Extent.{Extent}
@@ -27,7 +27,6 @@ use Rattle.rules.specs.Store.{page_at, fetch_page, env_of}
 use Rattle.memory_store.specs.FetchLaws.{none_missing}
 use Rattle.memory_store.specs.Readable.{node_at}
 use Rattle.lookup.specs.declared.Look.TheVariants.{Met, Absent, Lost}
-use Rattle.memory_store.specs.declared.found.Opened.TheVariants as opened
 use Rattle.memory_store.specs.Opened.{opened_of, at_its_level, opened_faulty}
 use Rattle.lookup.specs.Look.{look_of, path_of}
 
@@ -48,11 +47,11 @@ lost_faulty e d zero p f = refl
 lost_faulty e d (suc l) p f = refl
 
 lost_at_law :
-    (e : Env) (d : Datom) (l : ℕ) (p : PageId) (f : Fault) (r : Fetched) → opened.Faulty f ≡ opened_of r → look_of (lookup e d l p r) ≡ Lost p f
+    (e : Env) (d : Datom) (l : ℕ) (p : PageId) (f : Fault) (r : Fetched) → Err f ≡ opened_of r → look_of (lookup e d l p r) ≡ Lost p f
 lost_at_law e d l p f r h = rw (opened_faulty f r h) (lost_faulty e d l p f)
 
 -- "none" is no page
-none_lost : (t : DatomOrd) (x : Extent) (s : List ℕ) (l : ℕ) → x.count ≤ none.0 → opened.Faulty Missing ≡ opened_of (fetch_at (env_of t x s) l none)
+none_lost : (t : DatomOrd) (x : Extent) (s : List ℕ) (l : ℕ) → x.count ≤ none.0 → Err Missing ≡ opened_of (fetch_at (env_of t x s) l none)
 unfolding opened_of fetch_at at_level env_of
 none_lost t x s l h = rw (none_missing t x s h)
 
@@ -104,7 +103,7 @@ module _ (t : DatomOrd) (x : Extent) (s : List ℕ) (d : Datom) (p : PageId) (l 
       way_stuck h next = rw (down none (ap rules.child_of next)) (sym (lost_at_law _ d (l - 1) none Missing _ (none_lost t x s (l - 1) h)))
 
       module _ (c : PageId) (next : next_in t x s d p k ≡ Child c) where
-        pub way_lost : (f : Fault) → opened.Faulty f ≡ opened_of (fetch_at (env_of t x s) (l - 1) c) → Lost c f ≡ look_of (path_of t x s d l p)
+        pub way_lost : (f : Fault) → Err f ≡ opened_of (fetch_at (env_of t x s) (l - 1) c) → Lost c f ≡ look_of (path_of t x s d l p)
         way_lost f h = rw (down c (ap rules.child_of next)) (sym (lost_at_law _ d (l - 1) c f _ h))
 
         pub way_down : (n : ℕ) → fetch_page t x s c ≡ fine (node_at x s c (l - 1) n) → path_of t x s d (l - 1) c ≡ path_of t x s d l p

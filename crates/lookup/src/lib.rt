@@ -27,7 +27,6 @@ use answer::{Fault, NextMidpoint, Refusal};
 use batch::Finding;
 use datom::Datom;
 use index::{Index, Order};
-use memory_store::found::Opened;
 use memory_store::{access, found};
 use store::{Extent, PageId};
 
@@ -93,13 +92,13 @@ fn open_at(
     page: PageId,
     by: Index,
     heap: &[u8],
-) -> Opened
+) -> Result<usize, Fault>
     requires { (bad_store extent store.now ≡ false) × (c ≡ capacity extent.size) × Kept (order_in by heap.now) extent store.now path × (level < 8) × (is_none page ≡ false) }
     ensures { result ≡ opened_of (fetch_at (env_of (order_in by heap.now) extent store.now) level page) }
 {
     let last = path.pages[level];
     if last.0 == page.0 {
-        return Opened::Node(path.counts[level]);
+        return Ok(path.counts[level]);
     }
     found::open_at(store, extent, c, level, page, by, heap)
 }
@@ -152,13 +151,13 @@ fn lookup_one(
         };
         l -= 1;
         match open_at(store, extent, c, path, l, child, by, heap) {
-            Opened::Node(n) => {
+            Ok(n) => {
                 path.pages[l] = child;
                 path.counts[l] = n;
                 page = child;
                 k = n;
             }
-            Opened::Faulty(fault) => {
+            Err(fault) => {
                 return Looked {
                     look: Look::Lost(child, fault),
                     path,

@@ -1,5 +1,5 @@
 -- What the store's tests say, and where a page that is given lies.
-use Rattle.std.specs.Prelude.{◌≡◌, ℕ, ◌+◌, ◌*◌, ◌/◌, ◌<◌, ◌≤◌, Bool, true, false, List, [], length, drop, ◌==◌, nat_lt}
+use Rattle.std.specs.Prelude.{◌≡◌, ℕ, ◌+◌, ◌*◌, ◌/◌, ◌<◌, ◌≤◌, Bool, true, false, List, [], length, drop, ◌==◌, nat_lt, Ok, Err}
 use Rattle.std.proofs.Math.Decide.{dec_le}
 use Rattle.std.proofs.Common.{mul-le-mul_right, add-mul, one-mul, le-div_iff_mul-le, div-lt_iff_lt-mul, arith, sym, ◌∙◌, length-drop, length-take-le}
 use Rattle.std.proofs.Math.Path.{refl}
@@ -18,8 +18,7 @@ use Rattle.index.specs.Order.{DatomOrd}
 use Rattle.rules.specs.Page.{read_page}
 use Rattle.rules.specs.Tree.{faulty}
 use Rattle.rules.specs.Store.{bad_store, bad_root, fetch_fault, fetch_answer, page_at, fetched, fetch_page}
-use Rattle.memory_store.specs.declared.reader.Reading.TheVariants.{Broken, Good}
-use Rattle.memory_store.specs.declared.found.Found.TheVariants.{Faulty, Fine}
+use Rattle.memory_store.specs.declared.reader.Header.{Header}
 use Rattle.memory_store.specs.Reading.{said, told}
 
 -- a store in order
@@ -115,19 +114,19 @@ none_missing t x s h = rw (le-ltb none.0 x.count h)
 
 -- a page as it is read during a call
 module _ (t : DatomOrd) (x : Extent) (s : List ℕ) (p : PageId) where
-  pub found_missing : x.count ≤ p.0 → told x s p (Faulty Missing) ≡ fetch_page t x s p
+  pub found_missing : x.count ≤ p.0 → told x s p (Err Missing) ≡ fetch_page t x s p
   unfolding told fetch_page
   found_missing h = rw (le-ltb p.0 x.count h)
 
   module _ (h : p.0 < x.count) where
     pub found_broken :
-        (r : Rule) → said (capacity x.size) (page_at x s p) (Broken r) ≡ read_page t (capacity x.size) p (page_at x s p) →
-        told x s p (Faulty (Breaks r)) ≡ fetch_page t x s p
+        (r : Rule) → said (capacity x.size) (page_at x s p) (Err r) ≡ read_page t (capacity x.size) p (page_at x s p) →
+        told x s p (Err (Breaks r)) ≡ fetch_page t x s p
     unfolding told said fetch_page
     found_broken r e = rw (lt-ltb p.0 x.count h, ← e)
 
     pub found_fine :
-        (l k : ℕ) → said (capacity x.size) (page_at x s p) (Good l k) ≡ read_page t (capacity x.size) p (page_at x s p) →
-        told x s p (Fine l k) ≡ fetch_page t x s p
+        (r : Header) → said (capacity x.size) (page_at x s p) (Ok r) ≡ read_page t (capacity x.size) p (page_at x s p) →
+        told x s p (Ok r) ≡ fetch_page t x s p
     unfolding told said fetch_page
-    found_fine l k e = rw (lt-ltb p.0 x.count h, ← e)
+    found_fine r e = rw (lt-ltb p.0 x.count h, ← e)

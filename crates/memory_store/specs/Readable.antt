@@ -1,5 +1,5 @@
 -- What is known of a page that was read.
-use Rattle.std.specs.Prelude.{◌≡◌, ℕ, ◌+◌, ◌*◌, ◌<◌, ◌≤◌, true, false, List, length}
+use Rattle.std.specs.Prelude.{◌≡◌, ℕ, ◌+◌, ◌*◌, ◌<◌, ◌≤◌, true, false, List, length, Ok, Err}
 use Rattle.std.proofs.Common.{arith, ap, ◌∙◌, lt-ltb}
 use Rattle.std.proofs.Math.Path.{sym}
 use Rattle.store.specs.declared.PageId.{PageId}
@@ -13,7 +13,7 @@ use Rattle.rules.specs.Page.{Node, node_of, level_of, count_of, rising}
 use Rattle.rules.specs.Tree.{faulty, fine}
 use Rattle.rules.specs.Store.{bad_store, page_at, fetched, fetch_fault, fetch_page}
 use Rattle.rules.proofs.ReadLaws.{read_count, fetch_tells}
-use Rattle.memory_store.specs.declared.found.Found.TheVariants.{Faulty, Fine}
+use Rattle.memory_store.specs.declared.reader.Header.{Header}
 use Rattle.memory_store.specs.Reading.{told}
 use Rattle.memory_store.specs.FetchLaws.{in_order, page_long}
 
@@ -52,10 +52,10 @@ opens t x s p l k ok e =
 
 -- what the reader tells of a page
 module _ (t : DatomOrd) (x : Extent) (s : List ℕ) (p : PageId) where
-  pub told_fine : (l k : ℕ) → told x s p (Fine l k) ≡ fetch_page t x s p → fetch_page t x s p ≡ fine (node_at x s p l k)
+  pub told_fine : (h : Header) → told x s p (Ok h) ≡ fetch_page t x s p → fetch_page t x s p ≡ fine (node_at x s p h.level h.count)
   unfolding told
-  told_fine l k e = sym e
+  told_fine h e = sym e
 
-  pub told_faulty : (f : Fault) → told x s p (Faulty f) ≡ fetch_page t x s p → fetch_page t x s p ≡ faulty f
+  pub told_faulty : (f : Fault) → told x s p (Err f) ≡ fetch_page t x s p → fetch_page t x s p ≡ faulty f
   unfolding told
   told_faulty f e = sym e

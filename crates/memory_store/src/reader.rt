@@ -15,11 +15,11 @@ use datom::Value;
 use index::Index;
 use store::PageId;
 
-// A page is unreadable by a rule, or it has a level and a count.
+// What a page that breaks no rule tells of itself: its level, and how many datoms it has.
 #[derive(Clone, Copy)]
-pub enum Reading {
-    Broken(Rule),
-    Good { level: usize, count: usize },
+pub struct Header {
+    pub level: usize,
+    pub count: usize,
 }
 
 // Whether the values of four datoms from byte `at` on are integers. The bits of all four are looked at as one number.
@@ -251,45 +251,45 @@ fn all_older(s: &[u8], at: usize, n: usize, id: PageId) -> bool
 }
 
 // The children's rules, of a page of c datoms at most that has k of them.
-fn read_children(s: &[u8], c: usize, id: PageId, level: usize, k: usize) -> Reading
+fn read_children(s: &[u8], c: usize, id: PageId, level: usize, k: usize) -> Result<Header, Rule>
     requires { (40 * c + 8 ≤ length s.now) × (k ≤ c) }
     ensures { said c s.now result ≡ child_rules id (node_of c level k s.now) }
 {
     if level == 0 {
         // No page is below page 0, so every child is none.
         if !all_older(s, 32 * c, k + 1, PageId(0)) {
-            return Reading::Broken(Rule::LeafChild);
+            return Err(Rule::LeafChild);
         }
-        return Reading::Good { level, count: k };
+        return Ok(Header { level, count: k });
     }
     if store::word(s, 32 * c + 8 * k) == PageId::NONE {
-        return Reading::Broken(Rule::LastChild);
+        return Err(Rule::LastChild);
     }
     if !all_older(s, 32 * c, k + 1, id) {
-        return Reading::Broken(Rule::ChildId);
+        return Err(Rule::ChildId);
     }
-    Reading::Good { level, count: k }
+    Ok(Header { level, count: k })
 }
 
 // The first broken rule of a page that is to be page `id`, or its level and count.
-pub fn read_page(s: &[u8], c: usize, id: PageId, by: Index, heap: &[u8]) -> Reading
+pub fn read_page(s: &[u8], c: usize, id: PageId, by: Index, heap: &[u8]) -> Result<Header, Rule>
     requires { 40 * c + 10 ≤ length s.now }
     ensures { said c s.now result ≡ read_page (order_in by heap.now) c id s.now }
 {
     let level = access::level_of(s, c);
     let k = access::count_of(s, c);
     if 7 < level {
-        return Reading::Broken(Rule::Level);
+        return Err(Rule::Level);
     }
     if c < k {
-        return Reading::Broken(Rule::Count);
+        return Err(Rule::Count);
     }
     let plain = plain_front(s, k, by);
     if !all_stored(s, plain, k, heap) {
-        return Reading::Broken(Rule::Form);
+        return Err(Rule::Form);
     }
     if !all_rising(s, plain, k, by, heap) {
-        return Reading::Broken(Rule::Order);
+        return Err(Rule::Order);
     }
     read_children(s, c, id, level, k)
 }

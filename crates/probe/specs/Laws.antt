@@ -1,5 +1,5 @@
 -- The ways through a look at bytes, and what is known of a readable page.
-use Rattle.std.specs.Prelude.{ℕ, zero, suc, ◌+◌, ◌*◌, ◌≤◌, ◌<◌, Bool, true, false, List, [], ◌∷◌, ◌≡◌, refl, eqb, length, drop, get_or}
+use Rattle.std.specs.Prelude.{ℕ, zero, suc, ◌+◌, ◌*◌, ◌≤◌, ◌<◌, Bool, true, false, List, [], ◌∷◌, ◌≡◌, refl, eqb, length, drop, get_or, Ok, Err}
 use Rattle.std.proofs.Common.{add-zero, mul-zero, arith, sym, ◌∙◌}
 use Rattle.std.proofs.Math.Path.{ap}
 use borrow.Author.Tests.{eqb-false, eq-eqb, ne_eqb}
@@ -20,7 +20,7 @@ use Rattle.rules.specs.Page.{Node, Read, broken, good, node_of, level_of, encode
 use Rattle.rules.specs.Node.{part_of}
 use Rattle.rules.proofs.SplitLaws.{whole_part}
 use Rattle.rules.proofs.ReadLaws.{Readable, readable, read_count}
-use Rattle.memory_store.specs.declared.reader.Reading.TheVariants as reading
+use Rattle.memory_store.specs.declared.reader.Header.{Header}
 use Rattle.memory_store.specs.Reading.{said}
 use Rattle.probe.specs.declared.Look.{Look}
 use Rattle.probe.specs.declared.Look.TheVariants.{Unread, Good}
@@ -37,13 +37,13 @@ module _ (t : DatomOrd) (s : List ℕ) (id c : ℕ) (e : c ≡ capacity (length 
   look_none z = rw (eq-eqb (capacity (length s)) 0 (sym e ∙ z))
 
   module _ (some : c ≡ 0 → ⊥) where
-    pub look_broken : (r : Rule) → said c s (reading.Broken r) ≡ read_page t c (page id) s → shown s (Unread (rule_number r)) ≡ seen t s id
+    pub look_broken : (r : Rule) → said c s (Err r) ≡ read_page t c (page id) s → shown s (Unread (rule_number r)) ≡ seen t s id
     unfolding shown seen said
     look_broken r q = rw (ne_eqb (capacity (length s)) 0 (λ z. some (e ∙ z)), ← e, ← q)
 
-    pub look_good : (l k : ℕ) → said c s (reading.Good l k) ≡ read_page t c (page id) s → shown s (Good l k) ≡ seen t s id
+    pub look_good : (h : Header) → said c s (Ok h) ≡ read_page t c (page id) s → shown s (Good h.level h.count) ≡ seen t s id
     unfolding shown seen said
-    look_good l k q = rw (ne_eqb (capacity (length s)) 0 (λ z. some (e ∙ z)), ← e, ← q)
+    look_good h q = rw (ne_eqb (capacity (length s)) 0 (λ z. some (e ∙ z)), ← e, ← q)
 
 -- what is known of a readable page
 pub record Held (t : DatomOrd) (s : List ℕ) (l k : ℕ) : Type 0 where

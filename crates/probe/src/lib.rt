@@ -10,7 +10,6 @@ ghost use Rattle.probe.specs.Seen.{nothing, in_good_order, seen, shown, rule_of,
 
 use answer::{Fetch, NextMidpoint};
 use index::{Index, Named, Order};
-use memory_store::reader::Reading;
 use store::{Extent, PageId};
 
 const NOTHING: u64 = 0xffff_ffff_ffff_ffff;
@@ -30,8 +29,8 @@ fn look_at(bytes: &[u8], id: u64, by: Index, heap: &[u8]) -> Look
         return Look::Unread(NOTHING);
     }
     match memory_store::reader::read_page(bytes, c, PageId(id), by, heap) {
-        Reading::Broken(rule) => Look::Unread(rule.number()),
-        Reading::Good { level, count } => Look::Good(level, count),
+        Err(rule) => Look::Unread(rule.number()),
+        Ok(header) => Look::Good(header.level, header.count),
     }
 }
 

@@ -35,19 +35,19 @@ overflow_sub-low t c = let up = along_above c.loop-i.invariant c.loop-i-test.tru
 pub open_at-requires : goal.open_at-requires
 open_at-requires t c = let A = c.loop-i.invariant in (A.good, A.room)
 
-pub returns-in-Faulty : goal.returns-in-Faulty
-returns-in-Faulty t c = let a = c.args in
+pub returns-in-Err : goal.returns-in-Err
+returns-in-Err t c = let a = c.args in
     along_unsound c.loop-i.invariant c.loop-i-test.true _ c.bound_at-next.ensures
     (sym c.is_below.ensures ∙ c.if-not-is_below.false) _ c.child_at-child.ensures
     (sym c.is_none.ensures ∙ c.if-not-is_none.true) _
-    (page_faulty (order_in a.by a.heap.now) a.extent a.store.now _ _ _ _ _ (sym c.in-Faulty.is ∙ c.open_at.ensures)) _ _ refl
+    (page_faulty (order_in a.by a.heap.now) a.extent a.store.now _ _ _ _ _ c.in-Err.ensures) _ _ refl
 
 pub check_at-requires : goal.check_at-requires
 check_at-requires t c = let A = c.loop-i.invariant in
     let up = along_above c.loop-i.invariant c.loop-i-test.true _ c.bound_at-next.ensures
     (sym c.is_below.ensures ∙ c.if-not-is_below.false) _ c.child_at-child.ensures
     (sym c.is_none.ensures ∙ c.if-not-is_none.true) in
-    let read = opened_node (order_in c.args.by c.args.heap.now) c.args.extent c.args.store.now _ _ _ (sym c.in-Node.is ∙ c.open_at.ensures) in
+    let read = opened_node (order_in c.args.by c.args.heap.now) c.args.extent c.args.store.now _ _ _ c.in-Ok.ensures in
     (omega (arith, up, c.decreases), (A.good, A.room, read))
 
 pub loop-i-preserved-in-Sound : goal.loop-i-preserved-in-Sound

@@ -1,7 +1,6 @@
 -- `check_in` meets its contract: the checks in their order, then the root. Assumes nothing.
-use mathlib.Core.Path.{◌∙◌, sym, ap}
+use mathlib.Core.Path.{◌∙◌, sym}
 use Rattle.index.specs.Order.{order_in}
-use Rattle.memory_store.specs.Reading.{told}
 use Rattle.memory_store.specs.Readable.{told_fine, told_faulty}
 use Rattle.invariants.specs.Root.{check_bad, check_past, check_none, check_faulty, check_read}
 use Rattle.invariants.proofs.check_in.Goals as goal
@@ -30,23 +29,23 @@ pub check_at-requires : goal.check_at-requires
 check_at-requires c =
     let a = c.args in
     let ok = sym c.is_bad.ensures ∙ c.if-is_bad.false in
-    (ok, c.capacity_of-c.ensures, told_fine (order_in a.by a.heap.now) a.extent a.store.now a.root c.in-Fine.level c.in-Fine.count (sym (ap (told a.extent a.store.now a.root) c.in-Fine.is) ∙ c.node_at.ensures))
+    (ok, c.capacity_of-c.ensures, told_fine (order_in a.by a.heap.now) a.extent a.store.now a.root c.in-Ok.header c.in-Ok.ensures)
 
-pub returns-in-Faulty : goal.returns-in-Faulty
-returns-in-Faulty c =
+pub returns-in-Err : goal.returns-in-Err
+returns-in-Err c =
     let a = c.args in
     let ok = sym c.is_bad.ensures ∙ c.if-is_bad.false in
     let known = sym c.is_bad_root.ensures ∙ c.if-is_bad_root.false in
     let real = sym c.is_none.ensures ∙ c.if-is_none.false in
     check_faulty (order_in a.by a.heap.now) a.extent a.store.now a.root ok known real _
-    (told_faulty (order_in a.by a.heap.now) a.extent a.store.now a.root _ (sym (ap (told a.extent a.store.now a.root) c.in-Faulty.is) ∙ c.node_at.ensures))
+    (told_faulty (order_in a.by a.heap.now) a.extent a.store.now a.root _ c.in-Err.ensures)
 
-pub returns-in-Fine : goal.returns-in-Fine
-returns-in-Fine c =
+pub returns-in-Ok : goal.returns-in-Ok
+returns-in-Ok c =
     let a = c.args in
     let ok = sym c.is_bad.ensures ∙ c.if-is_bad.false in
     let known = sym c.is_bad_root.ensures ∙ c.if-is_bad_root.false in
     let real = sym c.is_none.ensures ∙ c.if-is_none.false in
     c.check_at.ensures
-    ∙ check_read (order_in a.by a.heap.now) a.extent a.store.now a.root ok known real c.in-Fine.level c.in-Fine.count
-    (told_fine (order_in a.by a.heap.now) a.extent a.store.now a.root c.in-Fine.level c.in-Fine.count (sym (ap (told a.extent a.store.now a.root) c.in-Fine.is) ∙ c.node_at.ensures))
+    ∙ check_read (order_in a.by a.heap.now) a.extent a.store.now a.root ok known real c.in-Ok.header.level c.in-Ok.header.count
+    (told_fine (order_in a.by a.heap.now) a.extent a.store.now a.root c.in-Ok.header c.in-Ok.ensures)

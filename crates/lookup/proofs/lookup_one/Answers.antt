@@ -1,6 +1,6 @@
 -- `lookup_one` meets its contract: the path from the page at hand ends where the whole path ends, and so do those of the gap. Assumes nothing.
 use native.Mathlib.Omega.{arith}
-use mathlib.Core.Path.{refl, sym, ◌∙◌}
+use mathlib.Core.Path.{refl}
 use Rattle.index.specs.Order.{order_in}
 use Rattle.index.proofs.Laws.{order_preorder}
 use Rattle.memory_store.specs.Readable.{opens}
@@ -81,14 +81,14 @@ bounds-path-l c =
     let o = opens (order_in a.by a.heap.now) a.extent a.store.now c.loop-part.page c.loop-part.l c.loop-part.k c.requires.0 c.loop-part.invariant.read in
     omega (arith, o.low)
 
-pub offset_bounds-path-l-in-Node : goal.offset_bounds-path-l-in-Node
-offset_bounds-path-l-in-Node c =
+pub offset_bounds-path-l-in-Ok : goal.offset_bounds-path-l-in-Ok
+offset_bounds-path-l-in-Ok c =
     let a = c.args in
     let o = opens (order_in a.by a.heap.now) a.extent a.store.now c.loop-part.page c.loop-part.l c.loop-part.k c.requires.0 c.loop-part.invariant.read in
     omega (arith, o.low)
 
-pub bounds-path-l-in-Node : goal.bounds-path-l-in-Node
-bounds-path-l-in-Node c =
+pub bounds-path-l-in-Ok : goal.bounds-path-l-in-Ok
+bounds-path-l-in-Ok c =
     let a = c.args in
     let o = opens (order_in a.by a.heap.now) a.extent a.store.now c.loop-part.page c.loop-part.l c.loop-part.k c.requires.0 c.loop-part.invariant.read in
     omega (arith, o.low)
@@ -100,11 +100,11 @@ loop-part-preserved c =
     let m = met_is c.loop-part.invariant c.part_of-part.ensures c.first_not_below-i.ensures c.is_met.ensures c.if-is_met.false in
     let g = gap_is c.loop-part.invariant c.part_of-part.ensures c.first_not_below-i.ensures c.narrow-gap.ensures in
     let n = next_is c.loop-part.invariant c.part_of-part.ensures c.first_not_below-i.ensures c.requires.1 c.next_midpoint.ensures c.in-Child.is in
-    rw g (going_down c.loop-part.invariant m c.if-l-eq0.false n (order_preorder a.by a.heap.now) (sym c.in-Node.is ∙ c.open_at.ensures) (omega (arith, o.low)))
+    rw g (going_down c.loop-part.invariant m c.if-l-eq0.false n (order_preorder a.by a.heap.now) c.in-Ok.ensures (omega (arith, o.low)))
 
-pub returns-in-Faulty : goal.returns-in-Faulty
-returns-in-Faulty c =
+pub returns-in-Err : goal.returns-in-Err
+returns-in-Err c =
     let a = c.args in
     let m = met_is c.loop-part.invariant c.part_of-part.ensures c.first_not_below-i.ensures c.is_met.ensures c.if-is_met.false in
     let n = next_is c.loop-part.invariant c.part_of-part.ensures c.first_not_below-i.ensures c.requires.1 c.next_midpoint.ensures c.in-Child.is in
-    (going_lost c.loop-part.invariant m c.if-l-eq0.false n (sym c.in-Faulty.is ∙ c.open_at.ensures), c.loop-part.invariant.kept, lost_leaves _ _ _ _ _ _ _ _ _)
+    (going_lost c.loop-part.invariant m c.if-l-eq0.false n c.in-Err.ensures, c.loop-part.invariant.kept, lost_leaves _ _ _ _ _ _ _ _ _)

@@ -10,14 +10,14 @@ use Rattle.htree.proofs.insert.load.Goals as goal
 pub part_of-part-requires : goal.part_of-part-requires
 part_of-part-requires c =
     let a = c.args in
-    let e = sym c.in-Node.is ∙ c.requires.4 in
+    let e = sym c.in-Ok.is ∙ c.requires.4 in
     let O = load_opens (order_in a.by a.heap.now) a.extent a.store.now a.level a.page a.s.now a.m a.n _ c.requires.0 e in
     (c.requires.0, O.used)
 
 pub merge-requires : goal.merge-requires
 merge-requires c =
     let a = c.args in
-    let e = sym c.in-Node.is ∙ c.requires.4 in
+    let e = sym c.in-Ok.is ∙ c.requires.4 in
     let O = load_opens (order_in a.by a.heap.now) a.extent a.store.now a.level a.page a.s.now a.m a.n _ c.requires.0 e in (
       rw c.part_of-part.ensures (omega (arith, O.wide, c.requires.1)),
       (omega (arith, O.few, c.requires.1), (search rules, (omega (arith, O.few, c.requires.1), search rules))),
@@ -26,19 +26,19 @@ merge-requires c =
 pub overflow_add-result : goal.overflow_add-result
 overflow_add-result c =
     let a = c.args in
-    let e = sym c.in-Node.is ∙ c.requires.4 in
+    let e = sym c.in-Ok.is ∙ c.requires.4 in
     let O = load_opens (order_in a.by a.heap.now) a.extent a.store.now a.level a.page a.s.now a.m a.n _ c.requires.0 e in
     omega (arith, O.few, c.requires.1)
 
-pub returns-in-Faulty : goal.returns-in-Faulty
-returns-in-Faulty c =
+pub returns-in-Err : goal.returns-in-Err
+returns-in-Err c =
     let a = c.args in
-    load_faulty (order_in a.by a.heap.now) a.extent a.store.now a.level a.page a.s.now a.m a.n _ (sym c.in-Faulty.is ∙ c.requires.4)
+    load_faulty (order_in a.by a.heap.now) a.extent a.store.now a.level a.page a.s.now a.m a.n _ (sym c.in-Err.is ∙ c.requires.4)
 
 pub returns-in-Whole : goal.returns-in-Whole
 returns-in-Whole c =
     let a = c.args in
-    let e = sym c.in-Node.is ∙ c.requires.4 in
+    let e = sym c.in-Ok.is ∙ c.requires.4 in
     let M = rw c.part_of-part.ensures at c.merge.ensures in
     load_whole (order_in a.by a.heap.now) a.extent a.store.now a.level a.page a.s.now a.m a.n _ c.requires.0 e _ M.same
     (is_whole _ (sym M.answer ∙ c.in-Whole.is)) (rw c.requires.1 at (M.node c.in-Whole.is a.level))
@@ -46,7 +46,7 @@ returns-in-Whole c =
 pub returns-in-Met : goal.returns-in-Met
 returns-in-Met c =
     let a = c.args in
-    let e = sym c.in-Node.is ∙ c.requires.4 in
+    let e = sym c.in-Ok.is ∙ c.requires.4 in
     let M = rw c.part_of-part.ensures at c.merge.ensures in
     load_met (order_in a.by a.heap.now) a.extent a.store.now a.level a.page a.s.now a.m a.n _ c.requires.0 e _ M.same
     (is_met_law _ (sym M.answer ∙ c.in-Met.is))

@@ -1,5 +1,4 @@
 -- `open_one` meets its contract: by what the page is opened as at the level asked for. Assumes nothing.
-use mathlib.Core.Path.{sym, ◌∙◌}
 use Rattle.index.specs.Order.{order_in}
 use Rattle.listing.specs.Opening.{open_lost, open_within, open_past}
 use Rattle.listing.proofs.opening.open_one.Goals as goal
@@ -7,16 +6,14 @@ use Rattle.listing.proofs.opening.open_one.Goals as goal
 pub returns-then-index-k : goal.returns-then-index-k
 returns-then-index-k c =
     let a = c.args in
-    let e = sym c.in-Node.is ∙ c.open_at.ensures in
-    open_within (order_in a.by a.heap.now) a.extent a.store.now a.page a.index a.level _ e c.if-index-k.true
+    open_within (order_in a.by a.heap.now) a.extent a.store.now a.page a.index a.level _ c.in-Ok.ensures c.if-index-k.true
 
-pub returns-in-Faulty : goal.returns-in-Faulty
-returns-in-Faulty c =
+pub returns-in-Err : goal.returns-in-Err
+returns-in-Err c =
     let a = c.args in
-    open_lost (order_in a.by a.heap.now) a.extent a.store.now a.page a.index a.level _ (sym c.in-Faulty.is ∙ c.open_at.ensures)
+    open_lost (order_in a.by a.heap.now) a.extent a.store.now a.page a.index a.level _ c.in-Err.ensures
 
 pub returns-else-index-k : goal.returns-else-index-k
 returns-else-index-k c =
     let a = c.args in
-    let e = sym c.in-Node.is ∙ c.open_at.ensures in
-    open_past (order_in a.by a.heap.now) a.extent a.store.now a.page a.index a.level _ e c.if-index-k.false
+    open_past (order_in a.by a.heap.now) a.extent a.store.now a.page a.index a.level _ c.in-Ok.ensures c.if-index-k.false

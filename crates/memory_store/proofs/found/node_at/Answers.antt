@@ -1,7 +1,7 @@
 -- `node_at` meets its contract: a page below the count lies in the store, and the reader tells the rest. Assumes nothing.
-use Rattle.std.proofs.Common.{sym, ap, ◌∙◌, arith}
+use Rattle.std.proofs.Common.{arith}
+use Rattle.std.proofs.lemmas.Result.{err_from_is_err_and}
 use Rattle.index.specs.Order.{order_in}
-use Rattle.memory_store.specs.Reading.{said}
 use Rattle.memory_store.specs.FetchLaws.{in_order, page_long, found_missing, found_broken, found_fine}
 use Rattle.memory_store.proofs.found.node_at.Goals as goal
 
@@ -14,14 +14,14 @@ read_page-requires c =
     let o = in_order a.extent a.store.now c.requires.0 in
     rw (c.part_of-part.ensures, page_long a.extent a.store.now a.page o (omega arith), c.requires.1) o.known.fits
 
-pub returns-in-Broken : goal.returns-in-Broken
-returns-in-Broken c =
+pub returns-in_err-read_page : goal.returns-in_err-read_page
+returns-in_err-read_page c =
     let a = c.args in
-    let e = ap (said a.c _) c.in-Broken.is in
-    found_broken (order_in a.by a.heap.now) a.extent a.store.now a.page (omega arith) _ (rw (c.part_of-part.ensures, c.requires.1) at (sym e ∙ c.read_page.ensures))
+    let p = err_from_is_err_and c.from_residual.result c.from_residual.ensures.1 in
+    rw (p.1, p.2)
+    (found_broken (order_in a.by a.heap.now) a.extent a.store.now a.page (omega arith) _ (rw (c.part_of-part.ensures, c.requires.1) at c.in_err-read_page.ensures))
 
-pub returns-in-Good : goal.returns-in-Good
-returns-in-Good c =
+pub returns : goal.returns
+returns c =
     let a = c.args in
-    let e = ap (said a.c _) c.in-Good.is in
-    found_fine (order_in a.by a.heap.now) a.extent a.store.now a.page (omega arith) _ _ (rw (c.part_of-part.ensures, c.requires.1) at (sym e ∙ c.read_page.ensures))
+    found_fine (order_in a.by a.heap.now) a.extent a.store.now a.page (omega arith) _ (rw (c.part_of-part.ensures, c.requires.1) at c.in_ok-read_page.ensures)

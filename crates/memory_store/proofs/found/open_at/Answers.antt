@@ -1,24 +1,21 @@
 -- `open_at` meets its contract: what the reader tells, at the level asked for. Assumes nothing.
-use Rattle.std.proofs.Common.{sym, ap, ◌∙◌}
+use Rattle.std.proofs.lemmas.Result.{err_from_is_err_and}
 use Rattle.index.specs.Order.{order_in}
-use Rattle.memory_store.specs.Reading.{told}
 use Rattle.memory_store.specs.Opened.{open_faulty, open_other, open_node}
 use Rattle.memory_store.proofs.found.open_at.Goals as goal
 
-pub returns-then-l-level : goal.returns-then-l-level
-returns-then-l-level c =
+pub returns-in_err-header : goal.returns-in_err-header
+returns-in_err-header c =
     let a = c.args in
-    let e = ap (told a.extent a.store.now a.page) c.in-Fine.is in
-    open_other (order_in a.by a.heap.now) a.extent a.store.now a.page _ _ (sym e ∙ c.node_at.ensures) a.level c.if-l-level.true
+    let p = err_from_is_err_and c.from_residual.result c.from_residual.ensures.1 in
+    rw (p.1, p.2) (open_faulty (order_in a.by a.heap.now) a.extent a.store.now a.page _ a.level c.in_err-header.ensures)
 
-pub returns-in-Faulty : goal.returns-in-Faulty
-returns-in-Faulty c =
+pub returns-then-header-level : goal.returns-then-header-level
+returns-then-header-level c =
     let a = c.args in
-    let e = ap (told a.extent a.store.now a.page) c.in-Faulty.is in
-    open_faulty (order_in a.by a.heap.now) a.extent a.store.now a.page _ a.level (sym e ∙ c.node_at.ensures)
+    open_other (order_in a.by a.heap.now) a.extent a.store.now a.page _ c.in_ok-header.ensures a.level c.if-header-level.true
 
-pub returns-else-l-level : goal.returns-else-l-level
-returns-else-l-level c =
+pub returns : goal.returns
+returns c =
     let a = c.args in
-    let e = ap (told a.extent a.store.now a.page) c.in-Fine.is in
-    open_node (order_in a.by a.heap.now) a.extent a.store.now a.page _ _ (sym e ∙ c.node_at.ensures) a.level c.if-l-level.false
+    open_node (order_in a.by a.heap.now) a.extent a.store.now a.page _ c.in_ok-header.ensures a.level c.if-header-level.false

@@ -1,18 +1,19 @@
 -- What follows once the datom of a level is taken.
-use Rattle.std.specs.Prelude.{ℕ, pred, ◌+◌, ◌≤◌, List, ◌≡◌, length, get_or, set}
+use Rattle.std.specs.Prelude.{ℕ, pred, ◌+◌, ◌≤◌, List, ◌≡◌, Option, None, Some, Result, Ok, Err, length, get_or, set}
 use Rattle.store.specs.declared.Extent.{Extent}
 use Rattle.datom.specs.declared.Datom.{Datom}
 use Rattle.index.specs.Order.{DatomOrd}
-use Rattle.answer.specs.declared.Refusal.TheVariants.{Damaged}
+use Rattle.answer.specs.declared.Damage.{Damage}
+use Rattle.answer.specs.declared.Refusal.{Refusal}
+use Rattle.answer.specs.Damage.{damaged}
 use Rattle.answer.specs.declared.Cursor.{Cursor}
 use Rattle.answer.specs.declared.Step.TheVariants as step
 use Rattle.answer.specs.declared.Stepped.{Stepped}
 use Rattle.rules.specs.Tree.{Fetched, fine}
 use Rattle.rules.specs.Store.{fetch_page}
-use Rattle.rules.specs.Listing.{Path, after, cursor_of, end_frames, refuse_step}
+use Rattle.rules.specs.Listing.{Path, after, cursor_of, end_frames, staying, refuse_step}
 use Rattle.listing.specs.declared.way.Way.{Way}
-use Rattle.listing.specs.declared.descent.Descent.{Descent}
-use Rattle.listing.specs.declared.descent.End.TheVariants.{Bottom, Lost}
+use Rattle.listing.specs.declared.step.Yielded.{Yielded}
 use Rattle.listing.specs.Way.{frames_of}
 use Rattle.listing.specs.Levels.{node_in, open_at, opens_of}
 use Rattle.listing.specs.Descent.{descent_of}
@@ -34,12 +35,20 @@ abbrev pub after_at : DatomOrd → Extent → List ℕ → Way → ℕ → Path
 after_at t x s w l = after (fetch_page t x s) (open_at (fetch_page t x s) w.indices w.pages l) (opens_of (fetch_page t x s) w.indices w.pages l)
 
 -- "then advances as `Iter::next` does": they are written below the index that was taken
-unfoldable pub advanced : DatomOrd → Extent → List ℕ → Way → ℕ → Descent
+unfoldable pub advanced : DatomOrd → Extent → List ℕ → Way → ℕ → Result Way Damage
 advanced t x s w l = descent_of (pred l) (taken w l) (after_at t x s w l)
 
-unfoldable pub yield_of : Cursor → Datom → Descent → Stepped
-yield_of c d g =
-    elim g.end [
-      | Lost q f ↦ refuse_step c (Damaged q f)
-      | Bottom ↦ record { answer = step.Yields d; cursor = cursor_of (frames_of c.height g.way) (end_frames c) }
-    ]
+unfoldable pub yield_of : Cursor → Datom → Result Way Damage → Stepped
+yield_of c d (Err g) = refuse_step c (damaged g)
+yield_of c d (Ok w) = record { answer = step.Yields d; cursor = cursor_of (frames_of c.height w) (end_frames c) }
+
+-- a step by what it yields or by its refusal, which leaves the cursor as it was
+abbrev pub yielded_as : Cursor → Result Yielded Refusal → Stepped
+yielded_as c (Ok y) = record { answer = step.Yields y.datom; cursor = y.cursor }
+yielded_as c (Err r) = refuse_step c r
+
+-- a step that yields nothing has ended, and leaves the cursor too
+abbrev pub stepped_as : Cursor → Result (Option Yielded) Refusal → Stepped
+stepped_as c (Ok (Some y)) = yielded_as c (Ok y)
+stepped_as c (Ok None) = staying c step.Ended
+stepped_as c (Err r) = refuse_step c r

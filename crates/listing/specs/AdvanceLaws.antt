@@ -4,7 +4,7 @@ use Rattle.std.proofs.Common.{le_refl, ◌∙◌, get_or-set_other}
 use Rattle.std.proofs.Math.Numerals.{add-one}
 use native.Mathlib.Omega.{arith}
 use Rattle.std.proofs.Math.Bool.{true}
-use Rattle.std.specs.Prelude.{false, ◌≡◌, drop, get_or, set}
+use Rattle.std.specs.Prelude.{false, ◌≡◌, None, Result, drop, get_or, set}
 use mathlib.Core.List.{List, map}
 use Rattle.std.proofs.Math.Path.{refl, sym, ap}
 use Rattle.std.proofs.Math.ListN.{length}
@@ -16,6 +16,7 @@ use Rattle.store.specs.Laws.{cells_length}
 use Rattle.datom.specs.declared.Datom.{Datom}
 use Rattle.datom.specs.Datom.{datom_of}
 use Rattle.index.specs.Order.{DatomOrd}
+use Rattle.answer.specs.declared.Damage.{Damage}
 use Rattle.answer.specs.declared.Fault.{Fault}
 use Rattle.answer.specs.declared.Fault.TheVariants.{Missing}
 use Rattle.answer.specs.declared.NextMidpoint.{NextMidpoint}
@@ -30,9 +31,6 @@ use Rattle.rules.specs.Lookup.{child_of}
 use Rattle.rules.specs.Store.{bad_store, page_at, fetch_page}
 use Rattle.rules.specs.Listing.{frames_from, frame_of, never, after, cursor_of, end_frames, refuse_step}
 use Rattle.listing.specs.declared.way.Way.{Way}
-use Rattle.listing.specs.declared.descent.Descent.{Descent}
-use Rattle.listing.specs.declared.descent.Seek.TheVariants.{First}
-use Rattle.listing.specs.declared.descent.End.TheVariants.{Bottom, Lost}
 use Rattle.listing.specs.Way.{frames_of}
 use Rattle.listing.specs.Levels.{node_in, opens_of, frames_of_law, opens_count}
 use Rattle.listing.specs.Descent.{test_of, lost, down, fill, descent_of, down_of, none_down}
@@ -109,21 +107,19 @@ module _ (t : DatomOrd) (x : Extent) (s : List ℕ) (w : Way) where
             let k : suc m - 1 ≡ m = omega arith in
             rw (k, after, v, opens_count (fetch_page t x s) w.indices w.pages m, ← add-one (get_or w.indices (suc m) 0))
 
-    pub adv_child : (d : PageId) → next ≡ Child d → descent_of (l - 1) (taken w l) (down_of t x s (test_of t First) (l - 1) d) ≡ advanced t x s w l
+    pub adv_child : (d : PageId) → next ≡ Child d → descent_of (l - 1) (taken w l) (down_of t x s (test_of t None) (l - 1) d) ≡ advanced t x s w l
     unfolding test_of
     adv_child d e = rw (ap child_of e) at adv_next
 
     pub adv_stuck : x.count ≤ none.0 → next ≡ Nothing → lost none Missing ≡ advanced t x s w l
     adv_stuck c e = none_down t x s never (l - 1) (taken w l) c ∙ (rw (ap child_of e) at adv_next)
 
-module _ (c : Cursor) (d : Datom) (g a : Descent) (is : g ≡ a) where
-  pub yield_lost : (q : PageId) (f : Fault) → g.end ≡ Lost q f → refuse_step c (Damaged q f) ≡ yield_of c d a
+module _ (c : Cursor) (d : Datom) (g a : Result Way Damage) (is : g ≡ a) where
+  pub yield_lost : (q : PageId) (f : Fault) → g ≡ lost q f → refuse_step c (Damaged q f) ≡ yield_of c d a
   unfolding yield_of
-  yield_lost q f h = let k : refuse_step c (Damaged q f) ≡ yield_of c d g = rw (yield_of, h) in k ∙ ap (yield_of c d) is
+  yield_lost q f h = rw (← is, h)
 
   pub yield_bottom :
-      g.end ≡ Bottom → record { answer = step.Yields d; cursor = cursor_of (frames_of c.height g.way) (end_frames c) } ≡ yield_of c d a
+      (w : Way) → g ≡ down w → record { answer = step.Yields d; cursor = cursor_of (frames_of c.height w) (end_frames c) } ≡ yield_of c d a
   unfolding yield_of
-  yield_bottom h =
-      let k : record { answer = step.Yields d; cursor = cursor_of (frames_of c.height g.way) (end_frames c) } ≡ yield_of c d g = rw (yield_of, h) in
-      k ∙ ap (yield_of c d) is
+  yield_bottom w h = rw (← is, h)

@@ -1,7 +1,7 @@
 -- The smallest datom of the rules is the one that the code keeps, and taking it gives the cursor that the code writes.
 use Prim.Native.Nat.{ℕ, zero, suc, ◌<◌, Ordering}
 use Rattle.std.proofs.Common.{arith, ◌∙◌}
-use Rattle.std.specs.Prelude.{true, false, ◌≡◌, eqb, length, drop, get_or}
+use Rattle.std.specs.Prelude.{true, false, ◌≡◌, None, Some, Ok, Err, eqb, length, drop, get_or}
 use mathlib.Core.List.{List, [], ◌∷◌}
 use Rattle.std.proofs.Math.Path.{refl, ap}
 use borrow.Author.Tests.{eq-eqb, ne_eqb, le-leb}
@@ -13,13 +13,10 @@ use Rattle.index.specs.Order.{DatomOrd}
 use Rattle.rules.specs.Tree.{Fetched, at_level}
 use Rattle.rules.specs.Listing as rules
 use Rattle.rules.specs.Listing.{frames_from, opened, open_one, open_frames, Path, path, longer, after, Least, none_left, least, twice, keeping, taking, choose, least_of}
-use Rattle.listing.specs.declared.candidate.Candidate.{Candidate}
-use Rattle.listing.specs.declared.candidate.Candidate.TheVariants.{Nothing, At, Twice}
-use Rattle.listing.specs.declared.opening.Opening.TheVariants.{Open}
 use Rattle.listing.specs.WayLaws.{frames_count}
 use Rattle.listing.specs.Levels.{node_in, frame_at, open_at, opens_of}
 use Rattle.listing.specs.Opening.{open_below, OpenAt, open_top, rest_open}
-use Rattle.listing.specs.Candidate.{pick_one, pick, candidate_below}
+use Rattle.listing.specs.Candidate.{Picked, picked, picked_once, pick_one, pick, candidate_below}
 
 module _ (fetch : PageId → Fetched) (is : List ℕ) (ps : List PageId) where
   one_opened :
@@ -28,7 +25,7 @@ module _ (fetch : PageId → Fetched) (is : List ℕ) (ps : List PageId) where
   unfolding open_one at_level node_in
   one_opened l o os = rw (o.read, eq-eqb o.node.level l o.level, le-leb (get_or is l 0) (length o.node.datoms) o.most)
 
-  pub all_opened : (h : ℕ) → open_below fetch h is ps ≡ Open → open_frames fetch (frames_from h is ps) ≡ opened (opens_of fetch is ps h)
+  pub all_opened : (h : ℕ) → open_below fetch h is ps ≡ Ok tt → open_frames fetch (frames_from h is ps) ≡ opened (opens_of fetch is ps h)
   unfolding open_frames frames_from opens_of
   all_opened zero e = refl
   all_opened (suc h) e = rw (frames_count h is ps, all_opened h (rest_open fetch is ps h e)) (one_opened h (open_top fetch is ps h e) (opens_of fetch is ps h))
@@ -54,13 +51,13 @@ module _ (fetch : PageId → Fetched) (is : List ℕ) (ps : List PageId) where
       other e = omega (arith, h, e)
 
   -- what the code keeps, as the rules have it
-  unfoldable pub least_as : ℕ → Candidate → Least
-  least_as l Nothing = none_left
-  least_as l (Twice q) = twice q
-  least_as l (At m d) = least d (taken_from l m)
+  unfoldable pub least_as : ℕ → Picked → Least
+  least_as l (Ok None) = none_left
+  least_as l (Err q) = twice q
+  least_as l (Ok (Some b)) = least b.datom (taken_from l b.level)
 
-  abbrev pub Under : ℕ → Candidate → Type 0
-  Under l b = (m : ℕ) (d : Datom) → b ≡ At m d → m < l
+  abbrev pub Under : ℕ → Picked → Type 0
+  Under l b = (m : ℕ) (d : Datom) → b ≡ picked m d → m < l
 
 -- one level of the code's minimum is one level of the rules'
 module _ (t : DatomOrd) (fetch : PageId → Fetched) (is : List ℕ) (ps : List PageId) where
@@ -68,45 +65,45 @@ module _ (t : DatomOrd) (fetch : PageId → Fetched) (is : List ℕ) (ps : List 
     abbrev here : PageId
     here = get_or ps l (page 0)
 
-    kept : (m : ℕ) (d : Datom) → m < l → keeping (open_at fetch is ps l) (least d (taken_from fetch is ps l m)) ≡ least_as fetch is ps (suc l) (At m d)
+    kept : (m : ℕ) (d : Datom) → m < l → keeping (open_at fetch is ps l) (least d (taken_from fetch is ps l m)) ≡ least_as fetch is ps (suc l) (picked m d)
     unfolding least_as
     kept m d h = rw (taken_above fetch is ps l m h)
 
-    took : (x : Datom) → taking fetch (open_at fetch is ps l) (opens_of fetch is ps l) x ≡ least_as fetch is ps (suc l) (At l x)
+    took : (x : Datom) → taking fetch (open_at fetch is ps l) (opens_of fetch is ps l) x ≡ least_as fetch is ps (suc l) (picked l x)
     unfolding least_as
     took x = rw (taken_here fetch is ps l)
 
     chose_at :
         (x : Datom) (xs : List Datom) (m : ℕ) (d : Datom) → m < l → (o : Ordering) → t.cmp d x ≡ o →
-        choose fetch t.cmp (open_at fetch is ps l) (opens_of fetch is ps l) (x ∷ xs) (least d (taken_from fetch is ps l m)) ≡ least_as fetch is ps (suc l) (pick_one t l here x (At m d))
+        choose fetch t.cmp (open_at fetch is ps l) (opens_of fetch is ps l) (x ∷ xs) (least d (taken_from fetch is ps l m)) ≡ least_as fetch is ps (suc l) (pick_one t l here x (picked m d))
     unfolding choose pick_one least_as
     chose_at x xs m d h Ordering.lt e = rw (choose, pick_one, e) (kept m d h)
     chose_at x xs m d h Ordering.eq e = rw (choose, pick_one, least_as, e)
     chose_at x xs m d h Ordering.gt e = rw (choose, pick_one, e) (took x)
 
     chose :
-        (xs : List Datom) (b : Candidate) → Under fetch is ps l b →
+        (xs : List Datom) (b : Picked) → Under fetch is ps l b →
         choose fetch t.cmp (open_at fetch is ps l) (opens_of fetch is ps l) xs (least_as fetch is ps l b) ≡ least_as fetch is ps (suc l) (pick t l here xs b)
     unfolding choose pick pick_one least_as
-    chose [] Nothing u = refl
-    chose [] (Twice q) u = refl
-    chose [] (At m d) u = kept m d (u m d refl)
-    chose (x ∷ xs) Nothing u = took x
-    chose (x ∷ xs) (Twice q) u = refl
-    chose (x ∷ xs) (At m d) u = chose_at x xs m d (u m d refl) (t.cmp d x) refl
+    chose [] (Ok None) u = refl
+    chose [] (Err q) u = refl
+    chose [] (Ok (Some b)) u = kept b.level b.datom (u b.level b.datom refl)
+    chose (x ∷ xs) (Ok None) u = took x
+    chose (x ∷ xs) (Err q) u = refl
+    chose (x ∷ xs) (Ok (Some b)) u = chose_at x xs b.level b.datom (u b.level b.datom refl) (t.cmp b.datom x) refl
 
-    one_under : (m : ℕ) (y d e : Datom) → m < l → (o : Ordering) → t.cmp d y ≡ o → (k : ℕ) → pick_one t l here y (At m d) ≡ At k e → k < suc l
+    one_under : (m : ℕ) (y d e : Datom) → m < l → (o : Ordering) → t.cmp d y ≡ o → (k : ℕ) → pick_one t l here y (picked m d) ≡ picked k e → k < suc l
     unfolding pick_one
-    one_under m y d e h Ordering.lt o k p = let w : At m d ≡ At k e = rw (pick_one, o) at p in let v : m ≡ k = cc in omega (arith, h, v)
-    one_under m y d e h Ordering.eq o k p = let w : Twice here ≡ At k e = rw (pick_one, o) at p in absurd (apart (cc))
-    one_under m y d e h Ordering.gt o k p = let w : At l y ≡ At k e = rw (pick_one, o) at p in let v : l ≡ k = cc in omega (arith, v)
+    one_under m y d e h Ordering.lt o k p = let v : m ≡ k = picked_once m k d e (rw (pick_one, o) at p) in omega (arith, h, v)
+    one_under m y d e h Ordering.eq o k p = let w : Err here ≡ picked k e = rw (pick_one, o) at p in absurd (apart (cc))
+    one_under m y d e h Ordering.gt o k p = let v : l ≡ k = picked_once l k y e (rw (pick_one, o) at p) in omega (arith, v)
 
-    under_on : (xs : List Datom) (b : Candidate) → Under fetch is ps l b → Under fetch is ps (suc l) (pick t l here xs b)
+    under_on : (xs : List Datom) (b : Picked) → Under fetch is ps l b → Under fetch is ps (suc l) (pick t l here xs b)
     unfolding pick pick_one
     under_on [] b u k e p = let v : k < l = u k e p in omega (arith, v)
-    under_on (x ∷ xs) Nothing u k e p = let v : l ≡ k = cc in omega (arith, v)
-    under_on (x ∷ xs) (Twice q) u k e p = absurd (apart (cc))
-    under_on (x ∷ xs) (At m d) u k e p = one_under m x d e (u m d refl) (t.cmp d x) refl k p
+    under_on (x ∷ xs) (Ok None) u k e p = let v : l ≡ k = picked_once l k x e p in omega (arith, v)
+    under_on (x ∷ xs) (Err q) u k e p = absurd (apart (cc))
+    under_on (x ∷ xs) (Ok (Some b)) u k e p = one_under b.level x b.datom e (u b.level b.datom refl) (t.cmp b.datom x) refl k p
 
   pub candidate_under : (h : ℕ) → Under fetch is ps h (candidate_below t fetch h is ps)
   unfolding candidate_below

@@ -1,5 +1,5 @@
 -- The refusals of a start, in their order.
-use Rattle.std.specs.Prelude.{ℕ, true, false, ◌&&◌, not, List, [], ◌≡◌, refl}
+use Rattle.std.specs.Prelude.{ℕ, true, false, ◌&&◌, not, List, [], ◌≡◌, refl, Some}
 use borrow.Author.Tests.{eq-eqb}
 use Rattle.store.specs.declared.PageId.{PageId}
 use Rattle.store.specs.declared.Extent.{Extent}
@@ -13,7 +13,6 @@ use Rattle.rules.specs.Page.{node_of}
 use Rattle.rules.specs.Tree.{faulty, fine, at_level}
 use Rattle.rules.specs.Store.{bad_store, bad_root, fetch_page}
 use Rattle.rules.specs.Listing.{cursor_of, refuse_start, join_paths, start_at, start_under, start_list}
-use Rattle.listing.specs.declared.descent.Seek.TheVariants.{NotBelow}
 use Rattle.listing.specs.Descent.{test_of, down_of}
 use Rattle.memory_store.specs.Readable.{node_at}
 
@@ -35,7 +34,7 @@ module _ (t : DatomOrd) (x : Extent) (s : List ℕ) (root : PageId) (lo hi : Dat
 
     pub under_read :
         (l k : ℕ) → fetch_page t x s root ≡ fine (node_at x s root l k) →
-        join_paths (down_of t x s (test_of t (NotBelow lo)) l root) (down_of t x s (test_of t (NotBelow hi)) l root) ≡ start_under t x s root lo hi
+        join_paths (down_of t x s (test_of t (Some lo)) l root) (down_of t x s (test_of t (Some hi)) l root) ≡ start_under t x s root lo hi
     unfolding start_at at_level node_of test_of
     under_read l k e = rw (is_under, e, eq-eqb l l refl)
 

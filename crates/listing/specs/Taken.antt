@@ -3,7 +3,7 @@ use Prim.Native.Nat.{ℕ, zero, suc, ◌+◌, ◌<◌, ◌≤◌}
 use Rattle.std.proofs.Math.Decide.{dec_le}
 use Rattle.std.proofs.Common.{le_refl, arith, ap, ◌∙◌, length-set}
 use Rattle.std.proofs.Math.Numerals.{add-one}
-use Rattle.std.specs.Prelude.{Bool, true, false, List, [], ◌∷◌, map, ◌≡◌, length, set}
+use Rattle.std.specs.Prelude.{Bool, true, false, List, [], ◌∷◌, map, ◌≡◌, None, Result, Ok, Err, length, set}
 use Rattle.std.proofs.Math.Path.{refl, sym}
 use Rattle.std.proofs.lemmas.List.{length-map}
 use Rattle.std.proofs.Math.ListN.{get_or}
@@ -14,6 +14,7 @@ use Rattle.store.specs.Page.{page, none}
 use Rattle.store.specs.Laws.{apart}
 use Rattle.datom.specs.declared.Datom.{Datom}
 use Rattle.index.specs.Order.{DatomOrd}
+use Rattle.answer.specs.declared.Damage.{Damage}
 use Rattle.answer.specs.declared.Fault.{Fault}
 use Rattle.answer.specs.declared.Fault.TheVariants.{EqualDatoms, NothingLeft}
 use Rattle.answer.specs.declared.Refusal.TheVariants.{Damaged}
@@ -24,29 +25,24 @@ use Rattle.rules.specs.Tree.{Fetched}
 use Rattle.rules.specs.Store.{fetch_page}
 use Rattle.rules.specs.Listing.{Frame, frames_from, frame_of, begin_frames, Open, Opens, not_open, opened, open_frames, Path, lost_at, path, never, after, least, moved, onward, refuse_step}
 use Rattle.listing.specs.declared.way.Way.{Way}
-use Rattle.listing.specs.declared.descent.Descent.{Descent}
-use Rattle.listing.specs.declared.descent.End.TheVariants.{Bottom, Lost}
-use Rattle.listing.specs.declared.opening.Opening.TheVariants as opening
-use Rattle.listing.specs.declared.candidate.Candidate.{Candidate}
-use Rattle.listing.specs.declared.candidate.Candidate.TheVariants.{Nothing, At, Twice}
 use Rattle.listing.specs.Way.{frames_of}
 use Rattle.listing.specs.WayLaws.{Full}
 use Rattle.listing.specs.Levels.{node_in, fine_in, open_at, opens_of, opens_count}
-use Rattle.listing.specs.Descent.{fill, descent_of}
+use Rattle.listing.specs.Descent.{fill, lost, down, descent_of}
 use Rattle.listing.specs.Fill.{fill_index, fill_page, filled, long_by}
-use Rattle.listing.specs.Opening.{opening_of, open_below, OpenAt}
-use Rattle.listing.specs.Candidate.{candidate_below}
+use Rattle.listing.specs.Opening.{opening_of, damage_once, open_below, OpenAt}
+use Rattle.listing.specs.Candidate.{Picked, picked, candidate_below}
 use Rattle.listing.specs.Advance.{Within, begin_of, taken, after_at, advanced, yield_of}
 use Rattle.listing.specs.AdvanceLaws.{yield_lost, yield_bottom}
 use Rattle.listing.specs.Least.{all_opened, taken_from, taken_here, taken_above, least_as, least_is, candidate_under}
 
 -- what an advance gives beside what the rules give for the levels below m; from m on only the index of m has changed
-pub data Advances (w : Way) (m : ℕ) (a : Descent) (o : Path) : Type 0 where
-  gone : (q : PageId) (f : Fault) → a.end ≡ Lost q f → o ≡ lost_at q f → Advances w m a o
+pub data Advances (w : Way) (m : ℕ) (a : Result Way Damage) (o : Path) : Type 0 where
+  gone : (q : PageId) (f : Fault) → a ≡ lost q f → o ≡ lost_at q f → Advances w m a o
   came :
-      a.end ≡ Bottom → o ≡ path (frames_of m a.way) →
-      ((j : ℕ) → m ≤ j → get_or a.way.indices j 0 ≡ get_or (set w.indices m (get_or w.indices m 0 + 1)) j 0) →
-      ((j : ℕ) → m ≤ j → get_or a.way.pages j (page 0) ≡ get_or w.pages j (page 0)) → Advances w m a o
+      (v : Way) → a ≡ down v → o ≡ path (frames_of m v) →
+      ((j : ℕ) → m ≤ j → get_or v.indices j 0 ≡ get_or (set w.indices m (get_or w.indices m 0 + 1)) j 0) →
+      ((j : ℕ) → m ≤ j → get_or v.pages j (page 0) ≡ get_or w.pages j (page 0)) → Advances w m a o
 
 advances_down :
     (w : Way) (l : ℕ) (o : Path) → Full w → l ≤ 7 → ((fs : List Frame) → o ≡ path fs → length fs ≡ suc l) →
@@ -56,7 +52,7 @@ advances_down w l (lost_at q f) full low long = gone q f refl refl
 advances_down w l (path fs) full low long =
     let v = taken w (suc l) in
     let fv : Full v = (length-set w.indices (suc l) (get_or w.indices (suc l) 0 + 1) ∙ full.0, full.1) in
-    came refl (ap path (sym (filled l v fs low fv (long fs refl)))) (λ j h. fill_index fs l v j (omega (arith, h))) (λ j h. fill_page fs l v j (omega (arith, h)))
+    came (fill l v fs) refl (ap path (sym (filled l v fs low fv (long fs refl)))) (λ j h. fill_index fs l v j (omega (arith, h))) (λ j h. fill_page fs l v j (omega (arith, h)))
 
 -- the rules' levels below one are as many as they were
 after_long : (fetch : PageId → Fetched) (o : Open) (os : List Open) (fs : List Frame) → after fetch o os ≡ path fs → length fs ≡ length os
@@ -78,7 +74,7 @@ module _ (t : DatomOrd) (x : Extent) (s : List ℕ) (w : Way) (full : Full w) wh
 
   advances : (m : ℕ) → m ≤ 7 → Advances w m (advanced t x s w m) (after_at t x s w m)
   unfolding advanced after opens_of frames_from descent_of fill
-  advances zero low = came refl refl (λ j h. refl) (λ j h. refl)
+  advances zero low = came (taken w zero) refl refl (λ j h. refl) (λ j h. refl)
   advances (suc l) low =
       advances_down w l (after_at t x s w (suc l)) full (omega (arith, low)) λ fs e.
       after_long fetch (open_at fetch w.indices w.pages (suc l)) (opens_of fetch w.indices w.pages (suc l)) fs e
@@ -138,20 +134,20 @@ module _ (t : DatomOrd) (x : Extent) (s : List ℕ) (c : Cursor) (full : Full (b
           Advances (begin_of c) m (advanced t x s (begin_of c) m) (after_at t x s (begin_of c) m) →
           moved c (least d (taken_from (fetch_page t x s) c.begin_indices c.begin_pages c.height m)) ≡ yield_of c d (advanced t x s (begin_of c) m)
       side (gone q f e o) = rw (lost_from t x s (begin_of c) full m q f o c.height h) (yield_lost c d _ (advanced t x s (begin_of c) m) refl q f e)
-      side (came e o is ps) =
-          rw (path_from t x s (begin_of c) full m (omega (arith, h, most)) (advanced t x s (begin_of c) m).way o is ps c.height h)
-          (yield_bottom c d _ (advanced t x s (begin_of c) m) refl e)
+      side (came v e o is ps) =
+          rw (path_from t x s (begin_of c) full m (omega (arith, h, most)) v o is ps c.height h)
+          (yield_bottom c d _ (advanced t x s (begin_of c) m) refl v e)
 
 -- the answers of a step past its checks
 pub on_damaged :
-    (t : DatomOrd) (x : Extent) (s : List ℕ) (c : Cursor) (q : PageId) (f : Fault) (os : Opens) → opening.Damaged q f ≡ opening_of os →
+    (t : DatomOrd) (x : Extent) (s : List ℕ) (c : Cursor) (q : PageId) (f : Fault) (os : Opens) → Err (record { page = q; fault = f }) ≡ opening_of os →
     refuse_step c (Damaged q f) ≡ onward t.cmp (fetch_page t x s) c os
 unfolding opening_of onward
-on_damaged t x s c q f (not_open z g) e = let k : q ≡ z = cc in let u : f ≡ g = cc in rw (k, u)
+on_damaged t x s c q f (not_open z g) e = let k = damage_once q z f g e in rw (k.0, k.1)
 on_damaged t x s c q f (opened os) e = absurd (apart (cc))
 
-module _ (t : DatomOrd) (x : Extent) (s : List ℕ) (c : Cursor) (ready : open_below (fetch_page t x s) c.height c.begin_indices c.begin_pages ≡ opening.Open) where
-  abbrev candidate : Candidate
+module _ (t : DatomOrd) (x : Extent) (s : List ℕ) (c : Cursor) (ready : open_below (fetch_page t x s) c.height c.begin_indices c.begin_pages ≡ Ok tt) where
+  abbrev candidate : Picked
   candidate = candidate_below t (fetch_page t x s) c.height c.begin_indices c.begin_pages
 
   abbrev onwards : Stepped
@@ -163,18 +159,18 @@ module _ (t : DatomOrd) (x : Extent) (s : List ℕ) (c : Cursor) (ready : open_b
       rw (all_opened (fetch_page t x s) c.begin_indices c.begin_pages c.height ready)
       (ap (moved c) (least_is t (fetch_page t x s) c.begin_indices c.begin_pages c.height))
 
-  pub on_nothing : Nothing ≡ candidate → refuse_step c (Damaged none NothingLeft) ≡ onwards
+  pub on_nothing : Ok None ≡ candidate → refuse_step c (Damaged none NothingLeft) ≡ onwards
   unfolding moved least_as
   on_nothing e = rw (on_open, ← e)
 
-  pub on_twice : (q : PageId) → Twice q ≡ candidate → refuse_step c (Damaged q EqualDatoms) ≡ onwards
+  pub on_twice : (q : PageId) → Err q ≡ candidate → refuse_step c (Damaged q EqualDatoms) ≡ onwards
   unfolding moved least_as
   on_twice q e = rw (on_open, ← e)
 
-  pub on_under : (m : ℕ) (d : Datom) → At m d ≡ candidate → m < c.height
+  pub on_under : (m : ℕ) (d : Datom) → picked m d ≡ candidate → m < c.height
   on_under m d e = candidate_under t (fetch_page t x s) c.begin_indices c.begin_pages c.height m d (sym e)
 
-  pub on_at : Full (begin_of c) → c.height ≤ 8 → (m : ℕ) (d : Datom) → At m d ≡ candidate → yield_of c d (advanced t x s (begin_of c) m) ≡ onwards
+  pub on_at : Full (begin_of c) → c.height ≤ 8 → (m : ℕ) (d : Datom) → picked m d ≡ candidate → yield_of c d (advanced t x s (begin_of c) m) ≡ onwards
   unfolding least_as
   on_at full most m d e = rw (on_open, ← e) (sym (took_at t x s c full most m d (on_under m d e)))
 

@@ -8,9 +8,8 @@ ghost use Rattle.rules.specs.Listing.{cursor_of, refuse_start, join_paths, start
 ghost use Rattle.rules.specs.Calls.{start_call};
 ghost use Rattle.listing.specs.Way.{frames_of};
 ghost use Rattle.listing.specs.Descent.{test_of, down_of};
-ghost use Rattle.listing.specs.declared.descent.Seek.TheVariants.{NotBelow};
+ghost use Rattle.listing.specs.Starts.{started_as};
 
-use crate::descent::{End, Seek};
 use crate::way::Way;
 use crate::{descent, way};
 use answer::{Cursor, Refusal, Start, Started};
@@ -62,6 +61,19 @@ pub fn refused(refusal: Refusal) -> Started
     }
 }
 
+// A start by the cursor it begins with, or by its refusal.
+fn started(begun: Result<Cursor, Refusal>) -> Started
+    ensures { result ≡ started_as begun }
+{
+    match begun {
+        Ok(cursor) => Started {
+            answer: Start::Begun,
+            cursor,
+        },
+        Err(refusal) => refused(refusal),
+    }
+}
+
 // Both ways from a root of this level.
 fn start_at(
     store: &[u8],
@@ -73,46 +85,14 @@ fn start_at(
     upper: Datom,
     by: Index,
     heap: &[u8],
-) -> Started
+) -> Result<Cursor, Refusal>
     requires { (bad_store extent store.now ≡ false) × ((c ≡ capacity extent.size) × (level ≤ 7)) }
-    ensures { result ≡ join_paths (down_of (order_in by heap.now) extent store.now (test_of (order_in by heap.now) (NotBelow lower)) level root) (down_of (order_in by heap.now) extent store.now (test_of (order_in by heap.now) (NotBelow upper)) level root) }
+    ensures { started_as result ≡ join_paths (down_of (order_in by heap.now) extent store.now (test_of (order_in by heap.now) (Some lower)) level root) (down_of (order_in by heap.now) extent store.now (test_of (order_in by heap.now) (Some upper)) level root) }
 {
-    let b = descent::descend(
-        store,
-        extent,
-        c,
-        Seek::NotBelow(lower),
-        level,
-        root,
-        way::empty(),
-        by,
-        heap,
-    );
-    let begin_end = b.end;
-    let begin = b.way;
-    if let End::Lost(page, fault) = begin_end {
-        return refused(Refusal::Damaged(page, fault));
-    }
-    let e = descent::descend(
-        store,
-        extent,
-        c,
-        Seek::NotBelow(upper),
-        level,
-        root,
-        way::empty(),
-        by,
-        heap,
-    );
-    let end_end = e.end;
-    let end = e.way;
-    if let End::Lost(page, fault) = end_end {
-        return refused(Refusal::Damaged(page, fault));
-    }
-    Started {
-        answer: Start::Begun,
-        cursor: cursor_of(level + 1, begin, end),
-    }
+    let empty = way::empty();
+    let begin = descent::descend(store, extent, c, Some(lower), level, root, empty, by, heap)?;
+    let end = descent::descend(store, extent, c, Some(upper), level, root, empty, by, heap)?;
+    Ok(cursor_of(level + 1, begin, end))
 }
 
 // Whether there can be something to list: a root, and a lower bound below the upper.
@@ -135,25 +115,70 @@ fn start_under(
     upper: Datom,
     by: Index,
     heap: &[u8],
-) -> Started
+) -> Result<Cursor, Refusal>
     requires { bad_store extent store.now ≡ false }
-    ensures { result ≡ start_under (order_in by heap.now) extent store.now root lower upper }
+    ensures { started_as result ≡ start_under (order_in by heap.now) extent store.now root lower upper }
 {
     if !is_any_between(root, lower, upper, by, heap) {
-        return Started {
-            answer: Start::Begun,
-            cursor: nothing(),
-        };
+        return Ok(nothing());
     }
     let c = store::capacity_of(extent.size);
     match found::node_at(store, extent, c, root, by, heap) {
-        Err(fault) => refused(Refusal::Damaged(root, fault)),
+        Err(fault) => Err(Refusal::Damaged(root, fault)),
         Ok(header) => start_at(store, extent, c, root, header.level, lower, upper, by, heap),
     }
 }
 
-// A cursor to the datoms from the lower bound on and below the upper. Document 01: "Starting a listing checks 1, 10, 5, then the
-// bounds' order, then pages."
+// The cursor that a start begins with. Document 01: "Starting a listing checks 1, 10, 5, then the bounds' order, then pages."
+fn begun_in(
+    store: &[u8],
+    extent: Extent,
+    root: PageId,
+    lower: Datom,
+    upper: Datom,
+    by: Index,
+    heap: &[u8],
+) -> Result<Cursor, Refusal>
+    ensures { started_as result ≡ start_list (order_in by heap.now) extent store.now root lower upper }
+{
+    if memory_store::is_bad(store, extent) {
+        return Err(Refusal::BadStore);
+    }
+    if !lower.is_bound(heap) {
+        return Err(Refusal::BadBound);
+    }
+    if !upper.is_bound(heap) {
+        return Err(Refusal::BadBound);
+    }
+    if memory_store::is_bad_root(extent, root) {
+        return Err(Refusal::NoPage);
+    }
+    start_under(store, extent, root, lower, upper, by, heap)
+}
+
+// As begun_in, in the order that the record names.
+fn begun(
+    store: &[u8],
+    recorded: StoreRecord,
+    root: PageId,
+    lower: Datom,
+    upper: Datom,
+    heap: &[u8],
+) -> Result<Cursor, Refusal>
+    ensures { started_as result ≡ start_call recorded store.now heap.now root lower upper }
+{
+    let extent = recorded.extent();
+    let bad = memory_store::is_bad(store, extent);
+    match ordered::order_in(recorded, bad, heap) {
+        Ordered::Refused(refusal) => Err(refusal),
+        Ordered::By(by) => {
+            let used = heap::used_of(heap, recorded.heap);
+            begun_in(store, extent, root, lower, upper, by, used)
+        }
+    }
+}
+
+// A cursor to the datoms from the lower bound on and below the upper.
 pub fn start_in(
     store: &[u8],
     extent: Extent,
@@ -165,19 +190,7 @@ pub fn start_in(
 ) -> Started
     ensures { result ≡ start_list (order_in by heap.now) extent store.now root lower upper }
 {
-    if memory_store::is_bad(store, extent) {
-        return refused(Refusal::BadStore);
-    }
-    if !lower.is_bound(heap) {
-        return refused(Refusal::BadBound);
-    }
-    if !upper.is_bound(heap) {
-        return refused(Refusal::BadBound);
-    }
-    if memory_store::is_bad_root(extent, root) {
-        return refused(Refusal::NoPage);
-    }
-    start_under(store, extent, root, lower, upper, by, heap)
+    started(begun_in(store, extent, root, lower, upper, by, heap))
 }
 
 // A listing from the lower bound up to the upper.
@@ -191,13 +204,5 @@ pub fn start(
 ) -> Started
     ensures { result ≡ start_call recorded store.now heap.now root lower upper }
 {
-    let extent = recorded.extent();
-    let bad = memory_store::is_bad(store, extent);
-    match ordered::order_in(recorded, bad, heap) {
-        Ordered::Refused(refusal) => refused(refusal),
-        Ordered::By(by) => {
-            let used = heap::used_of(heap, recorded.heap);
-            start_in(store, extent, root, lower, upper, by, used)
-        }
-    }
+    started(begun(store, recorded, root, lower, upper, heap))
 }

@@ -5,7 +5,6 @@ ghost use Rattle.index.specs.Order.{order_in};
 ghost use Rattle.rules.specs.Tree.{fine};
 ghost use Rattle.rules.specs.Store.{bad_store, fetch_page};
 ghost use Rattle.rules.specs.Listing.{begin_frames, open_frames};
-ghost use Rattle.listing.specs.declared.opening.Opening.TheVariants.{Open};
 ghost use Rattle.listing.specs.Levels.{node_in};
 ghost use Rattle.listing.specs.Opening.{opening_of};
 ghost use Rattle.listing.specs.Candidate.{pick_one, pick, candidate_below};
@@ -16,33 +15,32 @@ use index::{Index, Order};
 use memory_store::access;
 use store::{Extent, PageId};
 
-// No datom so far, the smallest one and its level, or the page of the higher level of an equal pair.
+// A datom, and the level that it is of.
 #[derive(Clone, Copy)]
-pub enum Candidate {
-    Nothing,
-    At { level: usize, datom: Datom },
-    Twice(PageId),
+pub struct Candidate {
+    pub level: usize,
+    pub datom: Datom,
 }
 
-// The datom x of a level against the smallest of the levels below.
+// The datom x of a level against the smallest of the levels below, if there is one so far. An equal pair is answered by the page of the
+// higher level.
 fn against(
     level: usize,
     page: PageId,
     x: Datom,
-    best: Candidate,
+    best: Option<Candidate>,
     by: Index,
     heap: &[u8],
-) -> Candidate
-    ensures { result ≡ pick_one (order_in by heap.now) level page x best }
+) -> Result<Option<Candidate>, PageId>
+    ensures { result ≡ pick_one (order_in by heap.now) level page x (Ok best) }
 {
-    match best {
-        Candidate::Nothing => Candidate::At { level, datom: x },
-        Candidate::Twice(q) => Candidate::Twice(q),
-        Candidate::At { level: m, datom: d } => match index::order_of(d, x, by, heap) {
-            Order::Less => Candidate::At { level: m, datom: d },
-            Order::Equal => Candidate::Twice(page),
-            Order::Greater => Candidate::At { level, datom: x },
-        },
+    let Some(smallest) = best else {
+        return Ok(Some(Candidate { level, datom: x }));
+    };
+    match index::order_of(smallest.datom, x, by, heap) {
+        Order::Less => Ok(best),
+        Order::Equal => Err(page),
+        Order::Greater => Ok(Some(Candidate { level, datom: x })),
     }
 }
 
@@ -54,16 +52,16 @@ fn chosen(
     level: usize,
     page: PageId,
     index: u64,
-    best: Candidate,
+    best: Option<Candidate>,
     by: Index,
     heap: &[u8],
-) -> Candidate
+) -> Result<Option<Candidate>, PageId>
     requires { (bad_store extent store.now ≡ false) × ((c ≡ capacity extent.size) × (fetch_page (order_in by heap.now) extent store.now page ≡ fine (node_in (fetch_page (order_in by heap.now) extent store.now page)))) }
-    ensures { result ≡ pick (order_in by heap.now) level page (drop index (node_in (fetch_page (order_in by heap.now) extent store.now page)).datoms) best }
+    ensures { result ≡ pick (order_in by heap.now) level page (drop index (node_in (fetch_page (order_in by heap.now) extent store.now page)).datoms) (Ok best) }
 {
     let part = memory_store::fetch(store, extent, page);
     if access::count_of(part, c) as u64 <= index {
-        return best;
+        return Ok(best);
     }
     against(
         level,
@@ -83,18 +81,15 @@ pub fn smallest(
     cursor: Cursor,
     by: Index,
     heap: &[u8],
-) -> Candidate
-    requires { (bad_store extent store.now ≡ false) × ((c ≡ capacity extent.size) × ((cursor.height ≤ 8) × (opening_of (open_frames (fetch_page (order_in by heap.now) extent store.now) (begin_frames cursor)) ≡ Open))) }
+) -> Result<Option<Candidate>, PageId>
+    requires { (bad_store extent store.now ≡ false) × ((c ≡ capacity extent.size) × ((cursor.height ≤ 8) × (opening_of (open_frames (fetch_page (order_in by heap.now) extent store.now) (begin_frames cursor)) ≡ Ok tt))) }
     ensures { result ≡ candidate_below (order_in by heap.now) (fetch_page (order_in by heap.now) extent store.now) cursor.height cursor.begin_indices cursor.begin_pages }
 {
-    let height = cursor.height as usize;
-    let mut best = Candidate::Nothing;
-    let mut level = 0;
-    while level < height {
+    let mut best = None;
+    for level in 0..cursor.height as usize {
         let index = cursor.begin_indices[level];
         let page = cursor.begin_pages[level];
-        best = chosen(store, extent, c, level, page, index, best, by, heap);
-        level += 1;
+        best = chosen(store, extent, c, level, page, index, best, by, heap)?;
     }
-    best
+    Ok(best)
 }

@@ -7,24 +7,10 @@ ghost use Rattle.rules.specs.Store.{bad_store, fetch_page};
 ghost use Rattle.rules.specs.Listing.{begin_frames, open_frames};
 ghost use Rattle.listing.specs.Opening.{open_of, opening_of};
 
-use answer::{Cursor, Fault};
+use answer::{Cursor, Damage, Fault};
 use index::Index;
 use memory_store::found;
 use store::{Extent, PageId};
-
-// Whether all pages are open, or the first that is not and what is wrong with it.
-#[derive(Clone, Copy)]
-pub enum Opening {
-    Open,
-    Damaged(PageId, Fault),
-}
-
-// Whether one page is open, or what is wrong with it.
-#[derive(Clone, Copy)]
-enum PageOpening {
-    Open,
-    Shut(Fault),
-}
 
 // One page, which is to be of this level and to have no fewer datoms than the index.
 fn open_one(
@@ -36,19 +22,15 @@ fn open_one(
     page: PageId,
     by: Index,
     heap: &[u8],
-) -> PageOpening
+) -> Result<(), Fault>
     requires { (bad_store extent store.now ≡ false) × (c ≡ capacity extent.size) }
     ensures { result ≡ open_of index (at_level level (fetch_page (order_in by heap.now) extent store.now page)) }
 {
-    match found::open_at(store, extent, c, level, page, by, heap) {
-        Err(fault) => PageOpening::Shut(fault),
-        Ok(k) => {
-            if index <= k as u64 {
-                return PageOpening::Open;
-            }
-            PageOpening::Shut(Fault::PastCount)
-        }
+    let k = found::open_at(store, extent, c, level, page, by, heap)?;
+    if index <= k as u64 {
+        return Ok(());
     }
+    Err(Fault::PastCount)
 }
 
 // The first page from the top that is not open.
@@ -59,18 +41,17 @@ pub fn open_all(
     cursor: Cursor,
     by: Index,
     heap: &[u8],
-) -> Opening
+) -> Result<(), Damage>
     requires { (bad_store extent store.now ≡ false) × ((c ≡ capacity extent.size) × (cursor.height ≤ 8)) }
     ensures { result ≡ opening_of (open_frames (fetch_page (order_in by heap.now) extent store.now) (begin_frames cursor)) }
 {
-    let mut level = cursor.height as usize;
-    while 0 < level {
-        level -= 1;
+    let height = cursor.height as usize;
+    for level in (0..height).rev() {
         let page = cursor.begin_pages[level];
         let index = cursor.begin_indices[level];
-        if let PageOpening::Shut(fault) = open_one(store, extent, c, level, index, page, by, heap) {
-            return Opening::Damaged(page, fault);
+        if let Err(fault) = open_one(store, extent, c, level, index, page, by, heap) {
+            return Err(Damage { page, fault });
         }
     }
-    Opening::Open
+    Ok(())
 }

@@ -30,9 +30,8 @@ pub fn is_at_end(cursor: Cursor) -> bool
     requires { cursor.height ≤ 8 }
     ensures { result ≡ same_indices (begin_frames cursor) (end_frames cursor) }
 {
-    let mut level = cursor.height as usize;
-    while 0 < level {
-        level -= 1;
+    let height = cursor.height as usize;
+    for level in (0..height).rev() {
         if cursor.begin_indices[level] != cursor.end_indices[level] {
             return false;
         }
@@ -46,11 +45,7 @@ pub fn only_used(way: Way, height: usize) -> Way
     ensures { result ≡ way_of (frames_of height way) }
 {
     let mut kept = way;
-    let mut level = height;
-    while level < LEVELS {
-        kept.indices[level] = 0;
-        kept.pages[level] = PageId(0);
-        level += 1;
-    }
+    kept.indices[height..].fill(0);
+    kept.pages[height..].fill(PageId(0));
     kept
 }

@@ -1,35 +1,41 @@
 -- `start_at` meets its contract: a way that is lost refuses the start, the lower first. Assumes nothing.
-use Rattle.index.specs.Order.{order_in}
-use Rattle.listing.specs.Starts.{was_lost, came_down, full_of, upper_lost, both_down}
-use Rattle.listing.specs.Fill.{down_long}
-use Rattle.listing.specs.Descent.{test_of, down_of}
-use Rattle.listing.specs.declared.descent.Seek.TheVariants.{NotBelow}
-use mathlib.Core.Path.{◌∙◌}
+use borrow.Author.Rules.{rules}
+use mathlib.Core.Path.{◌≡◌, ap, ◌∙◌}
 use native.Mathlib.Omega.{arith}
+use Rattle.std.specs.Prelude.{Some, Err}
+use Rattle.answer.specs.Damage.{damaged}
+use Rattle.index.specs.Order.{order_in}
+use Rattle.listing.specs.Descent.{test_of, down_of}
+use Rattle.listing.specs.Fill.{down_long}
+use Rattle.listing.specs.Starts.{started_as, was_lost, came_down, full_of, upper_lost, both_down}
 use Rattle.listing.proofs.begin.start_at.Goals as goal
 
-pub descend-b-requires : goal.descend-b-requires
-descend-b-requires c = c.requires
+pub descend-requires : goal.descend-requires
+descend-requires c = c.requires
 
-pub returns-in-Lost : goal.returns-in-Lost
-returns-in-Lost c =
+pub returns-in_err-begin : goal.returns-in_err-begin
+returns-in_err-begin c =
     let a = c.args in
-    let lower = down_of (order_in a.by a.heap.now) a.extent a.store.now (test_of (order_in a.by a.heap.now) (NotBelow a.lower)) a.level a.root in
-    let upper = down_of (order_in a.by a.heap.now) a.extent a.store.now (test_of (order_in a.by a.heap.now) (NotBelow a.upper)) a.level a.root in
-    c.refused.ensures ∙ was_lost a.level _ c.descend-b.result _ _ lower c.descend-b.ensures c.in-Lost.is upper
+    let lower = down_of (order_in a.by a.heap.now) a.extent a.store.now (test_of (order_in a.by a.heap.now) (Some a.lower)) a.level a.root in
+    let upper = down_of (order_in a.by a.heap.now) a.extent a.store.now (test_of (order_in a.by a.heap.now) (Some a.upper)) a.level a.root in
+    let d = c.in_err-begin.field-0.0 in
+    let k : c.from_residual.result ≡ Err (damaged d) = search rules in
+    ap started_as k ∙ was_lost a.level _ c.descend.result d.page d.fault lower c.descend.ensures c.in_err-begin.was upper
 
-pub descend-e-requires : goal.descend-e-requires
-descend-e-requires c = c.requires
+pub descend-requires-2 : goal.descend-requires-2
+descend-requires-2 c = c.requires
 
-pub returns-in-Lost-end_end : goal.returns-in-Lost-end_end
-returns-in-Lost-end_end c =
+pub returns-in_err-end : goal.returns-in_err-end
+returns-in_err-end c =
     let pre = c.requires in
     let a = c.args in
-    let lower = down_of (order_in a.by a.heap.now) a.extent a.store.now (test_of (order_in a.by a.heap.now) (NotBelow a.lower)) a.level a.root in
-    let upper = down_of (order_in a.by a.heap.now) a.extent a.store.now (test_of (order_in a.by a.heap.now) (NotBelow a.upper)) a.level a.root in
-    let D = came_down a.level _ c.descend-b.result lower c.descend-b.ensures c.in_default.is pre.1.1 (full_of _ c.empty.ensures)
-    (down_long (order_in a.by a.heap.now) a.extent a.store.now (test_of (order_in a.by a.heap.now) (NotBelow a.lower)) a.level a.root) in
-    c.refused-in-Lost-end_end.ensures ∙ upper_lost a.level _ _ c.descend-b.result c.descend-e.result lower upper D _ _ c.descend-e.ensures c.in-Lost-end_end.is
+    let lower = down_of (order_in a.by a.heap.now) a.extent a.store.now (test_of (order_in a.by a.heap.now) (Some a.lower)) a.level a.root in
+    let upper = down_of (order_in a.by a.heap.now) a.extent a.store.now (test_of (order_in a.by a.heap.now) (Some a.upper)) a.level a.root in
+    let D = came_down a.level _ c.descend.result c.in_ok-begin.begin lower c.descend.ensures c.in_ok-begin.was pre.1.1 (full_of _ c.empty-empty.ensures)
+    (down_long (order_in a.by a.heap.now) a.extent a.store.now (test_of (order_in a.by a.heap.now) (Some a.lower)) a.level a.root) in
+    let d = c.in_err-end.field-0.0 in
+    let k : c.from_residual-in_err-end.result ≡ Err (damaged d) = search rules in
+    ap started_as k ∙ upper_lost a.level _ _ c.descend.result c.descend-2.result _ lower upper D d.page d.fault c.descend-2.ensures c.in_err-end.was
 
 pub cursor_of-requires : goal.cursor_of-requires
 cursor_of-requires c = let p = c.requires.1.1 in omega (arith, p)
@@ -38,11 +44,10 @@ pub returns : goal.returns
 returns c =
     let pre = c.requires in
     let a = c.args in
-    let lower = down_of (order_in a.by a.heap.now) a.extent a.store.now (test_of (order_in a.by a.heap.now) (NotBelow a.lower)) a.level a.root in
-    let upper = down_of (order_in a.by a.heap.now) a.extent a.store.now (test_of (order_in a.by a.heap.now) (NotBelow a.upper)) a.level a.root in
-    let D = came_down a.level _ c.descend-b.result lower c.descend-b.ensures c.in_default.is pre.1.1 (full_of _ c.empty.ensures)
-    (down_long (order_in a.by a.heap.now) a.extent a.store.now (test_of (order_in a.by a.heap.now) (NotBelow a.lower)) a.level a.root) in
-    let G = came_down a.level _ c.descend-e.result upper c.descend-e.ensures c.in_default-end_end.is pre.1.1
-    (full_of _ c.empty-2.ensures)
-    (down_long (order_in a.by a.heap.now) a.extent a.store.now (test_of (order_in a.by a.heap.now) (NotBelow a.upper)) a.level a.root) in
-    rw c.cursor_of.ensures (both_down a.level _ _ c.descend-b.result c.descend-e.result lower upper D G)
+    let lower = down_of (order_in a.by a.heap.now) a.extent a.store.now (test_of (order_in a.by a.heap.now) (Some a.lower)) a.level a.root in
+    let upper = down_of (order_in a.by a.heap.now) a.extent a.store.now (test_of (order_in a.by a.heap.now) (Some a.upper)) a.level a.root in
+    let D = came_down a.level _ c.descend.result c.in_ok-begin.begin lower c.descend.ensures c.in_ok-begin.was pre.1.1 (full_of _ c.empty-empty.ensures)
+    (down_long (order_in a.by a.heap.now) a.extent a.store.now (test_of (order_in a.by a.heap.now) (Some a.lower)) a.level a.root) in
+    let G = came_down a.level _ c.descend-2.result c.in_ok-end.end upper c.descend-2.ensures c.in_ok-end.was pre.1.1 (full_of _ c.empty-empty.ensures)
+    (down_long (order_in a.by a.heap.now) a.extent a.store.now (test_of (order_in a.by a.heap.now) (Some a.upper)) a.level a.root) in
+    rw c.cursor_of.ensures (both_down a.level _ _ c.descend.result c.descend-2.result _ lower upper D _ G)

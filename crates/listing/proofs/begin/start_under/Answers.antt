@@ -23,7 +23,7 @@ pub returns-in-Err : goal.returns-in-Err
 returns-in-Err c =
     let a = c.args in
     let e = told_faulty (order_in a.by a.heap.now) a.extent a.store.now a.root _ c.in-Err.ensures in
-    c.refused.ensures ∙ under_damaged (order_in a.by a.heap.now) a.extent a.store.now a.root a.lower a.upper
+    under_damaged (order_in a.by a.heap.now) a.extent a.store.now a.root a.lower a.upper
     (sym c.is_any_between.ensures ∙ c.if-not-is_any_between.false) _ e
 
 pub returns-in-Ok : goal.returns-in-Ok

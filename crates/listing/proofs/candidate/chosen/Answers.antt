@@ -1,6 +1,7 @@
 -- `chosen` meets its contract: the count is the one in the page's header. Assumes nothing.
 use native.Mathlib.Omega.{arith}
 use mathlib.Core.Path.{◌∙◌}
+use Rattle.std.specs.Prelude.{Ok}
 use Rattle.index.specs.Order.{order_in}
 use Rattle.memory_store.specs.Readable.{opens}
 use Rattle.memory_store.specs.FetchLaws.{in_order}
@@ -20,7 +21,7 @@ returns-then-count_of-index c =
     let pre = c.requires in
     let e = read_node (order_in a.by a.heap.now) a.extent a.store.now a.page _ pre.1.1 in
     let o = opens (order_in a.by a.heap.now) a.extent a.store.now a.page _ _ pre.0 e in
-    pick_past (order_in a.by a.heap.now) a.extent a.store.now a.page _ _ e a.level a.index a.best (rw (c.count_of.ensures, c.fetch-part.ensures, o.bytes, pre.1.0) at c.if-count_of-index.true)
+    pick_past (order_in a.by a.heap.now) a.extent a.store.now a.page _ _ e a.level a.index (Ok a.best) (rw (c.count_of.ensures, c.fetch-part.ensures, o.bytes, pre.1.0) at c.if-count_of-index.true)
 
 pub overflow_mul-index : goal.overflow_mul-index
 overflow_mul-index c =
@@ -46,4 +47,4 @@ returns c =
     let o = opens (order_in a.by a.heap.now) a.extent a.store.now a.page _ _ pre.0 e in
     let lt = rw (c.count_of.ensures, c.fetch-part.ensures, o.bytes, pre.1.0) at c.if-count_of-index.false in
     c.against.ensures ∙ rw (c.datom_at.ensures, c.fetch-part.ensures, o.bytes)
-    (pick_at (order_in a.by a.heap.now) a.extent a.store.now a.page _ _ e a.level a.index a.best lt)
+    (pick_at (order_in a.by a.heap.now) a.extent a.store.now a.page _ _ e a.level a.index (Ok a.best) lt)

@@ -5,9 +5,9 @@ use mathlib.Core.Path.{◌∙◌}
 use Rattle.datom.specs.Datom.{datoms_of}
 use Rattle.listing.proofs.descent.index_in.Goals as goal
 
-pub returns-in-First : goal.returns-in-First
-returns-in-First c = let a = c.args in index_first (order_in a.by a.heap.now) a.seek (datoms_of a.k a.part.now) c.in-First.is
+pub returns-in-None : goal.returns-in-None
+returns-in-None c = let a = c.args in index_first (order_in a.by a.heap.now) a.seek (datoms_of a.k a.part.now) c.in-None.is
 
-pub returns-in-NotBelow : goal.returns-in-NotBelow
-returns-in-NotBelow c = let a = c.args in
-    c.first_not_below.ensures ∙ index_bound (order_in a.by a.heap.now) a.seek (datoms_of a.k a.part.now) _ c.in-NotBelow.is
+pub returns-in-Some : goal.returns-in-Some
+returns-in-Some c = let a = c.args in
+    c.first_not_below.ensures ∙ index_bound (order_in a.by a.heap.now) a.seek (datoms_of a.k a.part.now) _ c.in-Some.is

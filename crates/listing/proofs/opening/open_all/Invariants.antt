@@ -1,4 +1,3 @@
-use Prim.Native.Nat.{◌≤◌}
 use mathlib.Core.Path.{◌≡◌}
 use Rattle.index.specs.Order.{order_in}
 use Rattle.rules.specs.Store.{fetch_page}
@@ -7,9 +6,5 @@ use Rattle.listing.proofs.opening.open_all.Given as goal
 
 abbrev pub invariant-loop-level : goal.invariant-loop-level
 invariant-loop-level l =
-    (l.level ≤ 8)
-    × (open_below (fetch_page (order_in l.by l.heap) l.extent l.store) l.level l.cursor.begin_indices l.cursor.begin_pages
-    ≡ open_below (fetch_page (order_in l.by l.heap) l.extent l.store) l.initial.level l.cursor.begin_indices l.cursor.begin_pages)
-
-abbrev pub decreases-loop-level : goal.decreases-loop-level
-decreases-loop-level l = l.level
+    open_below (fetch_page (order_in l.by l.heap) l.extent l.store) l.level l.cursor.begin_indices l.cursor.begin_pages
+    ≡ open_below (fetch_page (order_in l.by l.heap) l.extent l.store) l.initial.level l.cursor.begin_indices l.cursor.begin_pages

@@ -1,4 +1,7 @@
 -- `open_one` meets its contract: by what the page is opened as at the level asked for. Assumes nothing.
+use borrow.Author.Rules.{rules}
+use mathlib.Core.Path.{◌≡◌, ◌∙◌}
+use Rattle.std.specs.Prelude.{Err}
 use Rattle.index.specs.Order.{order_in}
 use Rattle.listing.specs.Opening.{open_lost, open_within, open_past}
 use Rattle.listing.proofs.opening.open_one.Goals as goal
@@ -6,14 +9,15 @@ use Rattle.listing.proofs.opening.open_one.Goals as goal
 pub returns-then-index-k : goal.returns-then-index-k
 returns-then-index-k c =
     let a = c.args in
-    open_within (order_in a.by a.heap.now) a.extent a.store.now a.page a.index a.level _ c.in-Ok.ensures c.if-index-k.true
+    open_within (order_in a.by a.heap.now) a.extent a.store.now a.page a.index a.level _ c.in_ok-k.ensures c.if-index-k.true
 
-pub returns-in-Err : goal.returns-in-Err
-returns-in-Err c =
+pub returns-in_err-k : goal.returns-in_err-k
+returns-in_err-k c =
     let a = c.args in
-    open_lost (order_in a.by a.heap.now) a.extent a.store.now a.page a.index a.level _ c.in-Err.ensures
+    let k : c.from_residual.result ≡ Err c.in_err-k.field-0.0 = search rules in
+    k ∙ open_lost (order_in a.by a.heap.now) a.extent a.store.now a.page a.index a.level _ c.in_err-k.ensures
 
-pub returns-else-index-k : goal.returns-else-index-k
-returns-else-index-k c =
+pub returns : goal.returns
+returns c =
     let a = c.args in
-    open_past (order_in a.by a.heap.now) a.extent a.store.now a.page a.index a.level _ c.in-Ok.ensures c.if-index-k.false
+    open_past (order_in a.by a.heap.now) a.extent a.store.now a.page a.index a.level _ c.in_ok-k.ensures c.if-index-k.false

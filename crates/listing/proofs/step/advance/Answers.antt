@@ -92,8 +92,7 @@ returns-in_default c =
     let mid = rw (c.count_of-count.ensures, c.fetch-part.ensures, o.bytes, c.requires.1.0) at c.is_midpoint_at.ensures in
     let next = rw (c.count_of-count.ensures, c.fetch-part.ensures, o.bytes, c.requires.1.0, ← kids) at c.next_midpoint.ensures in
     let word = c.well_formed.1.0 in
-    c.lost_at.ensures
-    ∙ rw c.max.ensures (adv_stuck (order_in a.by a.heap.now) a.extent a.store.now b a.level c.if-level-eq0.false (ap (λ ks. is_midpoint ks (get_or b.indices a.level 0)) kids ∙ sym mid ∙ c.if-not-is_midpoint_at.false) (omega (arith, word)) (sym next ∙ c.in_default.is))
+    rw c.max.ensures (adv_stuck (order_in a.by a.heap.now) a.extent a.store.now b a.level c.if-level-eq0.false (ap (λ ks. is_midpoint ks (get_or b.indices a.level 0)) kids ∙ sym mid ∙ c.if-not-is_midpoint_at.false) (omega (arith, word)) (sym next ∙ c.in_default.is))
 
 pub descend-requires : goal.descend-requires
 descend-requires c =

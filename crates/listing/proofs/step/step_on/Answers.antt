@@ -1,13 +1,15 @@
 -- `step_on` meets its contract: the smallest datom under the indices, by the rules. Assumes nothing.
 use native.Mathlib.Omega.{arith}
-use mathlib.Core.Path.{◌≡◌, sym, ◌∙◌}
+use mathlib.Core.Path.{◌≡◌, sym, ap, ◌∙◌}
+use Rattle.std.specs.Prelude.{Ok, Err}
+use Rattle.answer.specs.Damage.{damaged}
 use lib.ListN.{length}
 use Rattle.index.specs.Order.{order_in}
 use Rattle.rules.specs.Store.{fetch_page}
 use Rattle.rules.specs.Listing.{begin_frames, open_frames}
 use Rattle.listing.specs.WayLaws.{Full}
 use Rattle.listing.specs.Opening.{open_at}
-use Rattle.listing.specs.Advance.{begin_of}
+use Rattle.listing.specs.Advance.{begin_of, yielded_as}
 use Rattle.listing.specs.Taken.{on_damaged, on_nothing, on_twice, on_under, on_at, within_of}
 use borrow.Author.Rules.{rules}
 use Rattle.listing.proofs.step.step_on.Goals as goal
@@ -15,49 +17,53 @@ use Rattle.listing.proofs.step.step_on.Goals as goal
 pub open_all-requires : goal.open_all-requires
 open_all-requires c = (c.requires.0, (c.capacity_of-c.ensures, c.requires.1))
 
-pub returns-in-Damaged : goal.returns-in-Damaged
-returns-in-Damaged c =
+pub returns-in_err-open_all : goal.returns-in_err-open_all
+returns-in_err-open_all c =
     let a = c.args in
     let u = a.cursor in
-    c.refused.ensures
-    ∙ on_damaged (order_in a.by a.heap.now) a.extent a.store.now u _ _ (open_frames (fetch_page (order_in a.by a.heap.now) a.extent a.store.now) (begin_frames u))
-    (sym c.in-Damaged.is ∙ c.open_all.ensures)
+    let d = c.in_err-open_all.field-0.0 in
+    let k : c.from_residual.result ≡ Err (damaged d) = search rules in
+    ap (yielded_as u) k
+    ∙ on_damaged (order_in a.by a.heap.now) a.extent a.store.now u d.page d.fault (open_frames (fetch_page (order_in a.by a.heap.now) a.extent a.store.now) (begin_frames u))
+    (sym c.in_err-open_all.was ∙ c.open_all.ensures)
 
 pub smallest-requires : goal.smallest-requires
 smallest-requires c =
     let pre = c.requires in
-    (pre.0, (c.capacity_of-c.ensures, (pre.1, sym c.open_all.ensures ∙ c.in_default.is)))
+    (pre.0, (c.capacity_of-c.ensures, (pre.1, sym c.open_all.ensures ∙ c.in_ok-open_all.was)))
 
 pub yield_at-requires : goal.yield_at-requires
 yield_at-requires c =
     let pre = c.requires in
     let a = c.args in
     let u = a.cursor in
-    let ready = sym c.open_all.ensures ∙ c.in_default.is in
-    let lt = on_under (order_in a.by a.heap.now) a.extent a.store.now u ready c.in-At.level c.in-At.datom (sym c.in-At.is ∙ c.smallest.ensures) in
-    let o = open_at (fetch_page (order_in a.by a.heap.now) a.extent a.store.now) u.begin_indices u.begin_pages u.height c.in-At.level ready lt in
+    let ready = sym c.open_all.ensures ∙ c.in_ok-open_all.was in
+    let b = c.in-Ok-Some.best in
+    let lt = on_under (order_in a.by a.heap.now) a.extent a.store.now u ready b.level b.datom (sym (c.in-Ok-Some.is ∙ ap Ok c.in-Ok-Some.field-0-is) ∙ c.smallest.ensures) in
+    let o = open_at (fetch_page (order_in a.by a.heap.now) a.extent a.store.now) u.begin_indices u.begin_pages u.height b.level ready lt in
     (pre.0, (c.capacity_of-c.ensures, (pre.1, (omega (arith, lt, pre.1), within_of _ _ _ o))))
 
-pub returns-in-Nothing : goal.returns-in-Nothing
-returns-in-Nothing c =
+pub returns-in-Err : goal.returns-in-Err
+returns-in-Err c = let a = c.args in
+    let u = a.cursor in
+    let ready = sym c.open_all.ensures ∙ c.in_ok-open_all.was in
+    on_twice (order_in a.by a.heap.now) a.extent a.store.now u ready _ (sym c.in-Err.is ∙ c.smallest.ensures)
+
+pub returns-in-Ok-None : goal.returns-in-Ok-None
+returns-in-Ok-None c =
     let a = c.args in
     let u = a.cursor in
-    let ready = sym c.open_all.ensures ∙ c.in_default.is in
-    c.refused-in-Nothing.ensures ∙ rw c.max.ensures (on_nothing (order_in a.by a.heap.now) a.extent a.store.now u ready (sym c.in-Nothing.is ∙ c.smallest.ensures))
+    let ready = sym c.open_all.ensures ∙ c.in_ok-open_all.was in
+    rw c.max.ensures (on_nothing (order_in a.by a.heap.now) a.extent a.store.now u ready (sym (c.in-Ok-None.is ∙ ap Ok c.in-Ok-None.field-0-is) ∙ c.smallest.ensures))
 
-pub returns-in-Twice : goal.returns-in-Twice
-returns-in-Twice c = let a = c.args in
-    let u = a.cursor in
-    let ready = sym c.open_all.ensures ∙ c.in_default.is in
-    c.refused-in-Twice.ensures ∙ on_twice (order_in a.by a.heap.now) a.extent a.store.now u ready _ (sym c.in-Twice.is ∙ c.smallest.ensures)
-
-pub returns-in-At : goal.returns-in-At
-returns-in-At c =
+pub returns-in-Ok-Some : goal.returns-in-Ok-Some
+returns-in-Ok-Some c =
     let pre = c.requires in
     let a = c.args in
     let u = a.cursor in
-    let ready = sym c.open_all.ensures ∙ c.in_default.is in
+    let ready = sym c.open_all.ensures ∙ c.in_ok-open_all.was in
     let is : length u.begin_indices ≡ 8 = search rules in
     let ps : length u.begin_pages ≡ 8 = search rules in
     let full : Full (begin_of u) = (is, ps) in
-    c.yield_at.ensures ∙ on_at (order_in a.by a.heap.now) a.extent a.store.now u ready full pre.1 c.in-At.level c.in-At.datom (sym c.in-At.is ∙ c.smallest.ensures)
+    let b = c.in-Ok-Some.best in
+    c.yield_at.ensures ∙ on_at (order_in a.by a.heap.now) a.extent a.store.now u ready full pre.1 b.level b.datom (sym (c.in-Ok-Some.is ∙ ap Ok c.in-Ok-Some.field-0-is) ∙ c.smallest.ensures)

@@ -1,17 +1,23 @@
 -- `yield_at` meets its contract: a page that is lost while the cursor advances refuses the step. Assumes nothing.
-use mathlib.Core.Path.{◌∙◌}
+use borrow.Author.Rules.{rules}
+use mathlib.Core.Path.{◌≡◌, ap, ◌∙◌}
+use Rattle.std.specs.Prelude.{Err}
+use Rattle.answer.specs.Damage.{damaged}
+use Rattle.listing.specs.Advance.{yielded_as}
 use Rattle.listing.specs.AdvanceLaws.{yield_lost, yield_bottom}
 use Rattle.listing.proofs.step.yield_at.Goals as goal
 
-pub advance-d-requires : goal.advance-d-requires
-advance-d-requires c =
+pub advance-requires : goal.advance-requires
+advance-requires c =
     let pre = c.requires in
     (pre.0, (pre.1.0, (pre.1.1.1.0, pre.1.1.1.1)))
 
-pub returns-in-Lost : goal.returns-in-Lost
-returns-in-Lost c =
+pub returns-in_err-next : goal.returns-in_err-next
+returns-in_err-next c =
     let a = c.args in
-    c.refused.ensures ∙ yield_lost a.cursor a.datom c.advance-d.result _ c.advance-d.ensures _ _ c.in-Lost.is
+    let d = c.in_err-next.field-0.0 in
+    let k : c.from_residual.result ≡ Err (damaged d) = search rules in
+    ap (yielded_as a.cursor) k ∙ yield_lost a.cursor a.datom c.advance.result _ c.advance.ensures d.page d.fault c.in_err-next.was
 
 pub cursor_of-requires : goal.cursor_of-requires
 cursor_of-requires c = c.requires.1.1.0
@@ -19,4 +25,4 @@ cursor_of-requires c = c.requires.1.1.0
 pub returns : goal.returns
 returns c =
     let a = c.args in
-    rw c.cursor_of.ensures (yield_bottom a.cursor a.datom c.advance-d.result _ c.advance-d.ensures c.in_default.is)
+    rw c.cursor_of.ensures (yield_bottom a.cursor a.datom c.advance.result _ c.advance.ensures _ c.in_ok-next.was)

@@ -1,10 +1,6 @@
-use Prim.Native.Nat.{◌≤◌}
 use mathlib.Core.Path.{◌≡◌}
 use Rattle.listing.specs.WayLaws.{same_below}
 use Rattle.listing.proofs.way.is_at_end.Given as goal
 
 abbrev pub invariant-loop-level : goal.invariant-loop-level
-invariant-loop-level l = (l.level ≤ 8) × (same_below l.cursor l.level ≡ same_below l.cursor l.initial.level)
-
-abbrev pub decreases-loop-level : goal.decreases-loop-level
-decreases-loop-level l = l.level
+invariant-loop-level l = same_below l.cursor l.level ≡ same_below l.cursor l.initial.level

@@ -16,6 +16,7 @@ ghost use Rattle.entry.specs.Checks.{Passed};
 
 use answer::{Answer, Refusal};
 use batch::{Count, Finding};
+use htree::place::Failed;
 use htree::root::Rooted;
 use index::Index;
 use memory_store::reader::Header;
@@ -23,18 +24,15 @@ use ordered::Ordered;
 use store::{Extent, PageId, StoreRecord};
 
 // The answer, of what was written.
-fn answer_of(r: Rooted) -> Answer
+fn answer_of(r: Result<Rooted, Failed>) -> Answer
     ensures { result ≡ answer_of r }
 {
     match r {
-        Rooted::Root { root, written } => Answer::Done {
-            root,
-            pages: written,
+        Ok(rooted) => Answer::Done {
+            root: rooted.root,
+            pages: rooted.written,
         },
-        Rooted::Failed {
-            refusal,
-            written: _,
-        } => Answer::Refused(refusal),
+        Err(failed) => Answer::Refused(failed.refusal),
     }
 }
 

@@ -11,7 +11,7 @@ ghost use Rattle.entry.specs.Checks.{Roomy, Passed};
 ghost use Rattle.entry.specs.Leaf.{Cleared};
 
 use crate::check;
-use htree::place::Inserted;
+use htree::place::Failed;
 use htree::root::Rooted;
 use index::Index;
 use store::{Extent, PageId};
@@ -21,15 +21,19 @@ fn clear_children(s: &mut [u8], m: usize, n: usize)
     requires { (40 * m + 8 ≤ length s.old) × (n ≤ m) }
     ensures { Cleared m (n + 1) s.old s.new }
 {
-    let mut i = 0;
-    while i <= n {
+    for i in 0..n + 1 {
         node::put_child(s, m, i, PageId::max());
-        i += 1;
     }
 }
 
 // The n datoms at the front of the scratch, which ascend, become a tree.
-fn leaf(store: &mut [u8], extent: Extent, c: usize, n: usize, s: &mut [u8]) -> Rooted
+fn leaf(
+    store: &mut [u8],
+    extent: Extent,
+    c: usize,
+    n: usize,
+    s: &mut [u8],
+) -> Result<Rooted, Failed>
     requires { Roomy extent store.old c n (length s.old) }
     ensures { (t : DatomOrd) → Roots extent store.old store.new 0 result (fresh_tree (env_of t extent store.old) (datoms_of n s.old)) }
 {
@@ -39,7 +43,14 @@ fn leaf(store: &mut [u8], extent: Extent, c: usize, n: usize, s: &mut [u8]) -> R
 }
 
 // A batch that ascends becomes a tree.
-pub fn fresh(store: &mut [u8], extent: Extent, c: usize, b: &[u8], n: usize, s: &mut [u8]) -> Rooted
+pub fn fresh(
+    store: &mut [u8],
+    extent: Extent,
+    c: usize,
+    b: &[u8],
+    n: usize,
+    s: &mut [u8],
+) -> Result<Rooted, Failed>
     requires { Passed extent store.old c b.now n (length s.old) }
     ensures { (t : DatomOrd) → Roots extent store.old store.new 0 result (fresh_tree (env_of t extent store.old) (datoms_of n b.now)) }
 {
@@ -57,7 +68,7 @@ pub fn sorted(
     s: &mut [u8],
     by: Index,
     heap: &[u8],
-) -> Rooted
+) -> Result<Rooted, Failed>
     requires { Passed extent store.old c b.now n (length s.old) }
     ensures { Roots extent store.old store.new 0 result (fresh_tree (env_of (order_in by heap.now) extent store.old) (sort (order_in by heap.now).cmp (datoms_of n b.now))) }
 {
@@ -79,17 +90,25 @@ pub fn under(
     s: &mut [u8],
     by: Index,
     heap: &[u8],
-) -> Rooted
+) -> Result<Rooted, Failed>
     requires { Passed extent store.old c b.now n (length s.old) × (fetch_page (order_in by heap.now) extent store.old root ≡ fine (node_at extent store.old root level count)) }
     ensures { Roots extent store.old store.new 0 result (insert_tree (env_of (order_in by heap.now) extent store.old) level root (datoms_of n b.now)) }
 {
     let m = check::room_for(c);
     store::put(s, 40 * m + 8, b);
-    let opened = Ok(count);
-    match htree::insert::insert_into(store, extent, c, 0, level, root, opened, s, m, n, by, heap) {
-        Inserted::Placed { datoms, written } => {
-            htree::root::write_root(store, extent, c, written, level + 1, s, m, datoms)
-        }
-        Inserted::Failed { refusal, written } => Rooted::Failed { refusal, written },
-    }
+    let up = htree::insert::insert_into(
+        store,
+        extent,
+        c,
+        0,
+        level,
+        root,
+        Ok(count),
+        s,
+        m,
+        n,
+        by,
+        heap,
+    )?;
+    htree::root::write_root(store, extent, c, up.written, level + 1, s, m, up.datoms)
 }

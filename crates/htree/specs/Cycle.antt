@@ -1,5 +1,5 @@
 -- What the three functions of the cycle keep and promise: the loop of flushes, one flush, and insert into a page.
-use Rattle.std.specs.Prelude.{ℕ, suc, ◌+◌, ◌-◌, ◌*◌, ◌≤◌, ◌<◌, true, false, List, ◌++◌, ◌≡◌, refl, length, take, drop}
+use Rattle.std.specs.Prelude.{ℕ, suc, ◌+◌, ◌-◌, ◌*◌, ◌≤◌, ◌<◌, true, false, List, ◌++◌, ◌≡◌, refl, length, take, drop, Result, Ok, Err}
 use Rattle.std.proofs.Common.{add-mul, one-mul, arith, ◌∙◌, drop-drop}
 use Rattle.store.specs.declared.PageId.{PageId}
 use Rattle.store.specs.declared.Extent.{Extent}
@@ -20,11 +20,10 @@ use Rattle.node.specs.Spans.{Spans}
 use Rattle.node.specs.Moves.{move_of, move_length}
 use Rattle.node.specs.Splice.{Spliced}
 use Rattle.node.specs.Frames.{node_framed, node_kept, lent, given_back, span_sent}
-use Rattle.htree.specs.declared.place.Inserted.{Inserted}
-use Rattle.htree.specs.declared.place.Inserted.TheVariants as inserted
-use Rattle.htree.specs.declared.insert.Loaded.TheVariants as loaded
+use Rattle.htree.specs.declared.place.Placed.{Placed}
+use Rattle.htree.specs.declared.place.Failed.{Failed}
 use Rattle.htree.specs.Wrote.{wrote_length}
-use Rattle.htree.specs.Told.{blanks, blanks_length, Ready, Told, Tells, went, stopped, tell_went, tell_stopped}
+use Rattle.htree.specs.Told.{blanks, blanks_length, Ready, Told, Tells, went, stopped, tell_went, tell_stopped, placed, failed}
 use Rattle.htree.specs.Split.{ready_after}
 use Rattle.htree.specs.Load.{batch_at, Loads, loads_node}
 use Rattle.htree.specs.Flush.{insert_lower, flush_stops, flush_goes, comes_back, no_bigger, Draining, draining_start, drained, drained_count, draining_on, draining_stop, all_small, all_sent, all_none, is_not_over, node_children, insert_damaged, insert_leaf, inner_stops, on_count, inner_goes, inner_fails}
@@ -82,13 +81,13 @@ module _ {t : DatomOrd} {x : Extent} {s₀ : List ℕ} {c w l m n : ℕ} {a₀ s
     D = I.all o e
 
     -- it ends: the node fits, nothing is pending, or no turn is left
-    pub drains_small : count ≤ capacity x.size → Told x s₀ s m a o (inserted.Placed count next) (whole o)
+    pub drains_small : count ≤ capacity x.size → Told x s₀ s m a o (Ok (placed count next)) (whole o)
     drains_small h = tell_went (drained t x s₀ w l m n a₀ o e D (all_small _ _ turns _ _ (is_not_over t x s₀ m l count a h)) (omega (arith, I.few)))
 
-    pub drains_sent : any_pending (children_of m (suc count) a) ≡ false → Told x s₀ s m a o (inserted.Placed count next) (whole o)
+    pub drains_sent : any_pending (children_of m (suc count) a) ≡ false → Told x s₀ s m a o (Ok (placed count next)) (whole o)
     drains_sent h = tell_went (drained t x s₀ w l m n a₀ o e D (all_sent _ _ turns _ _ (rw (node_children m l count a) h)) (omega (arith, I.few)))
 
-    pub drains_none : turns ≡ 0 → Told x s₀ s m a o (inserted.Placed count next) (whole o)
+    pub drains_none : turns ≡ 0 → Told x s₀ s m a o (Ok (placed count next)) (whole o)
     drains_none h = tell_went (drained t x s₀ w l m n a₀ o e D (all_none _ _ turns _ _ h) (omega (arith, I.few)))
 
   module _ (left : 0 < turns) (over : capacity x.size < count) (pending : any_pending (children_of m (suc count) a) ≡ true) where
@@ -96,7 +95,7 @@ module _ {t : DatomOrd} {x : Extent} {s₀ : List ℕ} {c w l m n : ℕ} {a₀ s
     more = omega arith
 
     pub drains_on :
-        (s₁ a₁ : List ℕ) (k v : ℕ) → Tells x s s₁ m a₁ next (inserted.Placed k v) (flush (insert_lower t x s l) (node_of m l count a)) → length a₁ ≡ length a →
+        (s₁ a₁ : List ℕ) (k v : ℕ) → Tells x s s₁ m a₁ next (Ok (placed k v)) (flush (insert_lower t x s l) (node_of m l count a)) → length a₁ ≡ length a →
         Drains t x s₀ c w l m n a₀ s₁ a₁ (turns - 1) k v
     drains_on s₁ a₁ k v T same =
         record {
@@ -113,8 +112,8 @@ module _ {t : DatomOrd} {x : Extent} {s₀ : List ℕ} {c w l m n : ℕ} {a₀ s
         }
 
     pub drains_stop :
-        (s₁ a₁ : List ℕ) (r : Refusal) (v : ℕ) → Tells x s s₁ m a₁ next (inserted.Failed r v) (flush (insert_lower t x s l) (node_of m l count a)) →
-        (o : List Node) → length o ≡ w → Told x s₀ s₁ m a₁ o (inserted.Failed r v) (whole o)
+        (s₁ a₁ : List ℕ) (r : Refusal) (v : ℕ) → Tells x s s₁ m a₁ next (Err (failed r v)) (flush (insert_lower t x s l) (node_of m l count a)) →
+        (o : List Node) → length o ≡ w → Told x s₀ s₁ m a₁ o (Err (failed r v)) (whole o)
     drains_stop s₁ a₁ r v T o e =
         let D = I.all o e in
         tell_stopped
@@ -164,19 +163,19 @@ module _ (x : Extent) (s : List ℕ) (c w l m n : ℕ) (a : List ℕ) (R : Ready
       inner o = insert_into (env_of t x s) (l - 1) child (batch_at m k behind) o
 
       pub flush_fails :
-          (s₁ b₁ a₁ : List ℕ) (r : Refusal) (v : ℕ) → Tells x s s₁ m b₁ w (inserted.Failed r v) inner →
-          Tells x s s₁ m a₁ w (inserted.Failed r v) (flush (insert_lower t x s l) (node_of m l n a))
+          (s₁ b₁ a₁ : List ℕ) (r : Refusal) (v : ℕ) → Tells x s s₁ m b₁ w (Err (failed r v)) inner →
+          Tells x s s₁ m a₁ w (Err (failed r v)) (flush (insert_lower t x s l) (node_of m l n a))
       flush_fails s₁ b₁ a₁ r v T o e = tell_stopped (flush_stops x s l m n a sp P (insert_lower t x s l) _ batch_is o (stopped (T o e)))
 
       -- no more come back than went down
-      pub flush_back : (s₁ b₁ : List ℕ) (j v : ℕ) → Tells x s s₁ m b₁ w (inserted.Placed j v) inner → j ≤ k
+      pub flush_back : (s₁ b₁ : List ℕ) (j v : ℕ) → Tells x s s₁ m b₁ w (Ok (placed j v)) inner → j ≤ k
       flush_back s₁ b₁ j v T =
           omega
           (arith, batch_length, comes_back t x s (l - 1) (in_order x s R.good) child (batch_at m k behind) (blanks w) (went (T (blanks w) (blanks_length w))))
 
       pub flush_done :
-          (s₁ b₁ a₁ : List ℕ) (j v : ℕ) → Tells x s s₁ m b₁ w (inserted.Placed j v) inner → Spliced m n sp.from sp.upto j (back b₁) a₁ →
-          Tells x s s₁ m a₁ w (inserted.Placed (n - k + j) v) (flush (insert_lower t x s l) (node_of m l n a))
+          (s₁ b₁ a₁ : List ℕ) (j v : ℕ) → Tells x s s₁ m b₁ w (Ok (placed j v)) inner → Spliced m n sp.from sp.upto j (back b₁) a₁ →
+          Tells x s s₁ m a₁ w (Ok (placed (n - k + j) v)) (flush (insert_lower t x s l) (node_of m l n a))
       flush_done s₁ b₁ a₁ j v T S o e =
           tell_went
           (flush_goes x s l m n a sp P (insert_lower t x s l) _ batch_is o (went (T o e)) a₁
@@ -189,42 +188,42 @@ module _ (t : DatomOrd) (x : Extent) (s : List ℕ) (c w l : ℕ) (p : PageId) (
   inserts o = insert_into (env_of t x s) l p (batch_at m n a) o
 
   pub insert_bad :
-      Ready x s c w → (f : Fault) → Loads t x s l p a m n a₁ (loaded.Faulty f) → (a₂ : List ℕ) →
-      Tells x s s m a₂ w (inserted.Failed (Damaged p f) w) inserts
+      Ready x s c w → (f : Fault) → Loads t x s l p a m n a₁ (Err f) → (a₂ : List ℕ) →
+      Tells x s s m a₂ w (Err (failed (Damaged p f) w)) inserts
   insert_bad R f L a₂ o e = rw (← e) (tell_stopped (insert_damaged t x s l p a m n a₁ o f L (rw e R.room)))
 
-  module _ {k : ℕ} (L : Loads t x s l p a m n a₁ (loaded.Node k)) where
+  module _ {k : ℕ} (L : Loads t x s l p a m n a₁ (Ok k)) where
     pub loads_few : k ≤ capacity x.size + n
     loads_few = few L
       where
-        few : Loads t x s l p a m n a₁ (loaded.Node k) → k ≤ capacity x.size + n
+        few : Loads t x s l p a m n a₁ (Ok k) → k ≤ capacity x.size + n
         few (loads_node f same g) = f
 
-    pub insert_flat : l ≡ 0 → (s₁ a₂ : List ℕ) (r : Inserted) → Tells x s s₁ m a₂ w r (settle (env_of t x s) (node_of m l k a₁)) → Tells x s s₁ m a₂ w r inserts
+    pub insert_flat : l ≡ 0 → (s₁ a₂ : List ℕ) (r : Result Placed Failed) → Tells x s s₁ m a₂ w r (settle (env_of t x s) (node_of m l k a₁)) → Tells x s s₁ m a₂ w r inserts
     insert_flat h s₁ a₂ r T o e = rw (insert_leaf t x s l p a m n a₁ o L h) (T o e)
 
     module _ (h : 0 < l) where
       abbrev drained_stage : List Node → Stage Node
       drained_stage o = flush_all (env_of t x s) (insert_lower t x s l) k (node_of m l k a₁) o
 
-      pub insert_stops : (s₁ a₂ : List ℕ) (r : Refusal) (v : ℕ) → Tells x s s₁ m a₂ w (inserted.Failed r v) drained_stage → Tells x s s₁ m a₂ w (inserted.Failed r v) inserts
+      pub insert_stops : (s₁ a₂ : List ℕ) (r : Refusal) (v : ℕ) → Tells x s s₁ m a₂ w (Err (failed r v)) drained_stage → Tells x s s₁ m a₂ w (Err (failed r v)) inserts
       insert_stops s₁ a₂ r v T o e = tell_stopped (inner_stops t x s l p a m n a₁ o L h (stopped (T o e)))
 
-      module _ (s₁ a₂ : List ℕ) (j v : ℕ) (T : Tells x s s₁ m a₂ w (inserted.Placed j v) drained_stage) where
+      module _ (s₁ a₂ : List ℕ) (j v : ℕ) (T : Tells x s s₁ m a₂ w (Ok (placed j v)) drained_stage) where
         pub went_ready : Ready x s c w → Ready x s₁ c v
         went_ready R = let W = went (T (blanks w) (blanks_length w)) in ready_after R (rw (blanks_length w) at W.wrote) (rw (blanks_length w) at W.count)
 
         pub went_few : j ≤ m
         went_few = (went (T (blanks w) (blanks_length w))).few
 
-        pub insert_goes : (s₂ a₃ : List ℕ) (r : Inserted) → Tells x s₁ s₂ m a₃ v r (settle (env_of t x s₁) (node_of m l j a₂)) → Tells x s s₂ m a₃ w r inserts
+        pub insert_goes : (s₂ a₃ : List ℕ) (r : Result Placed Failed) → Tells x s₁ s₂ m a₃ v r (settle (env_of t x s₁) (node_of m l j a₂)) → Tells x s s₂ m a₃ w r inserts
         insert_goes s₂ a₃ r U o e =
             let W = went (T o e) in
             on r (U (o ++ W.new) (on_count t x s l p a m n a₁ o L h W))
           where
             on :
-                (r : Inserted) →
+                (r : Result Placed Failed) →
                 Told x s₁ s₂ m a₃ (o ++ (went (T o e)).new) r (settle (env_of t x s₁) (node_of m l j a₂) (o ++ (went (T o e)).new)) →
                 Told x s s₂ m a₃ o r (inserts o)
-            on (inserted.Placed i u) W = tell_went (inner_goes t x s l p a m n a₁ o L h (went (T o e)) (went W))
-            on (inserted.Failed f u) W = tell_stopped (inner_fails t x s l p a m n a₁ o L h (went (T o e)) (stopped W))
+            on (Ok p₁) W = tell_went (inner_goes t x s l p a m n a₁ o L h (went (T o e)) (went W))
+            on (Err f) W = tell_stopped (inner_fails t x s l p a m n a₁ o L h (went (T o e)) (stopped W))

@@ -1,5 +1,5 @@
 -- Flush, insert into a page, and the loop between them, in the rules' words.
-use Rattle.std.specs.Prelude.{ℕ, zero, suc, ◌+◌, ◌-◌, ◌*◌, ◌≤◌, ◌<◌, Bool, true, false, ◌&&◌, ◌≡◌, refl, length, take, drop, get_or}
+use Rattle.std.specs.Prelude.{ℕ, zero, suc, ◌+◌, ◌-◌, ◌*◌, ◌≤◌, ◌<◌, Bool, true, false, ◌&&◌, ◌≡◌, refl, length, take, drop, get_or, Ok, Err}
 use Rattle.std.proofs.Math.Decide.{dec_le}
 use Rattle.std.proofs.Common.{arith, ◌∙◌, lt-ltb, le-ltb}
 use mathlib.Core.List.{List, [], ◌++◌, append_assoc, append-nil}
@@ -29,7 +29,6 @@ use Rattle.node.specs.declared.Span.{Span}
 use Rattle.node.specs.Spans.{Spans}
 use Rattle.htree.specs.Wrote.{Wrote, wrote_none, wrote_more, wrote_env}
 use Rattle.htree.specs.Told.{node_count, Went, Stopped}
-use Rattle.htree.specs.declared.insert.Loaded.TheVariants as loaded
 use Rattle.htree.specs.Load.{batch_at, Loads, loads_node, loads_bad}
 
 -- insert into a page of the level below l
@@ -274,7 +273,7 @@ module _ (t : DatomOrd) (x : Extent) (s : List ℕ) (l : ℕ) (p : PageId) (a : 
   whole = insert_into e₀ l p (batch_at m n a) o
 
   pub insert_damaged :
-      (g : Fault) → Loads t x s l p a m n a₁ (loaded.Faulty g) → (x.count + length o) * x.size ≤ length s →
+      (g : Fault) → Loads t x s l p a m n a₁ (Err g) → (x.count + length o) * x.size ≤ length s →
       Stopped x s s o (Damaged p g) (length o) whole
   insert_damaged g (loads_bad same f) room =
       record { new = []; stage = stage (dec_le l 0) ∙ ap (λ (os : List Node). stop (Damaged p g) os) (sym (append-nil o)); count = omega arith; wrote = wrote_none x s (length o) room }
@@ -283,26 +282,26 @@ module _ (t : DatomOrd) (x : Extent) (s : List ℕ) (l : ℕ) (p : PageId) (a : 
       stage (yes h) = insert_zero e₀ l p (batch_at m n a) o (omega arith) ∙ f _ o
       stage (no h) = insert_suc e₀ l p (batch_at m n a) o (omega (arith, h)) ∙ f _ o
 
-  pub insert_leaf : {k : ℕ} → Loads t x s l p a m n a₁ (loaded.Node k) → l ≡ 0 → whole ≡ settle e₀ (node_of m l k a₁) o
+  pub insert_leaf : {k : ℕ} → Loads t x s l p a m n a₁ (Ok k) → l ≡ 0 → whole ≡ settle e₀ (node_of m l k a₁) o
   unfolding then
-  insert_leaf (loads_node few same f) h = insert_zero e₀ l p (batch_at m n a) o h ∙ f _ o
+  insert_leaf (loads_node few _ f) h = insert_zero e₀ l p (batch_at m n a) o h ∙ f _ o
 
   pub insert_inner :
-      {k : ℕ} → Loads t x s l p a m n a₁ (loaded.Node k) → 0 < l →
+      {k : ℕ} → Loads t x s l p a m n a₁ (Ok k) → 0 < l →
       whole ≡ then (flush_all e₀ (insert_lower t x s l) k (node_of m l k a₁) o) λ n₁ o₁. settle e₀ n₁ o₁
-  insert_inner {k} (loads_node few same f) h =
+  insert_inner {k} (loads_node few _ f) h =
       insert_suc e₀ l p (batch_at m n a) o h ∙ f _ o
       ∙ ap (λ (j : ℕ). then (flush_all e₀ (insert_lower t x s l) j (node_of m l k a₁) o) λ n₁ o₁. settle e₀ n₁ o₁) (node_count m l k a₁)
 
   -- the loop was stopped
   pub inner_stops :
-      {k : ℕ} → Loads t x s l p a m n a₁ (loaded.Node k) → 0 < l → {s₁ : List ℕ} {r : Refusal} {v : ℕ} →
+      {k : ℕ} → Loads t x s l p a m n a₁ (Ok k) → 0 < l → {s₁ : List ℕ} {r : Refusal} {v : ℕ} →
       Stopped x s s₁ o r v (flush_all e₀ (insert_lower t x s l) k (node_of m l k a₁) o) → Stopped x s s₁ o r v whole
   unfolding then
   inner_stops L h T = record { new = T.new; stage = insert_inner L h ∙ rw T.stage; count = T.count; wrote = T.wrote }
 
   -- or it went on to settle the node that it left
-  module _ {k : ℕ} (L : Loads t x s l p a m n a₁ (loaded.Node k)) (h : 0 < l) {s₁ a₂ : List ℕ} {j v : ℕ} (T : Went x s s₁ m a₂ o j v (flush_all e₀ (insert_lower t x s l) k (node_of m l k a₁) o)) where
+  module _ {k : ℕ} (L : Loads t x s l p a m n a₁ (Ok k)) (h : 0 < l) {s₁ a₂ : List ℕ} {j v : ℕ} (T : Went x s s₁ m a₂ o j v (flush_all e₀ (insert_lower t x s l) k (node_of m l k a₁) o)) where
     abbrev on : List Node
     on = o ++ T.new
 

@@ -1,5 +1,5 @@
 -- What loading a page with a batch leaves for the insert into it.
-use Rattle.std.specs.Prelude.{ℕ, ◌+◌, ◌*◌, ◌≤◌, true, false, List, ◌≡◌, length, drop, Ok, Err}
+use Rattle.std.specs.Prelude.{ℕ, ◌+◌, ◌*◌, ◌≤◌, true, false, List, ◌≡◌, length, drop, Result, Ok, Err}
 use Rattle.std.proofs.Common.{arith, ◌∙◌}
 use Rattle.std.proofs.Math.Path.{refl}
 use Rattle.store.specs.declared.PageId.{PageId}
@@ -17,26 +17,24 @@ use Rattle.rules.specs.Tree.{fine, Env, Stage, stop, then, fetch_at, settle, ins
 use Rattle.rules.specs.Store.{bad_store, page_at, env_of}
 use Rattle.memory_store.specs.Readable.{node_at, Opens, opens}
 use Rattle.memory_store.specs.Opened.{opened_of, at_its_level, opened_faulty, opened_node}
-use Rattle.htree.specs.declared.insert.Loaded.{Loaded}
-use Rattle.htree.specs.declared.insert.Loaded.TheVariants as loaded
 
 -- the batch lies behind the area
 abbrev pub batch_at : ℕ → ℕ → List ℕ → List Datom
 batch_at m n s = datoms_of n (drop (40 * m + 8) s)
 
 -- whatever the insert goes on with: it has the merged node, which stands in the area, or stops as Damaged, with the fault
-pub data Loads (t : DatomOrd) (x : Extent) (s : List ℕ) (l : ℕ) (p : PageId) (a : List ℕ) (m n : ℕ) (a₁ : List ℕ) : Loaded → Type 0 where
+pub data Loads (t : DatomOrd) (x : Extent) (s : List ℕ) (l : ℕ) (p : PageId) (a : List ℕ) (m n : ℕ) (a₁ : List ℕ) : Result ℕ Fault → Type 0 where
   loads_node :
       {k : ℕ} → k ≤ capacity x.size + n → length a₁ ≡ length a →
       ((f : Node → List Node → Stage Node) (o : List Node) →
       insert_merged (env_of t x s) p (batch_at m n a) f (fetch_at (env_of t x s) l p) o
       ≡ then (f (node_of m l k a₁) o) λ n₁ o₁. settle (env_of t x s) n₁ o₁) →
-      Loads t x s l p a m n a₁ (loaded.Node k)
+      Loads t x s l p a m n a₁ (Ok k)
   loads_bad :
       {g : Fault} → length a₁ ≡ length a →
       ((f : Node → List Node → Stage Node) (o : List Node) →
       insert_merged (env_of t x s) p (batch_at m n a) f (fetch_at (env_of t x s) l p) o ≡ stop (Damaged p g) o) →
-      Loads t x s l p a m n a₁ (loaded.Faulty g)
+      Loads t x s l p a m n a₁ (Err g)
 
 -- a merge that meets no equal datoms
 merged :
@@ -52,7 +50,7 @@ datoms_are c l k s = refl
 
 -- by what the page was opened as
 module _ (t : DatomOrd) (x : Extent) (s : List ℕ) (l : ℕ) (p : PageId) (a : List ℕ) (m n : ℕ) where
-  pub load_faulty : (f : Fault) → Err f ≡ opened_of (fetch_at (env_of t x s) l p) → Loads t x s l p a m n a (loaded.Faulty f)
+  pub load_faulty : (f : Fault) → Err f ≡ opened_of (fetch_at (env_of t x s) l p) → Loads t x s l p a m n a (Err f)
   unfolding insert_merged
   load_faulty f h = loads_bad {g = f} refl λ g o. rw (opened_faulty f (fetch_at (env_of t x s) l p) h)
 
@@ -64,13 +62,13 @@ module _ (t : DatomOrd) (x : Extent) (s : List ℕ) (l : ℕ) (p : PageId) (a : 
       read : fetch_at (env_of t x s) l p ≡ fine (node_at x s p l k)
       read = let r = opened_node t x s p l k e in at_its_level t x s p l k r ∙ r
 
-      pub load_met : meets t.cmp (datoms_of k (page_at x s p)) (batch_at m n a) ≡ true → Loads t x s l p a m n a₁ (loaded.Faulty EqualDatoms)
+      pub load_met : meets t.cmp (datoms_of k (page_at x s p)) (batch_at m n a) ≡ true → Loads t x s l p a m n a₁ (Err EqualDatoms)
       unfolding insert_merged node_of env_of
       load_met q = loads_bad {g = EqualDatoms} same λ g o. rw (read, q)
 
       pub load_whole :
           meets t.cmp (datoms_of k (page_at x s p)) (batch_at m n a) ≡ false →
-          node_of m l (k + n) a₁ ≡ merge_node t.cmp (node_at x s p l k) (batch_at m n a) → Loads t x s l p a m n a₁ (loaded.Node (k + n))
+          node_of m l (k + n) a₁ ≡ merge_node t.cmp (node_at x s p l k) (batch_at m n a) → Loads t x s l p a m n a₁ (Ok (k + n))
       unfolding env_of
       load_whole q w =
           loads_node {k = k + n} (omega (arith, load_opens.few)) same

@@ -1,5 +1,5 @@
 -- One page written, or the refusal to write it.
-use Rattle.std.specs.Prelude.{ℕ, suc, ◌+◌, ◌-◌, ◌*◌, ◌/◌, ◌^◌, ◌≤◌, ◌<◌, List, [], ◌∷◌, ◌++◌, ◌≡◌, refl, take, drop}
+use Rattle.std.specs.Prelude.{ℕ, suc, ◌+◌, ◌-◌, ◌*◌, ◌/◌, ◌^◌, ◌≤◌, ◌<◌, List, [], ◌∷◌, ◌++◌, ◌≡◌, refl, take, drop, Ok, Err}
 use Rattle.std.proofs.Common.{le-div_iff_mul-le, arith, append_assoc, append-nil, ap, length-drop, drop_of_length-le, take-add, take_all, drop-drop, length-take-le}
 use borrow.Author.Tests.{le-leb, lt-leb, lt-ltb, le-ltb}
 use Rattle.std.proofs.Math.ListN.{length}
@@ -14,9 +14,8 @@ use Rattle.rules.specs.Page.{Node, node_of}
 use Rattle.rules.specs.Node.{part_of}
 use Rattle.rules.specs.Tree.{put}
 use Rattle.rules.specs.Store.{env_of}
-use Rattle.htree.specs.declared.place.Put.TheVariants.{Placed, Failed}
 use Rattle.htree.specs.Wrote.{Wrote}
-use Rattle.htree.specs.Told.{PutTold, put_placed, put_failed}
+use Rattle.htree.specs.Told.{failed, PutTold, put_placed, put_failed}
 
 -- a store into the part from `base` on
 pub patch_part : (s : List ℕ) (base at : ℕ) (p : List ℕ) → take base s ++ patch (drop base s) at p ≡ patch s (base + at) p
@@ -34,18 +33,18 @@ unfolding part_of node_of
 part_lens m l n i a s h = length-take-le (suc a) (drop i _) (simp length-drop (omega (arith, cells_length page_of 8 (suc n) (drop (32 * m) s))))
 
 module _ (t : DatomOrd) (x : Extent) (s : List ℕ) (n : Node) (o : List Node) where
-  pub put_tall : 8 ≤ n.level → PutTold x s s n o (Failed TooTall) (put (env_of t x s) n o)
+  pub put_tall : 8 ≤ n.level → PutTold x s s n o (Err (failed TooTall (length o))) (put (env_of t x s) n o)
   unfolding put
   put_tall h = rw (le-leb 8 n.level h) (put_failed refl)
 
   module _ (low : n.level < 8) where
-    pub put_full : length s / x.size - x.count ≤ length o → PutTold x s s n o (Failed NoRoom) (put (env_of t x s) n o)
+    pub put_full : length s / x.size - x.count ≤ length o → PutTold x s s n o (Err (failed NoRoom (length o))) (put (env_of t x s) n o)
     unfolding put env_of
     put_full h = rw (lt-leb 8 n.level low, le-ltb (length o) (length s / x.size - x.count) h) (put_failed refl)
 
     pub put_done :
         (w : ℕ) → length o ≡ w → x.count + w < 2 ^ 64 → w < length s / x.size - x.count → {s₁ : List ℕ} → Wrote x s w (n ∷ []) s₁ →
-        PutTold x s s₁ n o (Placed (page (x.count + w))) (put (env_of t x s) n o)
+        PutTold x s s₁ n o (Ok (page (x.count + w))) (put (env_of t x s) n o)
     unfolding put env_of
     put_done w l f h q =
         rw (← l, lt-leb 8 n.level low, lt-ltb (length o) (length s / x.size - x.count) (omega arith)) (put_placed {id = page (x.count + length o)} (rw l f) (rw l q))

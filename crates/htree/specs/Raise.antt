@@ -1,7 +1,7 @@
 -- The whole of an insert at a root: what comes back of the root's page is the top, one level higher.
 use Prim.Native.Nat.{ℕ, zero, suc, ◌+◌, ◌≤◌}
 use native.Mathlib.Omega.{arith}
-use Rattle.std.specs.Prelude.{Bool, true, false, List, ◌∷◌, [], ◌++◌, ◌≡◌}
+use Rattle.std.specs.Prelude.{Bool, true, false, List, ◌∷◌, [], ◌++◌, ◌≡◌, Result, Ok, Err}
 use Rattle.std.proofs.Math.Path.{refl, sym, ap}
 use Rattle.std.proofs.Common.{◌∙◌, ap₂, length-append}
 use Rattle.std.proofs.Math.ListN.{length}
@@ -16,11 +16,10 @@ use Rattle.rules.specs.Node.{meets, merge_node}
 use Rattle.rules.specs.Tree.{Fetched, faulty, fine, Env, Stage, stop, go, then, fetch_at, put, is_over, settle, insert_merged, insert_into, write_root, insert_tree}
 use Rattle.rules.specs.Store.{env_of}
 use Rattle.rules.proofs.Sizes.{level_is}
-use Rattle.htree.specs.declared.place.Inserted.TheVariants as inserted
+use Rattle.htree.specs.declared.place.Failed.{Failed}
 use Rattle.htree.specs.declared.root.Rooted.{Rooted}
-use Rattle.htree.specs.declared.root.Rooted.TheVariants as rooted
 use Rattle.htree.specs.Wrote.{wrote_env}
-use Rattle.htree.specs.Told.{blanks, blanks_length, node_count, Ready, Tells, went, stopped}
+use Rattle.htree.specs.Told.{blanks, blanks_length, node_count, Ready, Tells, went, stopped, placed, failed}
 use Rattle.htree.specs.Split.{ready_after}
 use Rattle.htree.specs.Flush.{flush_all_level}
 use Rattle.htree.specs.Root.{Roots, tell_no_root, root_after, split_gives}
@@ -70,13 +69,13 @@ module _ (t : DatomOrd) (x : Extent) (s : List ℕ) (l m : ℕ) (p : PageId) (ds
   inserts o = insert_into (env_of t x s) l p ds o
 
   pub raise_stops :
-      (s₁ a₁ : List ℕ) (r : Refusal) (v : ℕ) → Tells x s s₁ m a₁ w (inserted.Failed r v) inserts →
-      Roots x s s₁ w (rooted.Failed r v) (insert_tree (env_of t x s) l p ds)
+      (s₁ a₁ : List ℕ) (r : Refusal) (v : ℕ) → Tells x s s₁ m a₁ w (Err (failed r v)) inserts →
+      Roots x s s₁ w (Err (failed r v)) (insert_tree (env_of t x s) l p ds)
   unfolding then insert_tree
   raise_stops s₁ a₁ r v T o e = let S = stopped (T o e) in
       tell_no_root r S.new v (ap (λ (g : Stage Node). then g λ n o₁. write_root (env_of t x s) (length n.datoms) n o₁) S.stage) S.count S.wrote
 
-  module _ (s₁ a₁ : List ℕ) (k v : ℕ) (T : Tells x s s₁ m a₁ w (inserted.Placed k v) inserts) where
+  module _ (s₁ a₁ : List ℕ) (k v : ℕ) (T : Tells x s s₁ m a₁ w (Ok (placed k v)) inserts) where
     pub raise_ready : {c : ℕ} → Ready x s c w → Ready x s₁ c v
     raise_ready R =
         let W = went (T (blanks w) (blanks_length w)) in
@@ -86,7 +85,7 @@ module _ (t : DatomOrd) (x : Extent) (s : List ℕ) (l m : ℕ) (p : PageId) (ds
     raise_few = (went (T (blanks w) (blanks_length w))).few
 
     pub raise_goes :
-        (s₂ : List ℕ) (r : Rooted) → Roots x s₁ s₂ v r (write_root (env_of t x s₁) k (node_of m (l + 1) k a₁)) →
+        (s₂ : List ℕ) (r : Result Rooted Failed) → Roots x s₁ s₂ v r (write_root (env_of t x s₁) k (node_of m (l + 1) k a₁)) →
         Roots x s s₂ w r (insert_tree (env_of t x s) l p ds)
     unfolding then insert_tree
     raise_goes s₂ r U o e =

@@ -2,7 +2,7 @@
 use Prim.Native.Nat.{ℕ, zero, suc, ◌+◌, ◌-◌, ◌*◌, ◌≤◌, ◌<◌}
 use Rattle.std.proofs.Common.{add-zero, ◌∙◌}
 use native.Mathlib.Omega.{arith}
-use Rattle.std.specs.Prelude.{true, false, ◌≡◌, refl, length, take, drop}
+use Rattle.std.specs.Prelude.{true, false, ◌≡◌, refl, length, take, drop, Result, Ok, Err}
 use mathlib.Core.List.{List, [], ◌∷◌, ◌++◌, append_assoc, append-nil}
 use Rattle.std.proofs.Math.Path.{sym, ap, ap₂}
 use Rattle.std.proofs.Math.ListN.{length-append}
@@ -20,79 +20,81 @@ use Rattle.rules.specs.Tree.{Env, Stage, stop, go, then, put, put_all, split, is
 use Rattle.rules.specs.Store.{env_of}
 use Rattle.rules.proofs.SplitLaws.{split_shrinks}
 use Rattle.memory_store.specs.FetchLaws.{in_order}
-use Rattle.htree.specs.declared.place.Put.TheVariants as put
-use Rattle.htree.specs.declared.place.Inserted.TheVariants as inserted
+use Rattle.htree.specs.declared.place.Failed.{Failed}
 use Rattle.htree.specs.declared.root.Rooted.{Rooted}
-use Rattle.htree.specs.declared.root.Rooted.TheVariants as rooted
 use Rattle.htree.specs.Wrote.{Wrote, wrote_same, wrote_none, wrote_more, wrote_length, wrote_env}
-use Rattle.htree.specs.Told.{any_order, blanks, blanks_length, behind_same, node_count, Ready, PutTold, put_is, put_is_not, Tells, Went, Stopped, went, stopped}
+use Rattle.htree.specs.Told.{any_order, blanks, blanks_length, behind_same, node_count, Ready, PutTold, put_is, put_is_not, Tells, Went, Stopped, went, stopped, placed, failed}
 use Rattle.htree.specs.Split.{ready_after}
 use Rattle.htree.specs.Flush.{node_level, node_children, is_over_law, is_not_over}
 
--- the root and how many pages are written, or why not
-pub data RootTold (x : Extent) (s s₁ : List ℕ) (o : List Node) : Rooted → Stage PageId → Type 0 where
-  root_at : {id : PageId} (new : List Node) → Wrote x s (length o) new s₁ → RootTold x s s₁ o (rooted.Root id (length o + length new)) (go id (o ++ new))
-  root_not : {r : Refusal} (new : List Node) → Wrote x s (length o) new s₁ → RootTold x s s₁ o (rooted.Failed r (length o + length new)) (stop r (o ++ new))
+-- an answer of the root, by its parts
+abbrev pub rooted : PageId → ℕ → Rooted
+rooted id v = record { root = id; written = v }
 
-abbrev pub Roots : Extent → List ℕ → List ℕ → ℕ → Rooted → (List Node → Stage PageId) → Type 0
+-- the root and how many pages are written, or why not
+pub data RootTold (x : Extent) (s s₁ : List ℕ) (o : List Node) : Result Rooted Failed → Stage PageId → Type 0 where
+  root_at : {id : PageId} (new : List Node) → Wrote x s (length o) new s₁ → RootTold x s s₁ o (Ok (rooted id (length o + length new))) (go id (o ++ new))
+  root_not : {r : Refusal} (new : List Node) → Wrote x s (length o) new s₁ → RootTold x s s₁ o (Err (failed r (length o + length new))) (stop r (o ++ new))
+
+abbrev pub Roots : Extent → List ℕ → List ℕ → ℕ → Result Rooted Failed → (List Node → Stage PageId) → Type 0
 Roots x s s₁ w r stage = (o : List Node) → length o ≡ w → RootTold x s s₁ o r (stage o)
 
 -- an answer from what is known of the stage
 pub tell_root :
     {x : Extent} {s s₁ : List ℕ} {o : List Node} {t : Stage PageId} (id : PageId) (new : List Node) (v : ℕ) → t ≡ go id (o ++ new) → v ≡ length o + length new →
-    Wrote x s (length o) new s₁ → RootTold x s s₁ o (rooted.Root id v) t
+    Wrote x s (length o) new s₁ → RootTold x s s₁ o (Ok (rooted id v)) t
 tell_root id new v e c w = rw (e, c) (root_at new w)
 
 pub tell_no_root :
     {x : Extent} {s s₁ : List ℕ} {o : List Node} {t : Stage PageId} (r : Refusal) (new : List Node) (v : ℕ) → t ≡ stop r (o ++ new) → v ≡ length o + length new →
-    Wrote x s (length o) new s₁ → RootTold x s s₁ o (rooted.Failed r v) t
+    Wrote x s (length o) new s₁ → RootTold x s s₁ o (Err (failed r v)) t
 tell_no_root r new v e c w = rw (e, c) (root_not new w)
 
 -- and back
 module _ {x : Extent} {s s₁ : List ℕ} {o : List Node} where
   is_root :
-      {id : PageId} {v : ℕ} {t : Stage PageId} → RootTold x s s₁ o (rooted.Root id v) t →
-      (new : List Node) × (t ≡ go id (o ++ new)) × (v ≡ length o + length new) × Wrote x s (length o) new s₁
+      {r : Rooted} {t : Stage PageId} → RootTold x s s₁ o (Ok r) t →
+      (new : List Node) × (t ≡ go r.root (o ++ new)) × (r.written ≡ length o + length new) × Wrote x s (length o) new s₁
   is_root (root_at new w) = (new, refl, refl, w)
 
   is_no_root :
-      {r : Refusal} {v : ℕ} {t : Stage PageId} → RootTold x s s₁ o (rooted.Failed r v) t →
-      (new : List Node) × (t ≡ stop r (o ++ new)) × (v ≡ length o + length new) × Wrote x s (length o) new s₁
+      {f : Failed} {t : Stage PageId} → RootTold x s s₁ o (Err f) t →
+      (new : List Node) × (t ≡ stop f.refusal (o ++ new)) × (f.written ≡ length o + length new) × Wrote x s (length o) new s₁
   is_no_root (root_not new w) = (new, refl, refl, w)
 
 -- two results that meet a promise are equal: the answer and the store
 root_told_same :
-    {x : Extent} {s s₁ s₂ : List ℕ} {o : List Node} {t : Stage PageId} (r r₁ : Rooted) → RootTold x s s₁ o r t → RootTold x s s₂ o r₁ t →
+    {x : Extent} {s s₁ s₂ : List ℕ} {o : List Node} {t : Stage PageId} (r r₁ : Result Rooted Failed) → RootTold x s s₁ o r t → RootTold x s s₂ o r₁ t →
     (r ≡ r₁) × (s₁ ≡ s₂)
-root_told_same {o = o} (rooted.Root id v) (rooted.Root id₁ v₁) A B =
+root_told_same {o = o} (Ok r) (Ok r₁) A B =
     let a = is_root A in
     let b = is_root B in
     let q = sym a.1 ∙ b.1 in
-    let e : id ≡ id₁ = cc in
+    let e : r.root ≡ r₁.root = cc in
     let f : a.0 ≡ b.0 = behind_same o a.0 b.0 (cc) in
-    let g : v ≡ v₁ = a.2 ∙ ap (λ (ns : List Node). length o + length ns) f ∙ sym b.2 in
-    (ap₂ rooted.Root e g, wrote_same a.3 b.3 f)
-root_told_same {o = o} (rooted.Failed r v) (rooted.Failed r₁ v₁) A B =
+    let g : r.written ≡ r₁.written = a.2 ∙ ap (λ (ns : List Node). length o + length ns) f ∙ sym b.2 in
+    (ap₂ (λ (i : PageId) (u : ℕ). Ok (rooted i u)) e g, wrote_same a.3 b.3 f)
+root_told_same {o = o} (Err r) (Err r₁) A B =
     let a = is_no_root A in
     let b = is_no_root B in
     let q = sym a.1 ∙ b.1 in
-    let e : r ≡ r₁ = cc in
+    let e : r.refusal ≡ r₁.refusal = cc in
     let f : a.0 ≡ b.0 = behind_same o a.0 b.0 (cc) in
-    let g : v ≡ v₁ = a.2 ∙ ap (λ (ns : List Node). length o + length ns) f ∙ sym b.2 in
-    (ap₂ rooted.Failed e g, wrote_same a.3 b.3 f)
-root_told_same (rooted.Root id v) (rooted.Failed r v₁) A B =
+    let g : r.written ≡ r₁.written = a.2 ∙ ap (λ (ns : List Node). length o + length ns) f ∙ sym b.2 in
+    (ap₂ (λ (i : Refusal) (u : ℕ). Err (failed i u)) e g, wrote_same a.3 b.3 f)
+root_told_same (Ok r) (Err f) A B =
     let q = sym (is_root A).1 ∙ (is_no_root B).1 in absurd (apart (cc))
-root_told_same (rooted.Failed r v) (rooted.Root id v₁) A B =
+root_told_same (Err f) (Ok r) A B =
     let q = sym (is_no_root A).1 ∙ (is_root B).1 in absurd (apart (cc))
 
 pub roots_same :
-    {x : Extent} {s s₁ s₂ : List ℕ} {w : ℕ} (r r₁ : Rooted) (stage : List Node → Stage PageId) → Roots x s s₁ w r stage → Roots x s s₂ w r₁ stage →
+    {x : Extent} {s s₁ s₂ : List ℕ} {w : ℕ} (r r₁ : Result Rooted Failed) (stage : List Node → Stage PageId) → Roots x s s₁ w r stage → Roots x s s₂ w r₁ stage →
     (r ≡ r₁) × (s₁ ≡ s₂)
 roots_same {w = w} r r₁ stage A B = root_told_same r r₁ (A (blanks w) (blanks_length w)) (B (blanks w) (blanks_length w))
 
 -- pages written before are written too
 pub root_after :
-    (x : Extent) (s₀ : List ℕ) (w : ℕ) (o : List Node) → length o ≡ w → {s s₁ : List ℕ} {new : List Node} {r : Rooted} {t : Stage PageId} → Wrote x s₀ w new s →
+    (x : Extent) (s₀ : List ℕ) (w : ℕ) (o : List Node) → length o ≡ w → {s s₁ : List ℕ} {new : List Node} {r : Result Rooted Failed} {t : Stage PageId} → Wrote x s₀ w new s →
     RootTold x s s₁ (o ++ new) r t → RootTold x s₀ s₁ o r t
 root_after x s₀ w o here {s} {s₁} {new} W (root_at {id = id} more B) =
     tell_root id (new ++ more) _ (ap (λ (os : List Node). go id os) (append_assoc o new more))
@@ -198,7 +200,7 @@ module _ (t : DatomOrd) (x : Extent) (s₀ : List ℕ) (w l m n : ℕ) (a₀ : L
             }
 
       pub rooting_stop :
-          (s₁ : List ℕ) (r : Refusal) (v : ℕ) → Stopped x s s₁ done r v (splits (env_of t x s)) → RootTold x s₀ s₁ o (rooted.Failed r v) (write_root e n (node_of m l n a₀) o)
+          (s₁ : List ℕ) (r : Refusal) (v : ℕ) → Stopped x s s₁ done r v (splits (env_of t x s)) → RootTold x s₀ s₁ o (Err (failed r v)) (write_root e n (node_of m l n a₀) o)
       unfolding then
       rooting_stop s₁ r v T =
           tell_no_root r (D.new ++ T.new) v
@@ -215,7 +217,7 @@ module _ (t : DatomOrd) (x : Extent) (s₀ : List ℕ) (w l m n : ℕ) (a₀ : L
           ∙ ap₂ (λ (f : Env) (cs : List PageId). root_of f cs (node_of m high count a) done) (sym same) (node_children m high count a)
 
       pub rooting_end :
-          (s₁ : List ℕ) (r : Rooted) → RootTold x s s₁ done r (root_of (env_of t x s) (children_of m (suc count) a) (node_of m high count a) done) →
+          (s₁ : List ℕ) (r : Result Rooted Failed) → RootTold x s s₁ done r (root_of (env_of t x s) (children_of m (suc count) a) (node_of m high count a) done) →
           RootTold x s₀ s₁ o r (write_root e n (node_of m l n a₀) o)
       rooting_end s₁ r T = rw top (root_after x s₀ w o here D.wrote T)
 
@@ -234,25 +236,25 @@ module _ (t : DatomOrd) (x : Extent) (s : List ℕ) (l m n : ℕ) (a : List ℕ)
   abbrev tops : Stage PageId
   tops = root_of (env_of t x s) (children_of m (suc n) a) (node_of m l n a) o
 
-  pub top_one : n ≡ 0 → (x.count + length o) * x.size ≤ length s → RootTold x s s o (rooted.Root (child_at m a 0) (length o)) tops
+  pub top_one : n ≡ 0 → (x.count + length o) * x.size ≤ length s → RootTold x s s o (Ok (rooted (child_at m a 0) (length o))) tops
   top_one h room =
       tell_root (child_at m a 0) [] (length o)
       (one_child (env_of t x s) m n a (node_of m l n a) o h ∙ ap (λ (os : List Node). go (child_at m a 0) os) (sym (append-nil o))) (omega arith)
       (wrote_none x s (length o) room)
 
   module _ (h : 0 < n) where
-    pub top_put : (s₁ : List ℕ) (id : PageId) → PutTold x s s₁ (node_of m l n a) o (put.Placed id) (put (env_of t x s) (node_of m l n a) o) →
-        RootTold x s s₁ o (rooted.Root id (length o + 1)) tops
+    pub top_put : (s₁ : List ℕ) (id : PageId) → PutTold x s s₁ (node_of m l n a) o (Ok id) (put (env_of t x s) (node_of m l n a) o) →
+        RootTold x s s₁ o (Ok (rooted id (length o + 1))) tops
     top_put s₁ id T =
         let u = put_is T in
         tell_root id (node_of m l n a ∷ []) (length o + 1) (more_children (env_of t x s) m n a (node_of m l n a) o h ∙ u.0) (omega arith) u.1
 
-    pub top_refused : (s₁ : List ℕ) (r : Refusal) → PutTold x s s₁ (node_of m l n a) o (put.Failed r) (put (env_of t x s) (node_of m l n a) o) →
-        (x.count + length o) * x.size ≤ length s → RootTold x s s₁ o (rooted.Failed r (length o)) tops
-    top_refused s₁ r T room =
+    pub top_refused : (s₁ : List ℕ) (f : Failed) → PutTold x s s₁ (node_of m l n a) o (Err f) (put (env_of t x s) (node_of m l n a) o) →
+        (x.count + length o) * x.size ≤ length s → RootTold x s s₁ o (Err f) tops
+    top_refused s₁ f T room =
         let u = put_is_not T in
-        tell_no_root r [] (length o)
-        (more_children (env_of t x s) m n a (node_of m l n a) o h ∙ u.0 ∙ ap (λ (os : List Node). stop r os) (sym (append-nil o))) (omega arith)
+        tell_no_root f.refusal [] f.written
+        (more_children (env_of t x s) m n a (node_of m l n a) o h ∙ u.0 ∙ ap (λ (os : List Node). stop f.refusal os) (sym (append-nil o))) (omega (arith, u.2))
         (rw u.1 (wrote_none x s (length o) room))
 
 -- the loop, whatever the order and whatever was written before
@@ -281,7 +283,7 @@ module _ {x : Extent} {s₀ : List ℕ} {c w l m n : ℕ} {a₀ s a : List ℕ} 
   whole t o = write_root (env_of t x s₀) n (node_of m l n a₀) o
 
   pub rises_end :
-      count ≤ capacity x.size → (s₁ : List ℕ) (r : Rooted) →
+      count ≤ capacity x.size → (s₁ : List ℕ) (r : Result Rooted Failed) →
       ((t : DatomOrd) → Roots x s s₁ next r (root_of (env_of t x s) (children_of m (suc count) a) (node_of m high count a))) →
       (t : DatomOrd) → Roots x s₀ s₁ w r (whole t)
   rises_end fits s₁ r T t o e =
@@ -290,13 +292,13 @@ module _ {x : Extent} {s₀ : List ℕ} {c w l m n : ℕ} {a₀ s a : List ℕ} 
 
   module _ (over : capacity x.size < count) where
     pub rises_stop :
-        (s₁ a₁ : List ℕ) (r : Refusal) (v : ℕ) → ((t : DatomOrd) → Tells x s s₁ m a₁ next (inserted.Failed r v) (split (env_of t x s) (node_of m high count a))) →
-        (t : DatomOrd) → Roots x s₀ s₁ w (rooted.Failed r v) (whole t)
+        (s₁ a₁ : List ℕ) (r : Refusal) (v : ℕ) → ((t : DatomOrd) → Tells x s s₁ m a₁ next (Err (failed r v)) (split (env_of t x s) (node_of m high count a))) →
+        (t : DatomOrd) → Roots x s₀ s₁ w (Err (failed r v)) (whole t)
     rises_stop s₁ a₁ r v T t o e =
         let D = I.all t o e in
         rooting_stop t x s₀ w l m n a₀ o e D over s₁ r v (stopped (T t (o ++ D.new) (rooting_count t x s₀ w l m n a₀ o e D)))
 
-    module _ (s₁ a₁ : List ℕ) (k v : ℕ) (T : (t : DatomOrd) → Tells x s s₁ m a₁ next (inserted.Placed k v) (split (env_of t x s) (node_of m high count a))) where
+    module _ (s₁ a₁ : List ℕ) (k v : ℕ) (T : (t : DatomOrd) → Tells x s s₁ m a₁ next (Ok (placed k v)) (split (env_of t x s) (node_of m high count a))) where
       pos : 0 < capacity x.size
       pos = (in_order x s rises_ready.good).known.some
 

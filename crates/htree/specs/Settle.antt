@@ -2,7 +2,7 @@
 use Prim.Native.Nat.{ℕ, suc, ◌+◌, ◌*◌, ◌≤◌, ◌<◌}
 use Rattle.std.proofs.Common.{le-mul_of_pos_right, arith, ◌∙◌, lt-ltb, le-ltb}
 use mathlib.Core.List.{List, [], ◌∷◌, append-nil}
-use Rattle.std.specs.Prelude.{◌≡◌, length}
+use Rattle.std.specs.Prelude.{◌≡◌, length, Ok, Err}
 use Rattle.store.specs.declared.PageId.{PageId}
 use Rattle.store.specs.declared.Extent.{Extent}
 use Rattle.store.specs.Words.{cells, patch}
@@ -11,13 +11,12 @@ use Rattle.store.specs.Size.{capacity}
 use Rattle.store.specs.Laws.{cells_length}
 use Rattle.datom.specs.Datom.{datom_of}
 use Rattle.index.specs.Order.{DatomOrd}
-use Rattle.answer.specs.declared.Refusal.{Refusal}
 use Rattle.rules.specs.Page.{Node, node_of}
 use Rattle.rules.specs.Tree.{go, then, put, split, is_over, settle}
 use Rattle.rules.specs.Store.{env_of}
 use Rattle.memory_store.specs.FetchLaws.{in_order}
 use Rattle.node.specs.Parts.{splitting_start, splitting_end}
-use Rattle.htree.specs.declared.place.Put.TheVariants as put
+use Rattle.htree.specs.declared.place.Failed.{Failed}
 use Rattle.htree.specs.Told.{Ready, PutTold, put_is, put_is_not, Went, Stopped}
 use Rattle.htree.specs.Wrote.{wrote_none}
 
@@ -39,7 +38,7 @@ module _ (t : DatomOrd) (x : Extent) (s : List ℕ) (m l n : ℕ) (a : List ℕ)
     one_page = rw (le-ltb (capacity x.size) (length (cells datom_of 32 n a)) (omega (arith, cells_length datom_of 32 n a)))
 
     pub settle_put :
-        (s₁ : List ℕ) (id : PageId) → PutTold x s s₁ (node_of m l n a) o (put.Placed id) (put (env_of t x s) (node_of m l n a) o) →
+        (s₁ : List ℕ) (id : PageId) → PutTold x s s₁ (node_of m l n a) o (Ok id) (put (env_of t x s) (node_of m l n a) o) →
         Went x s s₁ m (patch a (32 * m + 8 * 0) (page_bytes id)) o 0 (length o + 1) (settle (env_of t x s) (node_of m l n a) o)
     unfolding then
     settle_put s₁ id T =
@@ -55,14 +54,14 @@ module _ (t : DatomOrd) (x : Extent) (s : List ℕ) (m l n : ℕ) (a : List ℕ)
         }
 
     pub settle_refused :
-        (s₁ : List ℕ) (r : Refusal) → PutTold x s s₁ (node_of m l n a) o (put.Failed r) (put (env_of t x s) (node_of m l n a) o) →
-        (x.count + length o) * x.size ≤ length s → Stopped x s s₁ o r (length o) (settle (env_of t x s) (node_of m l n a) o)
+        (s₁ : List ℕ) (f : Failed) → PutTold x s s₁ (node_of m l n a) o (Err f) (put (env_of t x s) (node_of m l n a) o) →
+        (x.count + length o) * x.size ≤ length s → Stopped x s s₁ o f.refusal f.written (settle (env_of t x s) (node_of m l n a) o)
     unfolding then
-    settle_refused s₁ r T room =
+    settle_refused s₁ f T room =
         let u = put_is_not T in
         record {
           new = [];
           stage = one_page ∙ rw (u.0, append-nil);
-          count = omega arith;
+          count = omega (arith, u.2);
           wrote = rw u.1 (wrote_none x s (length o) room);
         }

@@ -4,7 +4,7 @@ use Rattle.std.proofs.Math.Nat.{sub-zero, div-add-mod}
 use Rattle.std.proofs.Common.{zero-add, zero-mul, add_assoc, mod-lt, le-mul_of_pos_right, add-one, sym, ◌∙◌, length-take}
 use native.Mathlib.Omega.{arith}
 use mathlib.Core.List.{List, [], ◌∷◌, ◌++◌, append_assoc, append-nil}
-use Rattle.std.specs.Prelude.{◌≡◌, refl, length, take, drop}
+use Rattle.std.specs.Prelude.{◌≡◌, refl, length, take, drop, Result, Ok, Err}
 use Rattle.std.proofs.Math.Path.{ap}
 use Rattle.std.proofs.Math.ListN.{length-append}
 use Rattle.store.specs.declared.PageId.{PageId}
@@ -25,8 +25,7 @@ use Rattle.rules.specs.Store.{env_of}
 use Rattle.rules.proofs.SplitLaws.{share_some, share_most, shares}
 use Rattle.memory_store.specs.FetchLaws.{in_order}
 use Rattle.node.specs.Parts.{Splitting, parts_step, between_step, splitting_on, splitting_end, splitting_start, parts_start, between_start, share_left, share_inner, share_next}
-use Rattle.htree.specs.declared.place.Put.{Put}
-use Rattle.htree.specs.declared.place.Put.TheVariants as put
+use Rattle.htree.specs.declared.place.Failed.{Failed}
 use Rattle.htree.specs.Wrote.{Wrote, wrote_none, wrote_more, wrote_length, wrote_bad, wrote_env}
 use Rattle.htree.specs.Told.{any_order, blanks, blanks_length, Ready, PutTold, Puts, put_is, put_is_not, Went, Stopped}
 
@@ -159,25 +158,25 @@ module _ (t : DatomOrd) (x : Extent) (s₀ : List ℕ) (w l m n : ℕ) (a₀ : L
 
     -- the next part is refused
     pub halfway_stop :
-        p < P → (s₁ : List ℕ) (f : Refusal) → PutTold x s s₁ part done (put.Failed f) (put (env_of t x s) part done) →
-        Stopped x s₀ s₁ o f next (split e (node_of m l n a₀) o)
+        p < P → (s₁ : List ℕ) (f : Failed) → PutTold x s s₁ part done (Err f) (put (env_of t x s) part done) →
+        Stopped x s₀ s₁ o f.refusal f.written (split e (node_of m l n a₀) o)
     unfolding env_of
     halfway_stop h s₁ f T =
         let u = put_is_not T in
-        let v : put e part done ≡ stop f done = rw (wrote_env x s₀ w H.wrote t) at u.0 in
+        let v : put e part done ≡ stop f.refusal done = rw (wrote_env x s₀ w H.wrote t) at u.0 in
         record {
           new = H.new;
           stage =
-              split_stopped e (node_of m l n a₀) o f done
-              (H.stage ∙ ap (λ (ns : List Node). prefixed H.ids (put_all e ns done)) (left h) ∙ all_stop e H.ids part (rest h) done f done v);
-          count = rw (H.count, here);
+              split_stopped e (node_of m l n a₀) o f.refusal done
+              (H.stage ∙ ap (λ (ns : List Node). prefixed H.ids (put_all e ns done)) (left h) ∙ all_stop e H.ids part (rest h) done f.refusal done v);
+          count = omega (arith, u.2, done_count, H.count, here);
           wrote = rw (u.1, here) H.wrote;
         }
 
     -- the next part is written, and another follows
     pub halfway_on :
         p + 1 < P → n ≤ m → 40 * m + 8 ≤ length a₀ → (s₁ : List ℕ) (id : PageId) →
-        PutTold x s s₁ part done (put.Placed id) (put (env_of t x s) part done) →
+        PutTold x s s₁ part done (Ok id) (put (env_of t x s) part done) →
         Halfway t x s₀ w l m n P q r a₀ o s₁
         (patch (patch a (32 * p) (take 32 (drop (32 * (i + k - 1)) a))) (32 * m + 8 * p) (page_bytes id)) (p + 1) (i + k) (next + 1)
     halfway_on h fit big s₁ id T =
@@ -212,7 +211,7 @@ module _ (t : DatomOrd) (x : Extent) (s₀ : List ℕ) (w l m n : ℕ) (a₀ : L
     -- and once it is written the area holds the node that goes up
     pub halfway_end :
         p + 1 ≡ P → r < P → n ≤ m → 40 * m + 8 ≤ length a₀ → (s₁ : List ℕ) (id : PageId) →
-        PutTold x s s₁ part done (put.Placed id) (put (env_of t x s) part done) →
+        PutTold x s s₁ part done (Ok id) (put (env_of t x s) part done) →
         Went x s₀ s₁ m (patch a (32 * m + 8 * p) (page_bytes id)) o p (next + 1) (split e (node_of m l n a₀) o)
     unfolding env_of node_of
     halfway_end h f fit big s₁ id T =
@@ -238,9 +237,9 @@ module _ (t : DatomOrd) (x : Extent) (s₀ : List ℕ) (w l m n : ℕ) (a₀ : L
         }
 
 -- one part of a split: the page, and what becomes of the area
-pub record Parted (x : Extent) (s s₁ : List ℕ) (w l m n p i k : ℕ) (a a₁ : List ℕ) (r : Put) : Type 0 where
+pub record Parted (x : Extent) (s s₁ : List ℕ) (w l m n p i k : ℕ) (a a₁ : List ℕ) (r : Result PageId Failed) : Type 0 where
   pub page : Puts x s s₁ w (part_of i (k - 1) (node_of m l n a)) r
-  pub area : (id : PageId) → r ≡ put.Placed id → a₁ ≡ patch (patch a (32 * p) (take 32 (drop (32 * (i + k - 1)) a))) (32 * m + 8 * p) (page_bytes id)
+  pub area : (id : PageId) → r ≡ Ok id → a₁ ≡ patch (patch a (32 * p) (take 32 (drop (32 * (i + k - 1)) a))) (32 * m + 8 * p) (page_bytes id)
 
 -- how a node that is over C is divided: P parts of q children, r of them with one more
 pub record Divided (c n P q r : ℕ) : Type 0 where
@@ -341,7 +340,7 @@ module _ {x : Extent} {s₀ : List ℕ} {c w l : ℕ} {a₀ : List ℕ} {m n P q
 
   module _ (fit : n ≤ m) (big : 40 * m + 8 ≤ length a₀) where
     pub looping_on :
-        (k : ℕ) → k ≡ share q (r - p) → p + 1 < P → (s₁ a₁ : List ℕ) (id : PageId) → Parted x s s₁ next l m n p i k a a₁ (put.Placed id) →
+        (k : ℕ) → k ≡ share q (r - p) → p + 1 < P → (s₁ a₁ : List ℕ) (id : PageId) → Parted x s s₁ next l m n p i k a a₁ (Ok id) →
         Looping x s₀ c w l a₀ m n P q r s₁ a₁ (p + 1) (i + k) (next + 1)
     looping_on k e h s₁ a₁ id T =
         record {
@@ -356,7 +355,7 @@ module _ {x : Extent} {s₀ : List ℕ} {c w l : ℕ} {a₀ : List ℕ} {m n P q
         }
 
     pub looping_end :
-        p + 1 ≡ P → (s₁ : List ℕ) (id : PageId) → Puts x s s₁ next (part_of i (n - i) (node_of m l n a)) (put.Placed id) → (t : DatomOrd) (o : List Node) → length o ≡ w →
+        p + 1 ≡ P → (s₁ : List ℕ) (id : PageId) → Puts x s s₁ next (part_of i (n - i) (node_of m l n a)) (Ok id) → (t : DatomOrd) (o : List Node) → length o ≡ w →
         Went x s₀ s₁ m (patch a (32 * m + 8 * p) (page_bytes id)) o p (next + 1) (split (env_of t x s₀) (node_of m l n a₀) o)
     looping_end h s₁ id T t o here =
         let H = L.half t o here in
@@ -364,16 +363,16 @@ module _ {x : Extent} {s₀ : List ℕ} {c w l : ℕ} {a₀ : List ℕ} {m n P q
         (rw (← (looping_last h).0) at (T t (o ++ H.new) (done_count t x s₀ w l m n a₀ o here H L.divided.full)))
 
   pub looping_stop :
-      (k : ℕ) → k ≡ share q (r - p) → (s₁ a₁ : List ℕ) (f : Refusal) → Parted x s s₁ next l m n p i k a a₁ (put.Failed f) → (t : DatomOrd) (o : List Node) → length o ≡ w →
-      Stopped x s₀ s₁ o f next (split (env_of t x s₀) (node_of m l n a₀) o)
+      (k : ℕ) → k ≡ share q (r - p) → (s₁ a₁ : List ℕ) (f : Failed) → Parted x s s₁ next l m n p i k a a₁ (Err f) → (t : DatomOrd) (o : List Node) → length o ≡ w →
+      Stopped x s₀ s₁ o f.refusal f.written (split (env_of t x s₀) (node_of m l n a₀) o)
   looping_stop k e s₁ a₁ f T t o here =
       let H = L.half t o here in
       halfway_stop t x s₀ w l m n a₀ o here H L.divided.full L.left s₁ f
       (rw e at (T.page t (o ++ H.new) (done_count t x s₀ w l m n a₀ o here H L.divided.full)))
 
   pub looping_refused :
-      p + 1 ≡ P → (s₁ : List ℕ) (f : Refusal) → Puts x s s₁ next (part_of i (n - i) (node_of m l n a)) (put.Failed f) → (t : DatomOrd) (o : List Node) → length o ≡ w →
-      Stopped x s₀ s₁ o f next (split (env_of t x s₀) (node_of m l n a₀) o)
+      p + 1 ≡ P → (s₁ : List ℕ) (f : Failed) → Puts x s s₁ next (part_of i (n - i) (node_of m l n a)) (Err f) → (t : DatomOrd) (o : List Node) → length o ≡ w →
+      Stopped x s₀ s₁ o f.refusal f.written (split (env_of t x s₀) (node_of m l n a₀) o)
   looping_refused h s₁ f T t o here =
       let H = L.half t o here in
       halfway_stop t x s₀ w l m n a₀ o here H L.divided.full L.left s₁ f

@@ -11,21 +11,15 @@ ghost use Rattle.htree.specs.Load.{Loads, batch_at};
 ghost use Rattle.htree.specs.Flush.{insert_lower};
 
 use crate::place;
-use crate::place::Inserted;
+use crate::place::{Failed, Placed};
 use answer::{Fault, Refusal};
 use index::Index;
 use memory_store::found;
 use node::Merged;
 use store::{Extent, PageId};
 
-// A page merged with a batch into the area, of so many datoms; or what is wrong with the page.
-#[derive(Clone, Copy)]
-pub enum Loaded {
-    Node(usize),
-    Faulty(Fault),
-}
-
-// Page `page`, which was opened at this level, is merged into the area with the batch of n datoms that lies behind it.
+// Page `page`, which was opened at this level, is merged into the area with the batch of n datoms that lies behind it: of so many datoms
+// then, or what is wrong with the page.
 fn load(
     store: &[u8],
     extent: Extent,
@@ -38,19 +32,15 @@ fn load(
     n: usize,
     by: Index,
     heap: &[u8],
-) -> Loaded
+) -> Result<usize, Fault>
     requires { (bad_store extent store.now ≡ false) × (c ≡ capacity extent.size) × (c + n ≤ m) × (40 * m + 8 + 32 * n ≤ length s.old) × (opened ≡ opened_of (fetch_at (env_of (order_in by heap.now) extent store.now) level page)) }
     ensures { Loads (order_in by heap.now) extent store.now level page s.old m n s.new result }
 {
-    match opened {
-        Err(fault) => Loaded::Faulty(fault),
-        Ok(k) => {
-            let part = memory_store::part_of(store, extent, page);
-            match node::merge(part, c, k, s, m, 40 * m + 8, n, by, heap) {
-                Merged::Whole => Loaded::Node(k + n),
-                Merged::Met => Loaded::Faulty(Fault::EqualDatoms),
-            }
-        }
+    let k = opened?;
+    let part = memory_store::part_of(store, extent, page);
+    match node::merge(part, c, k, s, m, 40 * m + 8, n, by, heap) {
+        Merged::Whole => Ok(k + n),
+        Merged::Met => Err(Fault::EqualDatoms),
     }
 }
 
@@ -70,34 +60,24 @@ pub fn insert_into(
     n: usize,
     by: Index,
     heap: &[u8],
-) -> Inserted
+) -> Result<Placed, Failed>
     requires { Ready extent store.old c written × ((level + 1) * c + n ≤ m) × ((level + 1) * (40 * m + 8) + 32 * m ≤ length s.old) × (opened ≡ opened_of (fetch_at (env_of (order_in by heap.now) extent store.old) level page)) }
     ensures { Tells extent store.old store.new m s.new written result (insert_into (env_of (order_in by heap.now) extent store.old) level page (batch_at m n s.old)) }
 {
-    match load(store, extent, c, level, page, opened, s, m, n, by, heap) {
-        Loaded::Faulty(fault) => Inserted::Failed {
-            refusal: Refusal::Damaged(page, fault),
-            written,
-        },
-        Loaded::Node(count) => {
-            if level == 0 {
-                return place::settle(store, extent, c, written, level, s, m, count);
-            }
-            match drain(store, extent, c, written, level, s, m, count, by, heap) {
-                Inserted::Placed {
-                    datoms,
-                    written: next,
-                } => place::settle(store, extent, c, next, level, s, m, datoms),
-                Inserted::Failed {
-                    refusal,
-                    written: next,
-                } => Inserted::Failed {
-                    refusal,
-                    written: next,
-                },
-            }
+    let count = match load(store, extent, c, level, page, opened, s, m, n, by, heap) {
+        Ok(count) => count,
+        Err(fault) => {
+            return Err(Failed {
+                refusal: Refusal::Damaged(page, fault),
+                written,
+            });
         }
+    };
+    if level == 0 {
+        return place::settle(store, extent, c, written, level, s, m, count);
     }
+    let left = drain(store, extent, c, written, level, s, m, count, by, heap)?;
+    place::settle(store, extent, c, left.written, level, s, m, left.datoms)
 }
 
 // Flushes while the node of n datoms in the area is over c and has pending datoms. Each flush sends at least one datom down, so the
@@ -114,50 +94,32 @@ fn drain(
     n: usize,
     by: Index,
     heap: &[u8],
-) -> Inserted
+) -> Result<Placed, Failed>
     requires { Ready extent store.old c written × (0 < level) × (level * c + n ≤ m) × ((level + 1) * (40 * m + 8) + 32 * m ≤ length s.old) }
     ensures { Tells extent store.old store.new m s.new written result (flush_all (env_of (order_in by heap.now) extent store.old) (insert_lower (order_in by heap.now) extent store.old level) n (node_of m level n s.old)) }
 {
-    let mut turns = n;
-    let mut count = n;
-    let mut next = written;
-    while 0 < turns {
-        if count <= c {
-            return Inserted::Placed {
-                datoms: count,
-                written: next,
-            };
+    let mut left = Placed { datoms: n, written };
+    for turn in 0..n {
+        if left.datoms <= c {
+            return Ok(left);
         }
-        if !node::has_pending(s, m, count) {
-            return Inserted::Placed {
-                datoms: count,
-                written: next,
-            };
+        if !node::has_pending(s, m, left.datoms) {
+            return Ok(left);
         }
-        match flush(store, extent, c, next, level, s, m, count, by, heap) {
-            Inserted::Placed {
-                datoms,
-                written: now,
-            } => {
-                count = datoms;
-                next = now;
-            }
-            Inserted::Failed {
-                refusal,
-                written: now,
-            } => {
-                return Inserted::Failed {
-                    refusal,
-                    written: now,
-                };
-            }
-        }
-        turns -= 1;
+        left = flush(
+            store,
+            extent,
+            c,
+            left.written,
+            level,
+            s,
+            m,
+            left.datoms,
+            by,
+            heap,
+        )?;
     }
-    Inserted::Placed {
-        datoms: count,
-        written: next,
-    }
+    Ok(left)
 }
 
 // Sends the longest pending span into the child that ends it; what comes back takes its place.
@@ -173,7 +135,7 @@ fn flush(
     n: usize,
     by: Index,
     heap: &[u8],
-) -> Inserted
+) -> Result<Placed, Failed>
     requires { Ready extent store.old c written × (0 < level) × (level * c + n ≤ m) × ((level + 1) * (40 * m + 8) + 32 * m ≤ length s.old) }
     ensures { Tells extent store.old store.new m s.new written result (flush (insert_lower (order_in by heap.now) extent store.old level) (node_of m level n s.old)) }
 {
@@ -185,7 +147,7 @@ fn flush(
     let opened = found::open_at(store, extent, c, lower, child, by, heap);
     let own = 40 * m + 8;
     node::move_span(s, 32 * from, own + own, upto - from);
-    match insert_into(
+    let back = insert_into(
         store,
         extent,
         c,
@@ -198,23 +160,10 @@ fn flush(
         upto - from,
         by,
         heap,
-    ) {
-        Inserted::Placed {
-            datoms,
-            written: next,
-        } => {
-            node::splice(s, m, n, from, upto, datoms);
-            Inserted::Placed {
-                datoms: n - (upto - from) + datoms,
-                written: next,
-            }
-        }
-        Inserted::Failed {
-            refusal,
-            written: next,
-        } => Inserted::Failed {
-            refusal,
-            written: next,
-        },
-    }
+    )?;
+    node::splice(s, m, n, from, upto, back.datoms);
+    Ok(Placed {
+        datoms: n - (upto - from) + back.datoms,
+        written: back.written,
+    })
 }

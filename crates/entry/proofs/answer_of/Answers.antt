@@ -3,10 +3,10 @@ use mathlib.Core.Path.{sym, ap}
 use Rattle.entry.specs.Reply.{answer_of}
 use Rattle.entry.proofs.answer_of.Goals as goal
 
-pub returns-in-Root : goal.returns-in-Root
+pub returns-in-Ok : goal.returns-in-Ok
 unfolding answer_of
-returns-in-Root c = sym (ap answer_of c.in-Root.is)
+returns-in-Ok c = sym (ap answer_of c.in-Ok.is)
 
-pub returns-in-Failed : goal.returns-in-Failed
+pub returns-in-Err : goal.returns-in-Err
 unfolding answer_of
-returns-in-Failed c = sym (ap answer_of c.in-Failed.is)
+returns-in-Err c = sym (ap answer_of c.in-Err.is)

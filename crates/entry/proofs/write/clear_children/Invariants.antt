@@ -1,9 +1,5 @@
-use Prim.Native.Nat.{◌+◌, ◌-◌, ◌≤◌}
 use Rattle.entry.specs.Leaf.{Cleared}
 use Rattle.entry.proofs.write.clear_children.Given as goal
 
 abbrev pub invariant-loop-i : goal.invariant-loop-i
-invariant-loop-i l = Cleared l.m l.i l.initial.s l.s × (l.i ≤ l.n + 1)
-
-abbrev pub decreases-loop-i : goal.decreases-loop-i
-decreases-loop-i l = l.n + 1 - l.i
+invariant-loop-i l = Cleared l.m l.i l.initial.s l.s

@@ -1,6 +1,7 @@
 -- `under` meets its contract: the batch lies behind the area, and what comes back is the top. Assumes nothing.
 use native.Mathlib.Omega.{arith}
 use Prim.Native.Nat.{◌+◌, ◌*◌}
+use Rattle.std.proofs.lemmas.Result.{err_from_is_err_and}
 use Rattle.datom.specs.Datom.{datoms_of}
 use Rattle.index.specs.Order.{order_in}
 use Rattle.memory_store.specs.Readable.{opens}
@@ -65,22 +66,23 @@ write_root-requires c =
     let R = P.roomy in
     let low = (opens (order_in a.by a.heap.now) a.extent a.store.now a.root a.level a.count R.good c.requires.1).low in
     let m = c.room_for-m.ensures in
-    (raise_ready (order_in a.by a.heap.now) _ _ a.level _ _ _ 0 _ _ _ _ (rw c.in-Placed.is at c.insert_into.ensures) (roomy_ready R), omega (arith, roomy_area R _ m), raise_few (order_in a.by a.heap.now) _ _ a.level _ _ _ 0 _ _ _ _ (rw c.in-Placed.is at c.insert_into.ensures), omega (arith, low))
+    (raise_ready (order_in a.by a.heap.now) _ _ a.level _ _ _ 0 _ _ _ _ c.in_ok-up.ensures (roomy_ready R), omega (arith, roomy_area R _ m), raise_few (order_in a.by a.heap.now) _ _ a.level _ _ _ 0 _ _ _ _ c.in_ok-up.ensures, omega (arith, low))
 
-pub returns-in-Placed : goal.returns-in-Placed
-returns-in-Placed c =
+pub returns : goal.returns
+returns c =
     let a = c.args in
     let P = c.requires.0 in
     let R = P.roomy in
     let m = c.room_for-m.ensures in
-    let T = rw (batch_put a.n (40 * c.room_for-m.result + 8) a.s.now a.b.now (omega (arith, roomy_area R _ m)) P.batch) at (rw c.put.ensures at (rw c.in-Placed.is at c.insert_into.ensures)) in
+    let T = rw (batch_put a.n (40 * c.room_for-m.result + 8) a.s.now a.b.now (omega (arith, roomy_area R _ m)) P.batch) at (rw c.put.ensures at c.in_ok-up.ensures) in
     raise_goes (order_in a.by a.heap.now) a.extent a.store.now a.level _ a.root (datoms_of a.n a.b.now) 0 _ _ _ _ T _ _ (c.write_root.ensures (order_in a.by a.heap.now))
 
-pub returns-in-Failed : goal.returns-in-Failed
-returns-in-Failed c =
+pub returns-in_err-up : goal.returns-in_err-up
+returns-in_err-up c =
     let a = c.args in
     let P = c.requires.0 in
     let R = P.roomy in
     let m = c.room_for-m.ensures in
-    let T = rw (batch_put a.n (40 * c.room_for-m.result + 8) a.s.now a.b.now (omega (arith, roomy_area R _ m)) P.batch) at (rw c.put.ensures at (rw c.in-Failed.is at c.insert_into.ensures)) in
-    raise_stops (order_in a.by a.heap.now) a.extent a.store.now a.level _ a.root (datoms_of a.n a.b.now) 0 _ _ _ _ T
+    let T = rw (batch_put a.n (40 * c.room_for-m.result + 8) a.s.now a.b.now (omega (arith, roomy_area R _ m)) P.batch) at (rw c.put.ensures at c.in_err-up.ensures) in
+    let q = err_from_is_err_and c.from_residual.result c.from_residual.ensures.1 in
+    rw (q.1, q.2) (raise_stops (order_in a.by a.heap.now) a.extent a.store.now a.level _ a.root (datoms_of a.n a.b.now) 0 _ _ _ _ T)

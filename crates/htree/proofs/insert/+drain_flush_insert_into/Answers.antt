@@ -1,88 +1,66 @@
 -- `insert_into`, `drain` and `flush` meet their contracts: the level falls at each round of the cycle. Assumes nothing.
-use Prim.Native.Nat.{◌+◌, ◌*◌}
-use native.Mathlib.Nat.{add-mul, one-mul}
+use Prim.Native.Nat.{◌+◌, ◌-◌, ◌*◌}
+use native.Mathlib.Nat.{sub-zero, add-mul, one-mul}
 use native.Mathlib.Omega.{arith}
-use mathlib.Core.Path.{sym, ◌∙◌}
+use mathlib.Core.Path.{◌≡◌, sym, ◌∙◌}
 use lib.ListN.{length, length-take, length-drop}
+use Rattle.std.proofs.lemmas.Result.{err_from_is_err_and}
 use Rattle.index.specs.Order.{order_in}
-use Rattle.htree.specs.Cycle.{rooms, area_fits, lower, drains_start, drains_ready, drains_length, drains_small, drains_sent, drains_none, drains_on, drains_stop, flush_fails, flush_back, flush_done, insert_bad, loads_few, insert_flat, insert_stops, went_ready, went_few, insert_goes}
+use Rattle.htree.specs.Cycle.{rooms, area_fits, lower, drains_start, drains_ready, drains_small, drains_sent, drains_none, drains_on, drains_stop, flush_fails, flush_back, flush_done, insert_bad, loads_few, insert_flat, insert_stops, went_ready, went_few, insert_goes}
 use Rattle.htree.proofs.insert.+drain_flush_insert_into.Goals as goal
 
-pub drain-loop-turns-init : goal.drain-loop-turns-init
-drain-loop-turns-init t c = let a = c.args in drains_start (order_in a.by a.heap.now) _ _ _ _ _ _ _ _ c.requires.0
+pub drain-loop-turn-init : goal.drain-loop-turn-init
+drain-loop-turn-init t c = let a = c.args in rw sub-zero (drains_start (order_in a.by a.heap.now) _ _ _ _ _ _ _ _ c.requires.0)
 
-pub drain-shape_of-store-then-count-c : goal.drain-shape_of-store-then-count-c
-drain-shape_of-store-then-count-c t c = omega (arith, drains_length c.loop-turns.invariant)
-
-pub drain-shape_of-s-then-count-c : goal.drain-shape_of-s-then-count-c
-drain-shape_of-s-then-count-c t c = omega (arith, c.loop-turns.invariant.same)
-
-pub drain-returns-then-count-c : goal.drain-returns-then-count-c
-drain-returns-then-count-c t c =
+pub drain-returns-then-left-c : goal.drain-returns-then-left-c
+drain-returns-then-left-c t c =
     let a = c.args in
-    let I = c.loop-turns.invariant in
+    let I = c.loop-turn.invariant in
     let P = c.requires in
     λ o e. drains_small I (omega (arith, P.2)) o e (omega (arith, P.0.cap))
 
 pub drain-has_pending-requires : goal.drain-has_pending-requires
 drain-has_pending-requires t c =
     let a = c.args in
-    let I = c.loop-turns.invariant in
+    let I = c.loop-turn.invariant in
     let P = c.requires in
     (omega (arith, I.same, area_fits a.level (40 * a.m + 8) (32 * a.m) (length a.s.now) P.3), omega (arith, I.few, P.2))
-
-pub drain-shape_of-store-then-not-has_pending : goal.drain-shape_of-store-then-not-has_pending
-drain-shape_of-store-then-not-has_pending t c = omega (arith, drains_length c.loop-turns.invariant)
-
-pub drain-shape_of-s-then-not-has_pending : goal.drain-shape_of-s-then-not-has_pending
-drain-shape_of-s-then-not-has_pending t c = omega (arith, c.loop-turns.invariant.same)
 
 pub drain-returns-then-not-has_pending : goal.drain-returns-then-not-has_pending
 drain-returns-then-not-has_pending t c =
     let a = c.args in
-    let I = c.loop-turns.invariant in
+    let I = c.loop-turn.invariant in
     let P = c.requires in
     λ o e. drains_sent I (omega (arith, P.2)) o e (sym c.has_pending.ensures ∙ c.if-not-has_pending.true)
 
 pub drain-flush-requires : goal.drain-flush-requires
 drain-flush-requires t c =
     let a = c.args in
-    let I = c.loop-turns.invariant in
+    let I = c.loop-turn.invariant in
     let P = c.requires in
     (omega arith, (drains_ready I, P.1, omega (arith, I.few, P.2), omega (arith, I.same, P.3)))
 
-pub drain-shape_of-store-in-Failed : goal.drain-shape_of-store-in-Failed
-drain-shape_of-store-in-Failed t c = omega (arith, drains_length c.loop-turns.invariant)
-
-pub drain-shape_of-s-in-Failed : goal.drain-shape_of-s-in-Failed
-drain-shape_of-s-in-Failed t c = omega (arith, c.loop-turns.invariant.same)
-
-pub drain-returns-in-Failed : goal.drain-returns-in-Failed
-drain-returns-in-Failed t c =
-    let a = c.args in
-    let I = c.loop-turns.invariant in
+pub drain-returns-in_err-left : goal.drain-returns-in_err-left
+drain-returns-in_err-left t c =
+    let I = c.loop-turn.invariant in
     let P = c.requires in
-    drains_stop I (omega arith) (omega (arith, P.0.cap)) (sym c.has_pending.ensures ∙ c.if-not-has_pending.false) _ _ _ _
-    (rw c.in-Failed.is at c.flush.ensures)
+    let q = err_from_is_err_and c.from_residual.result c.from_residual.ensures.1 in
+    rw (q.1, q.2)
+    (drains_stop I (omega arith) (omega (arith, P.0.cap)) (sym c.has_pending.ensures ∙ c.if-not-has_pending.false) _ _ _ _ c.in_err-left.ensures)
 
-pub drain-loop-turns-preserved : goal.drain-loop-turns-preserved
-drain-loop-turns-preserved t c =
+pub drain-loop-turn-preserved : goal.drain-loop-turn-preserved
+drain-loop-turn-preserved t c =
     let a = c.args in
-    let I = c.loop-turns.invariant in
+    let I = c.loop-turn.invariant in
     let P = c.requires in
-    drains_on I (omega arith) (omega (arith, P.0.cap)) (sym c.has_pending.ensures ∙ c.if-not-has_pending.false) _ _ _ _
-    (rw c.in-Placed.is at c.flush.ensures) (omega arith)
-
-pub drain-shape_of-store : goal.drain-shape_of-store
-drain-shape_of-store t c = omega (arith, drains_length c.loop-turns.invariant)
-
-pub drain-shape_of-s : goal.drain-shape_of-s
-drain-shape_of-s t c = omega (arith, c.loop-turns.invariant.same)
+    let fewer : a.n - (c.loop-turn.turn + 1) ≡ a.n - c.loop-turn.turn - 1 = omega arith in
+    rw fewer
+    (drains_on I (omega arith) (omega (arith, P.0.cap)) (sym c.has_pending.ensures ∙ c.if-not-has_pending.false) _ _ _ _ c.in_ok-left.ensures (omega arith))
 
 pub drain-returns : goal.drain-returns
 drain-returns t c =
     let a = c.args in
-    let I = c.loop-turns.invariant in
+    let I = c.loop-turn.invariant in
     let P = c.requires in
     λ o e. drains_none I (omega (arith, P.2)) o e (omega arith)
 
@@ -190,7 +168,7 @@ flush-splice-requires t c =
     let P = c.requires in
     let g = rooms a.level (40 * a.m + 8) (32 * a.m) (length a.s.now) P.1 P.3 in
     let Q = c.longest_pending_span-span.ensures in
-    let T = rw (c.move_span.ensures, c.child_at-child.ensures, c.in-Placed.is) at c.insert_into.ensures in
+    let T = rw (c.move_span.ensures, c.child_at-child.ensures) at c.in_ok-back.ensures in
     let J = flush_back a.extent a.store.now a.c a.written a.level a.m a.n a.s.now P.0 c.longest_pending_span-span.result Q (omega (arith, P.2)) (omega arith) (order_in a.by a.heap.now) _ _ _ _ T in
     (omega (arith, J, Q.rises), (Q.within, (omega (arith, P.2), omega arith)))
 
@@ -202,8 +180,8 @@ flush-overflow_sub-result t c =
     let Q = c.longest_pending_span-span.ensures in
     omega (arith, Q.rises)
 
-pub flush-overflow_sub-result-in-Placed : goal.flush-overflow_sub-result-in-Placed
-flush-overflow_sub-result-in-Placed t c =
+pub flush-overflow_sub-result-2 : goal.flush-overflow_sub-result-2
+flush-overflow_sub-result-2 t c =
     let a = c.args in
     let P = c.requires in
     let g = rooms a.level (40 * a.m + 8) (32 * a.m) (length a.s.now) P.1 P.3 in
@@ -216,32 +194,34 @@ flush-overflow_add-result t c =
     let P = c.requires in
     let g = rooms a.level (40 * a.m + 8) (32 * a.m) (length a.s.now) P.1 P.3 in
     let Q = c.longest_pending_span-span.ensures in
-    let T = rw (c.move_span.ensures, c.child_at-child.ensures, c.in-Placed.is) at c.insert_into.ensures in
+    let T = rw (c.move_span.ensures, c.child_at-child.ensures) at c.in_ok-back.ensures in
     omega (arith, flush_back a.extent a.store.now a.c a.written a.level a.m a.n a.s.now P.0 c.longest_pending_span-span.result Q (omega (arith, P.2)) (omega arith) (order_in a.by a.heap.now) _ _ _ _ T, Q.rises, Q.within, c.ranges.n.fits)
 
-pub flush-returns-in-Placed : goal.flush-returns-in-Placed
-flush-returns-in-Placed t c =
+pub flush-returns : goal.flush-returns
+flush-returns t c =
     let a = c.args in
     let P = c.requires in
     let g = rooms a.level (40 * a.m + 8) (32 * a.m) (length a.s.now) P.1 P.3 in
     let Q = c.longest_pending_span-span.ensures in
-    let T = rw (c.move_span.ensures, c.child_at-child.ensures, c.in-Placed.is) at c.insert_into.ensures in
+    let T = rw (c.move_span.ensures, c.child_at-child.ensures) at c.in_ok-back.ensures in
     flush_done a.extent a.store.now a.c a.written a.level a.m a.n a.s.now P.0 c.longest_pending_span-span.result Q (omega (arith, P.2)) (omega arith) (order_in a.by a.heap.now) _ _ _ _ _ T (rw c.move_span.ensures at c.splice.ensures)
 
-pub flush-returns-in-Failed : goal.flush-returns-in-Failed
-flush-returns-in-Failed t c =
+pub flush-returns-in_err-back : goal.flush-returns-in_err-back
+flush-returns-in_err-back t c =
     let a = c.args in
     let P = c.requires in
     let g = rooms a.level (40 * a.m + 8) (32 * a.m) (length a.s.now) P.1 P.3 in
     let Q = c.longest_pending_span-span.ensures in
-    let T = rw (c.move_span.ensures, c.child_at-child.ensures, c.in-Failed.is) at c.insert_into.ensures in
-    flush_fails a.extent a.store.now a.c a.written a.level a.m a.n a.s.now P.0 c.longest_pending_span-span.result Q (omega (arith, P.2)) (omega arith) (order_in a.by a.heap.now) _ _ _ _ _ T
+    let T = rw (c.move_span.ensures, c.child_at-child.ensures) at c.in_err-back.ensures in
+    let q = err_from_is_err_and c.from_residual.result c.from_residual.ensures.1 in
+    rw (q.1, q.2)
+    (flush_fails a.extent a.store.now a.c a.written a.level a.m a.n a.s.now P.0 c.longest_pending_span-span.result Q (omega (arith, P.2)) (omega arith) (order_in a.by a.heap.now) _ _ _ _ _ T)
 
 pub insert_into-settle-requires : goal.insert_into-settle-requires
 insert_into-settle-requires t c =
     let a = c.args in
     let P = c.requires in
-    let L = rw c.in-Node.is at c.load.ensures in
+    let L = c.in-Ok.ensures in
     let f = area_fits a.level (40 * a.m + 8) (32 * a.m) (length a.s.now) P.2 in
     let g = area_fits a.level a.c a.n a.m P.1 in
     let h = loads_few (order_in a.by a.heap.now) a.extent a.store.now a.c a.written a.level a.page a.s.now a.m a.n _ L in (P.0, omega arith, omega (arith, P.0.cap))
@@ -250,7 +230,7 @@ pub insert_into-returns-then-level-eq0 : goal.insert_into-returns-then-level-eq0
 insert_into-returns-then-level-eq0 t c =
     let a = c.args in
     let P = c.requires in
-    let L = rw c.in-Node.is at c.load.ensures in
+    let L = c.in-Ok.ensures in
     let f = area_fits a.level (40 * a.m + 8) (32 * a.m) (length a.s.now) P.2 in
     let g = area_fits a.level a.c a.n a.m P.1 in
     let h = loads_few (order_in a.by a.heap.now) a.extent a.store.now a.c a.written a.level a.page a.s.now a.m a.n _ L in
@@ -260,46 +240,48 @@ pub insert_into-drain-requires : goal.insert_into-drain-requires
 insert_into-drain-requires t c =
     let a = c.args in
     let P = c.requires in
-    let L = rw c.in-Node.is at c.load.ensures in
+    let L = c.in-Ok.ensures in
     let f = area_fits a.level (40 * a.m + 8) (32 * a.m) (length a.s.now) P.2 in
     let g = area_fits a.level a.c a.n a.m P.1 in
     let h = loads_few (order_in a.by a.heap.now) a.extent a.store.now a.c a.written a.level a.page a.s.now a.m a.n _ L in
     let k = add-mul a.level 1 a.c in
     (omega arith, (P.0, omega arith, omega (arith, P.0.cap, P.1, one-mul a.c), omega (arith, P.2)))
 
-pub insert_into-settle-requires-in-Placed : goal.insert_into-settle-requires-in-Placed
-insert_into-settle-requires-in-Placed t c =
+pub insert_into-settle-requires-2 : goal.insert_into-settle-requires-2
+insert_into-settle-requires-2 t c =
     let a = c.args in
     let P = c.requires in
-    let L = rw c.in-Node.is at c.load.ensures in
+    let L = c.in-Ok.ensures in
     let f = area_fits a.level (40 * a.m + 8) (32 * a.m) (length a.s.now) P.2 in
     let g = area_fits a.level a.c a.n a.m P.1 in
     let h = loads_few (order_in a.by a.heap.now) a.extent a.store.now a.c a.written a.level a.page a.s.now a.m a.n _ L in
-    let T = rw c.in-Placed.is at c.drain.ensures in
+    let T = c.in_ok-left.ensures in
     (went_ready (order_in a.by a.heap.now) a.extent a.store.now a.c a.written a.level a.page a.s.now a.m a.n _ L (omega arith) _ _ _ _ T P.0, omega arith, went_few (order_in a.by a.heap.now) a.extent a.store.now a.c a.written a.level a.page a.s.now a.m a.n _ L (omega arith) _ _ _ _ T)
 
-pub insert_into-returns-in-Faulty : goal.insert_into-returns-in-Faulty
-insert_into-returns-in-Faulty t c =
+pub insert_into-returns-in-Err : goal.insert_into-returns-in-Err
+insert_into-returns-in-Err t c =
     let a = c.args in
-    insert_bad (order_in a.by a.heap.now) a.extent a.store.now a.c a.written a.level a.page a.s.now a.m a.n _ c.requires.0 _ (rw c.in-Faulty.is at c.load.ensures) _
+    insert_bad (order_in a.by a.heap.now) a.extent a.store.now a.c a.written a.level a.page a.s.now a.m a.n _ c.requires.0 _ (c.in-Err.ensures) _
 
-pub insert_into-returns-in-Placed : goal.insert_into-returns-in-Placed
-insert_into-returns-in-Placed t c =
+pub insert_into-returns : goal.insert_into-returns
+insert_into-returns t c =
     let a = c.args in
     let P = c.requires in
-    let L = rw c.in-Node.is at c.load.ensures in
+    let L = c.in-Ok.ensures in
     let f = area_fits a.level (40 * a.m + 8) (32 * a.m) (length a.s.now) P.2 in
     let g = area_fits a.level a.c a.n a.m P.1 in
     let h = loads_few (order_in a.by a.heap.now) a.extent a.store.now a.c a.written a.level a.page a.s.now a.m a.n _ L in
-    let T = rw c.in-Placed.is at c.drain.ensures in
-    insert_goes (order_in a.by a.heap.now) a.extent a.store.now a.c a.written a.level a.page a.s.now a.m a.n _ L (omega arith) _ _ _ _ T _ _ _ (c.settle-in-Placed.ensures (order_in a.by a.heap.now))
+    let T = c.in_ok-left.ensures in
+    insert_goes (order_in a.by a.heap.now) a.extent a.store.now a.c a.written a.level a.page a.s.now a.m a.n _ L (omega arith) _ _ _ _ T _ _ _ (c.settle-2.ensures (order_in a.by a.heap.now))
 
-pub insert_into-returns-in-Failed : goal.insert_into-returns-in-Failed
-insert_into-returns-in-Failed t c =
+pub insert_into-returns-in_err-left : goal.insert_into-returns-in_err-left
+insert_into-returns-in_err-left t c =
     let a = c.args in
     let P = c.requires in
-    let L = rw c.in-Node.is at c.load.ensures in
+    let L = c.in-Ok.ensures in
     let f = area_fits a.level (40 * a.m + 8) (32 * a.m) (length a.s.now) P.2 in
     let g = area_fits a.level a.c a.n a.m P.1 in
     let h = loads_few (order_in a.by a.heap.now) a.extent a.store.now a.c a.written a.level a.page a.s.now a.m a.n _ L in
-    insert_stops (order_in a.by a.heap.now) a.extent a.store.now a.c a.written a.level a.page a.s.now a.m a.n _ L (omega arith) _ _ _ _ (rw c.in-Failed.is at c.drain.ensures)
+    let q = err_from_is_err_and c.from_residual.result c.from_residual.ensures.1 in
+    rw (q.1, q.2)
+    (insert_stops (order_in a.by a.heap.now) a.extent a.store.now a.c a.written a.level a.page a.s.now a.m a.n _ L (omega arith) _ _ _ _ c.in_err-left.ensures)

@@ -1,6 +1,7 @@
 -- `load` meets its contract: what the page was opened as, and what the merge leaves, in the rules' words. Assumes nothing.
 use native.Mathlib.Omega.{arith}
 use mathlib.Core.Path.{sym, ◌∙◌}
+use Rattle.std.proofs.lemmas.Result.{err_from_is_err_and}
 use Rattle.index.specs.Order.{order_in}
 use Rattle.node.specs.Merge.{is_whole, is_met_law}
 use Rattle.htree.specs.Load.{load_faulty, load_opens, load_met, load_whole}
@@ -10,14 +11,14 @@ use Rattle.htree.proofs.insert.load.Goals as goal
 pub part_of-part-requires : goal.part_of-part-requires
 part_of-part-requires c =
     let a = c.args in
-    let e = sym c.in-Ok.is ∙ c.requires.4 in
+    let e = sym c.in_ok-k.was ∙ c.requires.4 in
     let O = load_opens (order_in a.by a.heap.now) a.extent a.store.now a.level a.page a.s.now a.m a.n _ c.requires.0 e in
     (c.requires.0, O.used)
 
 pub merge-requires : goal.merge-requires
 merge-requires c =
     let a = c.args in
-    let e = sym c.in-Ok.is ∙ c.requires.4 in
+    let e = sym c.in_ok-k.was ∙ c.requires.4 in
     let O = load_opens (order_in a.by a.heap.now) a.extent a.store.now a.level a.page a.s.now a.m a.n _ c.requires.0 e in (
       rw c.part_of-part.ensures (omega (arith, O.wide, c.requires.1)),
       (omega (arith, O.few, c.requires.1), (search rules, (omega (arith, O.few, c.requires.1), search rules))),
@@ -26,19 +27,20 @@ merge-requires c =
 pub overflow_add-result : goal.overflow_add-result
 overflow_add-result c =
     let a = c.args in
-    let e = sym c.in-Ok.is ∙ c.requires.4 in
+    let e = sym c.in_ok-k.was ∙ c.requires.4 in
     let O = load_opens (order_in a.by a.heap.now) a.extent a.store.now a.level a.page a.s.now a.m a.n _ c.requires.0 e in
     omega (arith, O.few, c.requires.1)
 
-pub returns-in-Err : goal.returns-in-Err
-returns-in-Err c =
+pub returns-in_err-k : goal.returns-in_err-k
+returns-in_err-k c =
     let a = c.args in
-    load_faulty (order_in a.by a.heap.now) a.extent a.store.now a.level a.page a.s.now a.m a.n _ (sym c.in-Err.is ∙ c.requires.4)
+    let q = err_from_is_err_and c.from_residual.result c.from_residual.ensures.1 in
+    rw (q.1, q.2) (load_faulty (order_in a.by a.heap.now) a.extent a.store.now a.level a.page a.s.now a.m a.n _ (sym c.in_err-k.was ∙ c.requires.4))
 
 pub returns-in-Whole : goal.returns-in-Whole
 returns-in-Whole c =
     let a = c.args in
-    let e = sym c.in-Ok.is ∙ c.requires.4 in
+    let e = sym c.in_ok-k.was ∙ c.requires.4 in
     let M = rw c.part_of-part.ensures at c.merge.ensures in
     load_whole (order_in a.by a.heap.now) a.extent a.store.now a.level a.page a.s.now a.m a.n _ c.requires.0 e _ M.same
     (is_whole _ (sym M.answer ∙ c.in-Whole.is)) (rw c.requires.1 at (M.node c.in-Whole.is a.level))
@@ -46,7 +48,7 @@ returns-in-Whole c =
 pub returns-in-Met : goal.returns-in-Met
 returns-in-Met c =
     let a = c.args in
-    let e = sym c.in-Ok.is ∙ c.requires.4 in
+    let e = sym c.in_ok-k.was ∙ c.requires.4 in
     let M = rw c.part_of-part.ensures at c.merge.ensures in
     load_met (order_in a.by a.heap.now) a.extent a.store.now a.level a.page a.s.now a.m a.n _ c.requires.0 e _ M.same
     (is_met_law _ (sym M.answer ∙ c.in-Met.is))

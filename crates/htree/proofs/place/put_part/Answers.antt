@@ -15,7 +15,7 @@ use Rattle.htree.proofs.place.put_part.Goals as goal
 
 pub returns-then-level-ge8 : goal.returns-then-level-ge8
 unfolding part_of node_of
-returns-then-level-ge8 c = λ t o e. put_tall t _ _ _ o c.if-level-ge8.true
+returns-then-level-ge8 c = λ t o e. rw (← e) (put_tall t _ _ _ o c.if-level-ge8.true)
 
 pub nonzero_div-room : goal.nonzero_div-room
 nonzero_div-room c =
@@ -31,7 +31,7 @@ overflow_sub-room c =
 
 pub returns-then-room-written : goal.returns-then-room-written
 unfolding part_of node_of
-returns-then-room-written c = λ t o e. put_full t _ _ _ o (omega arith) (omega arith)
+returns-then-room-written c = λ t o e. rw (← e) (put_full t _ _ _ o (omega arith) (omega arith))
 
 pub write_page-requires : goal.write_page-requires
 write_page-requires c =

@@ -1,8 +1,10 @@
 -- `split` meets its contract: the loop stands halfway, whatever was written before, and the last part ends it. Assumes nothing.
-use Rattle.htree.specs.Split.{looping_length, looping_next, looping_on, looping_end, looping_stop, looping_refused, divided, halfway_start, looping_ready, looping_same, looping_few, looping_share, looping_inner, looping_last}
+use Rattle.htree.specs.Split.{looping_next, looping_on, looping_end, looping_stop, looping_refused, divided, halfway_start, looping_ready, looping_same, looping_few, looping_share, looping_inner, looping_last}
+use Rattle.std.proofs.lemmas.Result.{err_from_is_err_and}
 use borrow.Author.Rules.{rules}
 use native.Mathlib.Omega.{arith}
-use mathlib.Core.Path.{refl}
+use mathlib.Core.Path.{◌≡◌, refl}
+use Prim.Native.Nat.{◌+◌, ◌-◌, ◌/◌}
 use Rattle.memory_store.specs.FetchLaws.{in_order}
 use Rattle.htree.specs.Told.{tell_went, tell_stopped}
 use Rattle.htree.proofs.place.split.Goals as goal
@@ -51,6 +53,13 @@ nonzero_rem-more c =
     let K = (in_order a.extent a.store.now R.good).known in
     let D = divided a.c a.n _ _ _ (omega (arith, K.some, R.cap)) (omega arith) refl refl refl in omega (arith, D.some)
 
+pub overflow_sub-last : goal.overflow_sub-last
+overflow_sub-last c =
+    let a = c.args in
+    let R = c.requires.0 in
+    let K = (in_order a.extent a.store.now R.good).known in
+    let D = divided a.c a.n _ _ _ (omega (arith, K.some, R.cap)) (omega arith) refl refl refl in omega (arith, D.some)
+
 pub loop-p-init : goal.loop-p-init
 loop-p-init c =
     let a = c.args in
@@ -63,11 +72,6 @@ loop-p-init c =
       begun = R;
       left = D.some;
     }
-
-pub overflow_add-p : goal.overflow_add-p
-overflow_add-p c =
-    let a = c.args in
-    let I = c.loop-p.invariant in omega (arith, I.left, I.divided.most)
 
 pub share_of-k-requires : goal.share_of-k-requires
 share_of-k-requires c =
@@ -98,35 +102,18 @@ overflow_add-i c =
     let R = looping_ready I in
     let K = (in_order a.extent c.loop-p.store R.good).known in omega (arith, looping_inner I (omega arith), c.share_of-k.ensures)
 
-pub overflow_add-p-in-Placed : goal.overflow_add-p-in-Placed
-overflow_add-p-in-Placed c =
-    let a = c.args in
-    let I = c.loop-p.invariant in omega (arith, I.divided.most)
-
-pub loop-p-smaller : goal.loop-p-smaller
-loop-p-smaller c = omega arith
-
 pub loop-p-preserved : goal.loop-p-preserved
 loop-p-preserved c =
     let a = c.args in
     let I = c.loop-p.invariant in
-    looping_on I (omega arith) (omega arith) _ c.share_of-k.ensures (omega arith) _ _ _ (rw c.in-Placed.is at c.split_part.ensures)
+    looping_on I (omega arith) (omega arith) _ c.share_of-k.ensures (omega arith) _ _ _ c.in_ok-split_part.ensures
 
-pub shape_of-store-in-Failed : goal.shape_of-store-in-Failed
-shape_of-store-in-Failed c =
-    let a = c.args in
-    let I = c.loop-p.invariant in omega (arith, looping_length I)
-
-pub shape_of-s-in-Failed : goal.shape_of-s-in-Failed
-shape_of-s-in-Failed c =
-    let a = c.args in
-    let I = c.loop-p.invariant in omega (arith, looping_same I)
-
-pub returns-in-Failed : goal.returns-in-Failed
-returns-in-Failed c =
-    let a = c.args in
+pub returns-in_err-split_part : goal.returns-in_err-split_part
+returns-in_err-split_part c =
     let I = c.loop-p.invariant in
-    λ t o e. tell_stopped (looping_stop I _ c.share_of-k.ensures _ _ _ (rw c.in-Failed.is at c.split_part.ensures) t o e)
+    let q = err_from_is_err_and c.from_residual.result c.from_residual.ensures.1 in
+    rw (q.1, q.2)
+    (λ t o e. tell_stopped (looping_stop I _ c.share_of-k.ensures _ _ _ c.in_err-split_part.ensures t o e))
 
 pub overflow_sub-n : goal.overflow_sub-n
 overflow_sub-n c =
@@ -150,39 +137,18 @@ overflow_add-result c =
     let a = c.args in
     let I = c.loop-p.invariant in omega (arith, looping_next I)
 
-pub shape_of-store-in-Placed-put_part : goal.shape_of-store-in-Placed-put_part
-shape_of-store-in-Placed-put_part c =
-    let a = c.args in
-    let I = c.loop-p.invariant in omega (arith, looping_length I)
-
-pub shape_of-s-in-Placed-put_part : goal.shape_of-s-in-Placed-put_part
-shape_of-s-in-Placed-put_part c =
-    let a = c.args in
-    let I = c.loop-p.invariant in omega (arith, looping_same I)
-
-pub returns-in-Placed-put_part : goal.returns-in-Placed-put_part
-returns-in-Placed-put_part c =
+pub returns : goal.returns
+returns c =
     let a = c.args in
     let I = c.loop-p.invariant in
+    let z : (a.n + (a.c - 1)) / a.c - 1 ≡ c.loop-p.p = omega (arith, I.left) in
     λ t o e.
-    rw c.put_child.ensures
-    (tell_went (looping_end I (omega arith) (omega arith) (omega (arith, I.left)) _ _
-    (λ t₁ o₁ e₁. rw c.in-Placed-put_part.is at (c.put_part.ensures t₁ o₁ e₁)) t o e))
+    rw (c.put_child.ensures, z)
+    (tell_went (looping_end I (omega arith) (omega arith) (omega (arith, I.left)) _ _ c.in_ok-id.ensures t o e))
 
-pub shape_of-store-in-Failed-put_part : goal.shape_of-store-in-Failed-put_part
-shape_of-store-in-Failed-put_part c =
-    let a = c.args in
-    let I = c.loop-p.invariant in omega (arith, looping_length I)
-
-pub shape_of-s-in-Failed-put_part : goal.shape_of-s-in-Failed-put_part
-shape_of-s-in-Failed-put_part c =
-    let a = c.args in
-    let I = c.loop-p.invariant in omega (arith, looping_same I)
-
-pub returns-in-Failed-put_part : goal.returns-in-Failed-put_part
-returns-in-Failed-put_part c =
-    let a = c.args in
+pub returns-in_err-id : goal.returns-in_err-id
+returns-in_err-id c =
     let I = c.loop-p.invariant in
-    λ t o e.
-    tell_stopped (looping_refused I (omega (arith, I.left)) _ _
-    (λ t₁ o₁ e₁. rw c.in-Failed-put_part.is at (c.put_part.ensures t₁ o₁ e₁)) t o e)
+    let q = err_from_is_err_and c.from_residual-in_err-id.result c.from_residual-in_err-id.ensures.1 in
+    rw (q.1, q.2)
+    (λ t o e. tell_stopped (looping_refused I (omega (arith, I.left)) _ _ c.in_err-id.ensures t o e))

@@ -1,9 +1,5 @@
 use Rattle.htree.specs.Split.{Looping}
-use Prim.Native.Nat.{◌-◌}
 use Rattle.htree.proofs.place.split.Given as goal
 
 abbrev pub invariant-loop-p : goal.invariant-loop-p
 invariant-loop-p l = Looping l.extent l.initial.store l.c l.written l.level l.initial.s l.m l.n l.pages l.each l.more l.store l.s l.p l.i l.next
-
-abbrev pub decreases-loop-p : goal.decreases-loop-p
-decreases-loop-p l = l.pages - l.p

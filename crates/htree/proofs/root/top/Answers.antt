@@ -1,5 +1,6 @@
 -- `top` meets its contract: one child is the root, several are written as the root. Assumes nothing.
 use native.Mathlib.Omega.{arith}
+use Rattle.std.proofs.lemmas.Result.{err_from_is_err_and}
 use Rattle.rules.proofs.SplitLaws.{whole_part}
 use Rattle.htree.specs.Settle.{ready_next}
 use Rattle.htree.specs.Root.{top_one, top_put, top_refused}
@@ -14,22 +15,22 @@ returns-then-n-eq0 c =
 
 pub overflow_add-result : goal.overflow_add-result
 overflow_add-result c =
-    let a = c.args in
     let R = c.requires.0 in
     omega (arith, ready_next R)
 
-pub returns-in-Placed : goal.returns-in-Placed
-returns-in-Placed c =
+pub returns : goal.returns
+returns c =
     let a = c.args in
-    let R = c.requires.0 in
     λ t o e.
-    let T = rw (whole_part a.m a.level a.n a.s.now, c.in-Placed.is) at (c.put_part.ensures t o e) in
+    let T = rw (whole_part a.m a.level a.n a.s.now) at (c.in_ok-root.ensures t o e) in
     rw (← e) (top_put t a.extent a.store.now a.level a.m a.n a.s.now o (omega arith) _ _ T)
 
-pub returns-in-Failed : goal.returns-in-Failed
-returns-in-Failed c =
+pub returns-in_err-root : goal.returns-in_err-root
+returns-in_err-root c =
     let a = c.args in
     let R = c.requires.0 in
-    λ t o e.
-    let T = rw (whole_part a.m a.level a.n a.s.now, c.in-Failed.is) at (c.put_part.ensures t o e) in
-    rw (← e) (top_refused t a.extent a.store.now a.level a.m a.n a.s.now o (omega arith) _ _ T (rw e R.room))
+    let q = err_from_is_err_and c.from_residual.result c.from_residual.ensures.1 in
+    rw (q.1, q.2)
+    (λ t o e.
+    let T = rw (whole_part a.m a.level a.n a.s.now) at (c.in_err-root.ensures t o e) in
+    top_refused t a.extent a.store.now a.level a.m a.n a.s.now o (omega arith) _ _ T (rw e R.room))

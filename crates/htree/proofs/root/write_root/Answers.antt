@@ -1,75 +1,52 @@
 -- `write_root` meets its contract: the loop rises, whatever was written before, and the top ends it. Assumes nothing.
 use native.Mathlib.Omega.{arith}
-use Rattle.htree.specs.Root.{rises_start, rises_ready, rises_length, rises_end, rises_stop, rises_fewer, rises_on}
+use Rattle.std.proofs.lemmas.Result.{err_from_is_err_and}
+use Rattle.htree.specs.Root.{rises_start, rises_ready, rises_end, rises_stop, rises_fewer, rises_on}
 use Rattle.htree.proofs.root.write_root.Goals as goal
 
-pub loop-count-init : goal.loop-count-init
-loop-count-init c =
+pub loop-up-init : goal.loop-up-init
+loop-up-init c =
     let a = c.args in
     rises_start a.extent a.store.now a.c a.written a.level a.m a.n a.s.now c.requires.0
 
 pub split-requires : goal.split-requires
 split-requires c =
     let a = c.args in
-    let I = c.loop-count.invariant in
+    let I = c.loop-up.invariant in
     (rises_ready I, omega (arith, I.same), omega (arith, I.few), omega arith)
 
 pub overflow_add-high : goal.overflow_add-high
 overflow_add-high c =
     let a = c.args in
-    let I = c.loop-count.invariant in
+    let I = c.loop-up.invariant in
     omega (arith, I.low)
 
-pub loop-count-smaller : goal.loop-count-smaller
-loop-count-smaller c =
+pub loop-up-smaller : goal.loop-up-smaller
+loop-up-smaller c =
     let a = c.args in
-    let I = c.loop-count.invariant in
-    rises_fewer I (omega (arith, I.begun.cap)) _ _ _ _ (rw c.in-Placed.is at c.split.ensures)
+    let I = c.loop-up.invariant in
+    rises_fewer I (omega (arith, I.begun.cap)) _ _ _ _ c.in_ok-up.ensures
 
-pub loop-count-preserved : goal.loop-count-preserved
-loop-count-preserved c =
+pub loop-up-preserved : goal.loop-up-preserved
+loop-up-preserved c =
     let a = c.args in
-    let I = c.loop-count.invariant in
-    rises_on I (omega (arith, I.begun.cap)) _ _ _ _ (rw c.in-Placed.is at c.split.ensures) (omega arith)
+    let I = c.loop-up.invariant in
+    rises_on I (omega (arith, I.begun.cap)) _ _ _ _ c.in_ok-up.ensures (omega arith)
 
-pub shape_of-store-in-Failed : goal.shape_of-store-in-Failed
-shape_of-store-in-Failed c =
-    let a = c.args in
-    let I = c.loop-count.invariant in
-    omega (arith, rises_length I)
-
-pub shape_of-s-in-Failed : goal.shape_of-s-in-Failed
-shape_of-s-in-Failed c =
-    let a = c.args in
-    let I = c.loop-count.invariant in
-    omega (arith, I.same)
-
-pub returns-in-Failed : goal.returns-in-Failed
-returns-in-Failed c =
-    let a = c.args in
-    let I = c.loop-count.invariant in
-    rises_stop I (omega (arith, I.begun.cap)) _ _ _ _ (rw c.in-Failed.is at c.split.ensures)
+pub returns-in_err-up : goal.returns-in_err-up
+returns-in_err-up c =
+    let I = c.loop-up.invariant in
+    let q = err_from_is_err_and c.from_residual.result c.from_residual.ensures.1 in
+    rw (q.1, q.2) (rises_stop I (omega (arith, I.begun.cap)) _ _ _ _ c.in_err-up.ensures)
 
 pub top-requires : goal.top-requires
 top-requires c =
     let a = c.args in
-    let I = c.loop-count.invariant in
+    let I = c.loop-up.invariant in
     (rises_ready I, omega (arith, I.same), omega (arith, I.few), omega arith)
-
-pub shape_of-store : goal.shape_of-store
-shape_of-store c =
-    let a = c.args in
-    let I = c.loop-count.invariant in
-    omega (arith, rises_length I)
-
-pub shape_of-s : goal.shape_of-s
-shape_of-s c =
-    let a = c.args in
-    let I = c.loop-count.invariant in
-    omega (arith, I.same)
 
 pub returns : goal.returns
 returns c =
     let a = c.args in
-    let I = c.loop-count.invariant in
+    let I = c.loop-up.invariant in
     rises_end I (omega (arith, I.begun.cap)) _ _ c.top.ensures

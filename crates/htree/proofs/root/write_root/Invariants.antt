@@ -1,8 +1,8 @@
 use Rattle.htree.specs.Root.{Rises}
 use Rattle.htree.proofs.root.write_root.Given as goal
 
-abbrev pub invariant-loop-count : goal.invariant-loop-count
-invariant-loop-count l = Rises l.extent l.initial.store l.c l.written l.level l.m l.n l.initial.s l.store l.s l.high l.count l.next
+abbrev pub invariant-loop-up : goal.invariant-loop-up
+invariant-loop-up l = Rises l.extent l.initial.store l.c l.written l.level l.m l.n l.initial.s l.store l.s l.high l.up.datoms l.up.written
 
-abbrev pub decreases-loop-count : goal.decreases-loop-count
-decreases-loop-count l = l.count
+abbrev pub decreases-loop-up : goal.decreases-loop-up
+decreases-loop-up l = l.up.datoms

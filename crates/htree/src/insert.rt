@@ -146,7 +146,7 @@ fn flush(
     let lower = level - 1;
     let opened = found::open_at(store, extent, c, lower, child, by, heap);
     let own = 40 * m + 8;
-    node::move_span(s, 32 * from, own + own, upto - from);
+    node::move_span::<32>(s, 32 * from, own + own, upto - from);
     let back = insert_into(
         store,
         extent,

@@ -45,6 +45,10 @@ FourOlder id s at =
     (older id (page (word_at s at)) ≡ true) × (older id (page (word_at s (at + 8))) ≡ true) × (older id (page (word_at s (at + 16))) ≡ true)
     × (older id (page (word_at s (at + 24))) ≡ true)
 
+-- an order lets every inline integer be stored
+abbrev pub LetsPlain : DatomOrd → Type 0
+LetsPlain t = (d : Datom) → d.value.0 < 2 ^ 62 → t.stored d ≡ true
+
 -- the rules of form and order say the same of the k datoms from index i on as from index j on
 abbrev pub SameFrom : DatomOrd → ℕ → List ℕ → ℕ → ℕ → Type 0
 SameFrom t k s i j =
@@ -101,7 +105,7 @@ module _ (h s : List ℕ) (at : ℕ) where
       )
 
 -- of an order that lets every inline integer be stored
-module _ (t : DatomOrd) (plain : (d : Datom) → d.value.0 < 2 ^ 62 → t.stored d ≡ true) (k : ℕ) (s : List ℕ) where
+module _ (t : DatomOrd) (plain : LetsPlain t) (k : ℕ) (s : List ℕ) where
   -- one datom further: it lies at byte a, its value at byte v
   plain_on : (i j a v : ℕ) → j ≡ i + 1 → a ≡ 32 * i → v ≡ 32 * i + 16 → j < k → Rises t s a → word_at s v < 2 ^ 62 → SameFrom t k s i j
   unfolding datom_at

@@ -39,18 +39,17 @@ pub fn next_midpoint(s: &[u8], m: usize, n: usize, from: usize) -> NextMidpoint
     requires { (n ≤ m) × (40 * m + 8 ≤ length s.now) }
     ensures { result ≡ next_midpoint (drop from (children_of m (suc n) s.now)) }
 {
-    let mut i = from;
-    while i <= n {
+    for i in from..n + 1 {
         let child = store::child_at(s, m, i);
         if !child.is_none() {
             return NextMidpoint::Child(child);
         }
-        i += 1;
     }
     NextMidpoint::Nothing
 }
 
-// The index of the first of k rising datoms that is not below d, by halving.
+// The index of the first of k rising datoms that is not below d, by halving. By hand, since `partition_point` is a method of a slice of
+// datoms, and these are bytes.
 pub fn first_not_below(s: &[u8], k: usize, d: Datom, by: Index, heap: &[u8]) -> usize
     requires { (32 * k ≤ length s.now) × (rising (order_in by heap.now).cmp (datoms_of k s.now) ≡ true) }
     ensures { result ≡ rank (order_in by heap.now).cmp d (datoms_of k s.now) }

@@ -29,13 +29,7 @@ pub fn is_bad(store: &[u8], extent: Extent) -> bool
 pub fn is_bad_root(extent: Extent, root: PageId) -> bool
     ensures { result ≡ bad_root extent root }
 {
-    if root.is_none() {
-        return false;
-    }
-    if extent.count <= root.0 {
-        return true;
-    }
-    false
+    !root.is_none() && extent.count <= root.0
 }
 
 // Whether a fetch is refused, and why.

@@ -3,11 +3,10 @@ ghost use Rattle.std.specs.Prelude.{◌≡◌, ℕ, ◌+◌, ◌*◌, ◌≤◌,
 ghost use Rattle.store.specs.Words.{word_at, cells};
 ghost use Rattle.store.specs.Page.{page, page_of};
 ghost use Rattle.datom.specs.Datom.{datom_at, datoms_of, stored_datom};
-ghost use Rattle.index.specs.declared.Index.TheVariants.{Eavt, Aevt, Avet};
-ghost use Rattle.index.specs.Order.{is_less, order_in};
+ghost use Rattle.index.specs.Order.{DatomOrd, is_less, order_in};
 ghost use Rattle.rules.specs.Page.{node_of, all, rising, older, child_rules, read_page};
 ghost use Rattle.memory_store.specs.Reading.{said};
-ghost use Rattle.memory_store.specs.Fours.{FourIntegers, WordsRise, FourWordsRise, FourOlder, SameFrom};
+ghost use Rattle.memory_store.specs.Fours.{FourIntegers, WordsRise, FourWordsRise, FourRise, LetsPlain, FourOlder, SameFrom};
 
 use crate::access;
 use answer::Rule;
@@ -39,13 +38,7 @@ fn words_rise(s: &[u8], p: usize, q: usize) -> bool
 {
     let first = store::word(s, p);
     let second = store::word(s, p + 32);
-    if first < second {
-        return true;
-    }
-    if first != second {
-        return false;
-    }
-    store::word(s, q) < store::word(s, q + 32)
+    first < second || (first == second && store::word(s, q) < store::word(s, q + 32))
 }
 
 // Whether the words at p and q of four datoms and of the one behind them do.
@@ -53,85 +46,40 @@ fn four_words_rise(s: &[u8], p: usize, q: usize) -> bool
     requires { (p + 136 ≤ length s.now) × (q + 136 ≤ length s.now) }
     ensures { result ≡ true → FourWordsRise s.now p q }
 {
-    if !words_rise(s, p, q) {
-        return false;
-    }
-    if !words_rise(s, p + 32, q + 32) {
-        return false;
-    }
-    if !words_rise(s, p + 64, q + 64) {
-        return false;
-    }
-    words_rise(s, p + 96, q + 96)
+    words_rise(s, p, q)
+        && words_rise(s, p + 32, q + 32)
+        && words_rise(s, p + 64, q + 64)
+        && words_rise(s, p + 96, q + 96)
 }
 
-// How many of the k datoms need no further look: four at a time, for as long as they are integers and rise by the first two words of the
-// order, so whatever the heap holds. Of most pages that leaves four datoms at most. A loop for each order, so that none asks in its turns
-// which it is.
-fn plain_front_eavt(s: &[u8], k: usize) -> usize
-    requires { 32 * k ≤ length s.now }
-    ensures { (result ≤ k) × ((h : List ℕ) → SameFrom (order_in Eavt h) k s.now 0 result) }
+// How many of the k datoms need no further look: four at a time, for as long as they are integers and `rise` tells from the byte where
+// they lie that they rise. Of most pages that leaves four datoms at most. Counted by hand, since the first four that need a look end it.
+fn plain_fours<F: Fn(usize) -> bool>(s: &[u8], k: usize, rise: F) -> usize
+    requires room { 32 * k ≤ length s.now }
+    requires safe { (at : ℕ) → at + 160 ≤ 32 * k → F.pre rise at }
+    ensures few { result ≤ k }
+    ensures same { (t : DatomOrd) → LetsPlain t → ((at : ℕ) → FourIntegers s.now at → F.post rise at true → FourRise t s.now at) → SameFrom t k s.now 0 result }
 {
     let mut i = 0;
-    while i + 4 < k {
-        if !four_integers(s, 32 * i) {
-            return i;
-        }
-        if !four_words_rise(s, 32 * i, 32 * i + 8) {
-            return i;
-        }
+    while i + 4 < k && four_integers(s, 32 * i) && rise(32 * i) {
         i += 4;
     }
     i
 }
 
-fn plain_front_aevt(s: &[u8], k: usize) -> usize
-    requires { 32 * k ≤ length s.now }
-    ensures { (result ≤ k) × ((h : List ℕ) → SameFrom (order_in Aevt h) k s.now 0 result) }
-{
-    let mut i = 0;
-    while i + 4 < k {
-        if !four_integers(s, 32 * i) {
-            return i;
-        }
-        if !four_words_rise(s, 32 * i + 8, 32 * i) {
-            return i;
-        }
-        i += 4;
-    }
-    i
-}
-
-// By value the datom behind the four must have an integer, too: a constant may have any content.
-fn plain_front_avet(s: &[u8], k: usize) -> usize
-    requires { 32 * k ≤ length s.now }
-    ensures { (result ≤ k) × ((h : List ℕ) → SameFrom (order_in Avet h) k s.now 0 result) }
-{
-    let mut i = 0;
-    while i + 4 < k {
-        if !four_integers(s, 32 * i) {
-            return i;
-        }
-        if Value::TAG_EXTERNAL <= store::word(s, 32 * i + 144) {
-            return i;
-        }
-        if !four_words_rise(s, 32 * i + 8, 32 * i + 16) {
-            return i;
-        }
-        i += 4;
-    }
-    i
-}
-
-// The same in a tree's order.
+// The same in a tree's order: datoms are seen to rise by the first two words of the order, so whatever the heap holds. A loop for each
+// order, so that none asks in its turns which it is.
 fn plain_front(s: &[u8], k: usize, by: Index) -> usize
     requires { 32 * k ≤ length s.now }
     ensures { (result ≤ k) × ((h : List ℕ) → SameFrom (order_in by h) k s.now 0 result) }
 {
     match by {
-        Index::Eavt => plain_front_eavt(s, k),
-        Index::Aevt => plain_front_aevt(s, k),
-        Index::Avet => plain_front_avet(s, k),
+        Index::Eavt => plain_fours(s, k, |at| four_words_rise(s, at, at + 8)),
+        Index::Aevt => plain_fours(s, k, |at| four_words_rise(s, at + 8, at)),
+        // The datom behind the four must have an integer, too: a constant may have any content.
+        Index::Avet => plain_fours(s, k, |at| {
+            store::word(s, at + 144) < Value::TAG_EXTERNAL && four_words_rise(s, at + 8, at + 16)
+        }),
     }
 }
 
@@ -140,13 +88,11 @@ fn all_stored(s: &[u8], from: usize, k: usize, heap: &[u8]) -> bool
     requires { 32 * k ≤ length s.now }
     ensures { result ≡ all (stored_datom heap.now) (drop from (datoms_of k s.now)) }
 {
-    let mut i = from;
-    while i < k {
+    for i in from..k {
         let value = Value(store::word(s, 32 * i + 16));
         if !value.is_stored(heap) {
             return false;
         }
-        i += 1;
     }
     true
 }
@@ -185,12 +131,10 @@ fn all_rising(s: &[u8], from: usize, k: usize, by: Index, heap: &[u8]) -> bool
     requires { (from ≤ k) × (32 * k ≤ length s.now) }
     ensures { result ≡ rising (order_in by heap.now).cmp (drop from (datoms_of k s.now)) }
 {
-    let mut i = from;
-    while i + 1 < k {
-        if !rises_at(s, 32 * i, by, heap) {
+    for next in from + 1..k {
+        if !rises_at(s, 32 * (next - 1), by, heap) {
             return false;
         }
-        i += 1;
     }
     true
 }
@@ -208,28 +152,19 @@ fn four_older(s: &[u8], at: usize, id: PageId) -> bool
     requires { at + 32 ≤ length s.now }
     ensures { result ≡ true → FourOlder id s.now at }
 {
-    if !is_older(s, at, id) {
-        return false;
-    }
-    if !is_older(s, at + 8, id) {
-        return false;
-    }
-    if !is_older(s, at + 16, id) {
-        return false;
-    }
-    is_older(s, at + 24, id)
+    is_older(s, at, id)
+        && is_older(s, at + 8, id)
+        && is_older(s, at + 16, id)
+        && is_older(s, at + 24, id)
 }
 
-// How many of n children need no further look, four at a time.
+// How many of n children need no further look, four at a time. Counted by hand, since the first four that need one end it.
 fn older_front(s: &[u8], at: usize, n: usize, id: PageId) -> usize
     requires { at + 8 * n ≤ length s.now }
     ensures { (result ≤ n) × (all (older id) (drop result (cells page_of 8 n (drop at s.now))) ≡ all (older id) (cells page_of 8 n (drop at s.now))) }
 {
     let mut i = 0;
-    while i + 4 <= n {
-        if !four_older(s, at + 8 * i, id) {
-            return i;
-        }
+    while i + 4 <= n && four_older(s, at + 8 * i, id) {
         i += 4;
     }
     i
@@ -240,12 +175,10 @@ fn all_older(s: &[u8], at: usize, n: usize, id: PageId) -> bool
     requires { at + 8 * n ≤ length s.now }
     ensures { result ≡ all (older id) (cells page_of 8 n (drop at s.now)) }
 {
-    let mut i = older_front(s, at, n, id);
-    while i < n {
+    for i in older_front(s, at, n, id)..n {
         if !is_older(s, at + 8 * i, id) {
             return false;
         }
-        i += 1;
     }
     true
 }

@@ -1,21 +1,12 @@
 -- `is_bad_root` meets its contract. Assumes nothing.
-use Rattle.memory_store.specs.FetchLaws.{root_none, root_past, root_given}
-use Rattle.std.proofs.Common.{sym, ◌∙◌}
+use Rattle.std.proofs.Common.{arith}
+use Rattle.rules.specs.Store.{bad_root}
 use Rattle.memory_store.proofs.is_bad_root.Goals as goal
 
-pub returns-then-is_none : goal.returns-then-is_none
-returns-then-is_none c = root_none c.args.extent c.args.root (sym c.is_none.ensures ∙ c.if-is_none.true)
+pub returns-then-not-is_none : goal.returns-then-not-is_none
+unfolding bad_root
+returns-then-not-is_none c = grind (arith, c.is_none.ensures, c.if-not-is_none.true)
 
-pub returns-then-extent-root : goal.returns-then-extent-root
-returns-then-extent-root c =
-    let a = c.args in
-    let is_none = c.is_none in
-    let if1 = c.if-is_none in
-    root_past a.extent a.root (sym is_none.ensures ∙ if1.false) c.if-extent-root.true
-
-pub returns : goal.returns
-returns c =
-    let a = c.args in
-    let is_none = c.is_none in
-    let if1 = c.if-is_none in
-    root_given a.extent a.root (sym is_none.ensures ∙ if1.false) c.if-extent-root.false
+pub returns-else-not-is_none : goal.returns-else-not-is_none
+unfolding bad_root
+returns-else-not-is_none c = grind (arith, c.is_none.ensures, c.if-not-is_none.false)

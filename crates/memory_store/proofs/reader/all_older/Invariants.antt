@@ -1,4 +1,4 @@
-use Rattle.std.proofs.Common.{◌≡◌, ◌-◌, drop}
+use Rattle.std.proofs.Common.{◌≡◌, drop}
 use Rattle.store.specs.Words.{cells}
 use Rattle.store.specs.Page.{page_of}
 use Rattle.rules.specs.Page.{all, older}
@@ -6,6 +6,3 @@ use Rattle.memory_store.proofs.reader.all_older.Given as goal
 
 abbrev pub invariant-loop-i : goal.invariant-loop-i
 invariant-loop-i l = all (older l.id) (drop l.i (cells page_of 8 l.n (drop l.at l.s))) ≡ all (older l.id) (cells page_of 8 l.n (drop l.at l.s))
-
-abbrev pub decreases-loop-i : goal.decreases-loop-i
-decreases-loop-i l = l.n - l.i

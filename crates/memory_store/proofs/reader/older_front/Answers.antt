@@ -6,14 +6,14 @@ use Rattle.memory_store.proofs.reader.older_front.Goals as goal
 pub loop-i-init : goal.loop-i-init
 loop-i-init c = (search rules, refl)
 
-pub returns-then-not-four_older : goal.returns-then-not-four_older
-returns-then-not-four_older c = c.loop-i.invariant
+pub returns-else-four_older : goal.returns-else-four_older
+returns-else-four_older c = c.loop-i.invariant
 
 pub loop-i-preserved : goal.loop-i-preserved
 loop-i-preserved c =
     let a = c.args in
     let l = c.loop-i in
-    (omega arith, sym (older_on a.id a.n a.at a.s.now l.i (omega arith) (c.four_older.ensures c.if-not-four_older.false)) ∙ l.invariant.1)
+    (omega arith, sym (older_on a.id a.n a.at a.s.now l.i (omega arith) (c.four_older.ensures c.if-four_older.true)) ∙ l.invariant.1)
 
-pub returns : goal.returns
-returns c = c.loop-i.invariant
+pub returns-after-loop-i : goal.returns-after-loop-i
+returns-after-loop-i c = c.loop-i.invariant

@@ -1,5 +1,5 @@
 -- The checks of the whole, in their order, and the root.
-use Rattle.std.specs.Prelude.{ℕ, true, false, List, ◌≡◌, refl}
+use Rattle.std.specs.Prelude.{ℕ, true, false, List, ◌≡◌, refl, None}
 use borrow.Author.Tests.{eq-eqb}
 use Rattle.store.specs.declared.PageId.{PageId}
 use Rattle.store.specs.declared.Extent.{Extent}
@@ -13,7 +13,6 @@ use Rattle.rules.specs.Tree.{faulty, fine, at_level}
 use Rattle.rules.specs.Store.{bad_store, bad_root, fetch_page}
 use Rattle.rules.specs.Check.{check_root, check_tree}
 use Rattle.memory_store.specs.Readable.{node_at}
-use Rattle.invariants.specs.declared.bound.Bound.TheVariants.{Nothing}
 use Rattle.invariants.specs.Bounds.{bound_of}
 use Rattle.invariants.specs.Walk.{check_page}
 
@@ -39,6 +38,6 @@ module _ (t : DatomOrd) (x : Extent) (s : List ℕ) (root : PageId) where
 
         pub check_read :
             (l k : ℕ) → fetch_page t x s root ≡ fine (node_at x s root l k) →
-            check_page t x s l root (bound_of Nothing) (bound_of Nothing) ≡ check_tree t x s root
+            check_page t x s l root (bound_of None) (bound_of None) ≡ check_tree t x s root
         unfolding check_tree check_root at_level node_of bound_of
         check_read l k e = rw (ok, known, real, e, eq-eqb l l refl)

@@ -8,19 +8,13 @@ ghost use Rattle.invariants.specs.Bounds.{bound_of, bound_at};
 use datom::Datom;
 use index::{Index, Order};
 
-#[derive(Clone, Copy)]
-pub enum Bound {
-    Nothing,
-    At(Datom),
-}
-
 // Whether a datom is above a lower bound.
-fn is_above(lower: Bound, d: Datom, by: Index, heap: &[u8]) -> bool
+fn is_above(lower: Option<Datom>, d: Datom, by: Index, heap: &[u8]) -> bool
     ensures { result ≡ above_lower (order_in by heap.now).cmp (bound_of lower) d }
 {
     match lower {
-        Bound::Nothing => true,
-        Bound::At(x) => match index::order_of(x, d, by, heap) {
+        None => true,
+        Some(x) => match index::order_of(x, d, by, heap) {
             Order::Less => true,
             Order::Equal => false,
             Order::Greater => false,
@@ -29,22 +23,22 @@ fn is_above(lower: Bound, d: Datom, by: Index, heap: &[u8]) -> bool
 }
 
 // Whether a lower bound is below an upper one.
-pub fn is_below(lower: Bound, upper: Bound, by: Index, heap: &[u8]) -> bool
+pub fn is_below(lower: Option<Datom>, upper: Option<Datom>, by: Index, heap: &[u8]) -> bool
     ensures { result ≡ below_upper (order_in by heap.now).cmp (bound_of lower) (bound_of upper) }
 {
     match upper {
-        Bound::Nothing => true,
-        Bound::At(y) => is_above(lower, y, by, heap),
+        None => true,
+        Some(y) => is_above(lower, y, by, heap),
     }
 }
 
 // What is above the child at index i of a page of k datoms: the datom at its index, and past the last the page's upper bound.
-pub fn bound_at(part: &[u8], k: usize, i: usize, upper: Bound) -> Bound
+pub fn bound_at(part: &[u8], k: usize, i: usize, upper: Option<Datom>) -> Option<Datom>
     requires { 32 * k ≤ length part.now }
     ensures { bound_of result ≡ bound_at (drop i (datoms_of k part.now)) (bound_of upper) }
 {
     if i < k {
-        return Bound::At(datom::datom_at(part, 32 * i));
+        return Some(datom::datom_at(part, 32 * i));
     }
     upper
 }

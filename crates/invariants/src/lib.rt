@@ -13,9 +13,10 @@ ghost use Rattle.rules.specs.Check.{check_at, check_tree};
 ghost use Rattle.rules.specs.Calls.{check_call};
 ghost use Rattle.memory_store.specs.Readable.{node_at};
 ghost use Rattle.invariants.specs.Bounds.{bound_of};
+ghost use Rattle.invariants.specs.Verdict.{verdict_of};
 
-use crate::bound::Bound;
-use answer::{Check, Fault, Refusal};
+use answer::{Check, Damage, Fault, Refusal};
+use datom::Datom;
 use index::Index;
 use memory_store::found;
 use ordered::Ordered;
@@ -31,41 +32,48 @@ fn check_at(
     level: usize,
     page: PageId,
     k: usize,
-    lower: Bound,
-    upper: Bound,
+    lower: Option<Datom>,
+    upper: Option<Datom>,
     by: Index,
     heap: &[u8],
-) -> Check
+) -> Result<(), Damage>
     requires { (bad_store extent store.now ≡ false) × (c ≡ capacity extent.size) × (fetch_page (order_in by heap.now) extent store.now page ≡ fine (node_at extent store.now page level k)) }
-    ensures { result ≡ check_at (order_in by heap.now).cmp (fetch_page (order_in by heap.now) extent store.now) level page (bound_of lower) (bound_of upper) (at_level level (fetch_page (order_in by heap.now) extent store.now page)) }
+    ensures { verdict_of result ≡ check_at (order_in by heap.now).cmp (fetch_page (order_in by heap.now) extent store.now) level page (bound_of lower) (bound_of upper) (at_level level (fetch_page (order_in by heap.now) extent store.now page)) }
 {
     let part = memory_store::fetch(store, extent, page);
-    let mut i = 0;
     let mut last = lower;
     let mut midpoint = lower;
-    while i <= k {
+    for i in 0..=k {
         let next = bound::bound_at(part, k, i, upper);
         if !bound::is_below(last, next, by, heap) {
-            return Check::Unsound(page, Fault::OutOfBounds);
+            return Err(Damage {
+                page,
+                fault: Fault::OutOfBounds,
+            });
         }
-        let child = store::child_at(part, c, i);
-        i += 1;
         last = next;
+        let child = store::child_at(part, c, i);
         if !child.is_none() {
             let low = level - 1;
             match found::open_at(store, extent, c, low, child, by, heap) {
-                Err(fault) => return Check::Unsound(child, fault),
-                Ok(n) => match check_at(store, extent, c, low, child, n, midpoint, next, by, heap) {
-                    Check::Sound => {
-                        midpoint = next;
-                    }
-                    Check::Unsound(at, fault) => return Check::Unsound(at, fault),
-                    Check::Refused(refusal) => return Check::Refused(refusal),
-                },
+                Err(fault) => return Err(Damage { page: child, fault }),
+                Ok(n) => {
+                    check_at(store, extent, c, low, child, n, midpoint, next, by, heap)?;
+                    midpoint = next;
+                }
             }
         }
     }
-    Check::Sound
+    Ok(())
+}
+
+fn verdict(walked: Result<(), Damage>) -> Check
+    ensures { result ≡ verdict_of walked }
+{
+    match walked {
+        Ok(()) => Check::Sound,
+        Err(damage) => Check::Unsound(damage.page, damage.fault),
+    }
 }
 
 // Whether the tree under a root is sound, or the first fault and its page. Document 01: "the check checks 1, 5", "Root "none" is
@@ -85,18 +93,18 @@ pub fn check_in(store: &[u8], extent: Extent, root: PageId, by: Index, heap: &[u
     let c = store::capacity_of(extent.size);
     match found::node_at(store, extent, c, root, by, heap) {
         Err(fault) => Check::Unsound(root, fault),
-        Ok(header) => check_at(
+        Ok(header) => verdict(check_at(
             store,
             extent,
             c,
             header.level,
             root,
             header.count,
-            Bound::Nothing,
-            Bound::Nothing,
+            None,
+            None,
             by,
             heap,
-        ),
+        )),
     }
 }
 

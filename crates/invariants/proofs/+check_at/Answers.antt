@@ -1,13 +1,17 @@
 -- `check_at` meets its contract: along a page the walk that is left gives what the whole gives, and a child is one level lower. Assumes
 -- nothing.
 use native.Mathlib.Omega.{arith}
-use mathlib.Core.Path.{refl, ◌∙◌, sym}
+use borrow.Author.Rules.{rules}
+use mathlib.Core.Path.{◌≡◌, refl, ap, ◌∙◌, sym}
+use Rattle.std.specs.Prelude.{ℕ, ◌+◌, Err}
 use Rattle.index.specs.Order.{order_in}
 use Rattle.memory_store.specs.Opened.{opened_node}
 use Rattle.invariants.specs.Bounds.{bound_of}
 use Rattle.invariants.specs.Walk.{page_faulty}
-use Rattle.invariants.specs.Along.{along_start, along_datoms, along_child, along_few, along_end, along_outside, along_none, along_above, along_sound, along_unsound, along_refused}
+use Rattle.invariants.specs.Along.{Along, along_start, along_datoms, along_child, along_end, along_outside, along_none, along_above, along_sound, along_unsound}
+use Rattle.invariants.specs.Verdict.{verdict_of}
 use Rattle.invariants.proofs.+check_at.Goals as goal
+use Rattle.invariants.proofs.+check_at.Goals.{Joined-not-is_none, then-not-is_none+in-Ok+in_ok-check_at-in-Ok, else-not-is_none}
 
 pub loop-i-init : goal.loop-i-init
 loop-i-init t c = let a = c.args in
@@ -18,16 +22,13 @@ pub bound_at-next-requires : goal.bound_at-next-requires
 bound_at-next-requires t c = along_datoms c.loop-i.invariant
 
 pub returns-then-not-is_below : goal.returns-then-not-is_below
-returns-then-not-is_below t c = along_outside c.loop-i.invariant c.loop-i-test.true _ c.bound_at-next.ensures (sym c.is_below.ensures ∙ c.if-not-is_below.true)
+returns-then-not-is_below t c = along_outside c.loop-i.invariant (omega (arith, c.loop-i-test.true)) _ c.bound_at-next.ensures (sym c.is_below.ensures ∙ c.if-not-is_below.true)
 
 pub child_at-child-requires : goal.child_at-child-requires
-child_at-child-requires t c = along_child c.loop-i.invariant c.loop-i-test.true
-
-pub overflow_add-i : goal.overflow_add-i
-overflow_add-i t c = let few = along_few c.loop-i.invariant in let h = c.loop-i-test.true in omega (arith, few, h)
+child_at-child-requires t c = along_child c.loop-i.invariant (omega (arith, c.loop-i-test.true))
 
 pub overflow_sub-low : goal.overflow_sub-low
-overflow_sub-low t c = let up = along_above c.loop-i.invariant c.loop-i-test.true _ c.bound_at-next.ensures
+overflow_sub-low t c = let up = along_above c.loop-i.invariant (omega (arith, c.loop-i-test.true)) _ c.bound_at-next.ensures
     (sym c.is_below.ensures ∙ c.if-not-is_below.false) _ c.child_at-child.ensures
     (sym c.is_none.ensures ∙ c.if-not-is_none.true) in
     omega (arith, up)
@@ -37,41 +38,51 @@ open_at-requires t c = let A = c.loop-i.invariant in (A.good, A.room)
 
 pub returns-in-Err : goal.returns-in-Err
 returns-in-Err t c = let a = c.args in
-    along_unsound c.loop-i.invariant c.loop-i-test.true _ c.bound_at-next.ensures
+    along_unsound c.loop-i.invariant (omega (arith, c.loop-i-test.true)) _ c.bound_at-next.ensures
     (sym c.is_below.ensures ∙ c.if-not-is_below.false) _ c.child_at-child.ensures
     (sym c.is_none.ensures ∙ c.if-not-is_none.true) _
     (page_faulty (order_in a.by a.heap.now) a.extent a.store.now _ _ _ _ _ c.in-Err.ensures) _ _ refl
 
 pub check_at-requires : goal.check_at-requires
 check_at-requires t c = let A = c.loop-i.invariant in
-    let up = along_above c.loop-i.invariant c.loop-i-test.true _ c.bound_at-next.ensures
+    let up = along_above c.loop-i.invariant (omega (arith, c.loop-i-test.true)) _ c.bound_at-next.ensures
     (sym c.is_below.ensures ∙ c.if-not-is_below.false) _ c.child_at-child.ensures
     (sym c.is_none.ensures ∙ c.if-not-is_none.true) in
     let read = opened_node (order_in c.args.by c.args.heap.now) c.args.extent c.args.store.now _ _ _ c.in-Ok.ensures in
     (omega (arith, up, c.decreases), (A.good, A.room, read))
 
-pub loop-i-preserved-in-Sound : goal.loop-i-preserved-in-Sound
-loop-i-preserved-in-Sound t c = along_sound c.loop-i.invariant c.loop-i-test.true _ c.bound_at-next.ensures
+pub returns-in_err-check_at-in-Ok : goal.returns-in_err-check_at-in-Ok
+returns-in_err-check_at-in-Ok t c =
+    let d = c.in_err-check_at-in-Ok.field-0.0 in
+    let k : c.from_residual.result ≡ Err d = search rules in
+    ap verdict_of k
+    ∙ along_unsound c.loop-i.invariant (omega (arith, c.loop-i-test.true)) _ c.bound_at-next.ensures
     (sym c.is_below.ensures ∙ c.if-not-is_below.false) _ c.child_at-child.ensures
-    (sym c.is_none.ensures ∙ c.if-not-is_none.true) _ c.check_at.ensures
-    c.in-Sound.is
+    (sym c.is_none.ensures ∙ c.if-not-is_none.true) _ c.in_err-check_at-in-Ok.ensures d.page d.fault refl
 
-pub returns-in-Unsound : goal.returns-in-Unsound
-returns-in-Unsound t c = along_unsound c.loop-i.invariant c.loop-i-test.true _ c.bound_at-next.ensures
-    (sym c.is_below.ensures ∙ c.if-not-is_below.false) _ c.child_at-child.ensures
-    (sym c.is_none.ensures ∙ c.if-not-is_none.true) _ c.check_at.ensures
-    _ _ c.in-Unsound.is
-
-pub returns-in-Refused : goal.returns-in-Refused
-returns-in-Refused t c = along_refused c.loop-i.invariant c.loop-i-test.true _ c.bound_at-next.ensures
-    (sym c.is_below.ensures ∙ c.if-not-is_below.false) _ c.child_at-child.ensures
-    (sym c.is_none.ensures ∙ c.if-not-is_none.true) _ c.check_at.ensures
-    _ c.in-Refused.is
+-- the walk past index i
+passed :
+    (t : ℕ) (c : Joined-not-is_none t) →
+    Along (order_in c.args.by c.args.heap.now) c.args.extent c.args.store.now c.args.c c.args.level c.args.page c.args.k c.fetch-part.result.now (bound_of c.args.lower)
+    (bound_of c.args.upper) (c.loop-i.i + 1) (bound_of c.bound_at-next.result) (bound_of c.if-not-is_none.midpoint)
+passed t c = elim c.if-not-is_none.branch [
+  | then-not-is_none+in-Ok+in_ok-check_at-in-Ok w ↦
+      rw w.midpoint-is
+      (along_sound c.loop-i.invariant (omega (arith, c.loop-i-test.true)) _ c.bound_at-next.ensures
+      (sym c.is_below.ensures ∙ c.if-not-is_below.false) _ c.child_at-child.ensures
+      (sym c.is_none.ensures ∙ w.if-not-is_none.true) _ w.in_ok-check_at-in-Ok.ensures refl)
+  | else-not-is_none w ↦
+      rw w.midpoint-is
+      (along_none c.loop-i.invariant (omega (arith, c.loop-i-test.true)) _ c.bound_at-next.ensures
+      (sym c.is_below.ensures ∙ c.if-not-is_below.false) _ c.child_at-child.ensures
+      (sym c.is_none.ensures ∙ w.if-not-is_none.false))
+]
 
 pub loop-i-preserved : goal.loop-i-preserved
-loop-i-preserved t c = along_none c.loop-i.invariant c.loop-i-test.true _ c.bound_at-next.ensures
-    (sym c.is_below.ensures ∙ c.if-not-is_below.false) _ c.child_at-child.ensures
-    (sym c.is_none.ensures ∙ c.if-not-is_none.false)
+loop-i-preserved t c = passed t (goal.at.loop-i-preserved t c).Joined-not-is_none
+
+pub returns-after-not-is_none : goal.returns-after-not-is_none
+returns-after-not-is_none t c = along_end (passed t (goal.at.returns-after-not-is_none t c).Joined-not-is_none) (omega arith)
 
 pub returns : goal.returns
-returns t c = along_end c.loop-i.invariant c.loop-i-test.false
+returns t c = along_end c.loop-i.invariant (omega (arith, c.loop-i-test.false))

@@ -46,6 +46,6 @@ returns-in-Ok c =
     let ok = sym c.is_bad.ensures ∙ c.if-is_bad.false in
     let known = sym c.is_bad_root.ensures ∙ c.if-is_bad_root.false in
     let real = sym c.is_none.ensures ∙ c.if-is_none.false in
-    c.check_at.ensures
+    c.verdict.ensures ∙ c.check_at.ensures
     ∙ check_read (order_in a.by a.heap.now) a.extent a.store.now a.root ok known real c.in-Ok.header.level c.in-Ok.header.count
     (told_fine (order_in a.by a.heap.now) a.extent a.store.now a.root c.in-Ok.header c.in-Ok.ensures)

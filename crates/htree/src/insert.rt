@@ -15,7 +15,6 @@ use crate::place::{Failed, Placed};
 use answer::{Fault, Refusal};
 use index::Index;
 use memory_store::found;
-use node::Merged;
 use store::{Extent, PageId};
 
 // Page `page`, which was opened at this level, is merged into the area with the batch of n datoms that lies behind it: of so many datoms
@@ -38,10 +37,8 @@ fn load(
 {
     let k = opened?;
     let part = memory_store::part_of(store, extent, page);
-    match node::merge(part, c, k, s, m, 40 * m + 8, n, by, heap) {
-        Merged::Whole => Ok(k + n),
-        Merged::Met => Err(Fault::EqualDatoms),
-    }
+    node::merge(part, c, k, s, m, 40 * m + 8, n, by, heap)?;
+    Ok(k + n)
 }
 
 // Insert into page `page`, which the caller has opened at this level, the batch of n datoms that lies behind the area. What goes up

@@ -1,21 +1,24 @@
 // Document 01's examples that are run and not proved, k and l: initialise d(0), d(1), .. and say what was written.
 ghost use Rattle.std.specs.Prelude.{◌≤◌};
 
-use crate::{calls, lent, record, tally};
+use crate::lent::{Answer, Lent};
+use crate::record::Record;
+use crate::{lent, record};
 use std::io;
 
+// Room for 129 datoms.
+pub type Batch = [u8; 4128];
+
 // The n datoms from d(from) on: entity k, attribute 1, value k, last word 3.
-pub fn put_datoms(batch: &mut [u8; 4128], from: u64, n: u64)
+pub fn put_datoms(batch: &mut Batch, from: u64, n: u64)
     requires { (from ≤ 1000000) × (n ≤ 129) }
 {
-    let mut i = 0;
-    while i < n {
+    for i in 0..n {
         put_datom(batch, i, from + i);
-        i += 1;
     }
 }
 
-fn put_datom(batch: &mut [u8; 4128], i: u64, k: u64)
+fn put_datom(batch: &mut Batch, i: u64, k: u64)
     requires { i ≤ 128 }
 {
     let at = 32 * (i as usize);
@@ -25,105 +28,85 @@ fn put_datom(batch: &mut [u8; 4128], i: u64, k: u64)
     store::put_word(batch, at + 24, 3);
 }
 
-pub fn first(batch: &[u8; 4128], n: u64) -> &[u8]
+pub fn first(batch: &Batch, n: u64) -> &[u8]
     requires { n ≤ 129 }
 {
     record::part(batch, 0, 32 * n)
 }
 
-// A word of the answer.
-pub fn told(area: &[u8; 32], index: usize) -> u64 {
-    record::word(area, index)
-}
+// A page of the store.
+#[derive(Clone, Copy)]
+pub struct Page<'a>(&'a [u8]);
 
-// A byte of a page, 0 past its end.
-fn byte(page: &[u8], at: usize) -> u64 {
-    if page.len() <= at {
-        return 0;
+impl<'a> Page<'a> {
+    pub fn of(lent: &'a Lent, id: u64) -> Page<'a> {
+        Page(lent.pages(id, 1))
     }
-    record::wide(page[at])
-}
 
-pub fn page(store: &[u8], size: u64, id: u64) -> &[u8] {
-    record::part(store, calls::bytes_of(size, id), calls::bytes_of(size, 1))
-}
-
-// Where a page has its level, and behind it its count.
-fn header_at(size: u64) -> usize
-    ensures { result ≤ 8168 }
-{
-    let c = store::capacity_of(size);
-    if 204 < c {
-        return 0;
+    // The byte so far behind the level's, which stands behind the datoms and the children; 0 past the page's end.
+    fn header(self, place: usize) -> u8
+        requires { place ≤ 1 }
+    {
+        let c = store::capacity_of(self.0.len() as u64).min(204);
+        self.0.get(40 * c + 8 + place).copied().unwrap_or_default()
     }
-    40 * c + 8
-}
 
-pub fn level(store: &[u8], size: u64, id: u64) -> u64 {
-    byte(page(store, size, id), header_at(size))
-}
+    pub fn level(self) -> u8 {
+        self.header(0)
+    }
 
-pub fn count(store: &[u8], size: u64, id: u64) -> u64 {
-    byte(page(store, size, id), header_at(size) + 1)
+    pub fn count(self) -> u8 {
+        self.header(1)
+    }
+
+    // The entity of its first datom.
+    pub fn first(self) -> u64 {
+        Record(self.0).word(0)
+    }
 }
 
 // What the first n of d(0), d(1), .. make of an empty store.
-pub fn initialise(
-    store: &mut [u8; lent::STORE],
-    scratch: &mut [u8; lent::SCRATCH],
-    size: u64,
-    n: u64,
-    area: &mut [u8; 32],
-)
+pub fn initialise(lent: &mut Lent, size: u64, n: u64) -> Answer
     requires { n ≤ 129 }
 {
     let mut batch = [0u8; 4128];
     put_datoms(&mut batch, 0, n);
-    let datoms = first(&batch, n);
-    let block = lent::block_of(size, 0);
-    florinwick::florinwick_initialise(store, b"", &block, datoms, scratch, area);
+    lent.stored = lent::empty(size);
+    let answer = lent.initialise(first(&batch, n));
+    lent.grow(answer.pages());
+    answer
 }
 
-pub fn say(rt: &impl Print, size: u64, n: u64) -> io::Result<()> {
-    tally::line(rt, size, b"-byte pages, ")?;
-    tally::line(rt, n, b" datoms: ")
-}
-
-fn example(
-    rt: &impl Print,
-    store: &mut [u8; lent::STORE],
-    scratch: &mut [u8; lent::SCRATCH],
-    size: u64,
-    n: u64,
-) -> io::Result<()>
+fn example(rt: &impl Print, lent: &mut Lent, size: u64, n: u64) -> io::Result<()>
     requires { n ≤ 129 }
 {
-    let mut area = [0u8; 32];
-    initialise(store, scratch, size, n, &mut area);
-    let root = told(&area, 1);
-    say(rt, size, n)?;
-    if told(&area, 0) != 0 {
-        rt.write_all(b"refused, number ")?;
-        return tally::line(rt, told(&area, 0), b"\n");
+    let answer = initialise(lent, size, n);
+    print!(rt; "{size}-byte pages, {n} datoms: ")?;
+    if answer.number() != 0 {
+        return println!(rt; "refused, number {}", answer.number());
     }
-    tally::line(rt, told(&area, 2), b" pages, root ")?;
-    tally::line(rt, root, b" at level ")?;
-    tally::line(rt, level(store, size, root), b"; page 0 has ")?;
-    tally::line(rt, count(store, size, 0), b" datoms, page 1 has ")?;
-    tally::line(rt, count(store, size, 1), b", the root begins with d")?;
-    tally::line(rt, record::word(page(store, size, root), 0), b"\n")
+    let root = Page::of(lent, answer.root());
+    let leaves = (Page::of(lent, 0), Page::of(lent, 1));
+    print!(rt;
+        "{} pages, root {} at level {}; ",
+        answer.pages(),
+        answer.root(),
+        root.level()
+    )?;
+    println!(rt;
+        "page 0 has {} datoms, page 1 has {}, the root begins with d{}",
+        leaves.0.count(),
+        leaves.1.count(),
+        root.first()
+    )
 }
 
 // k: 128 datoms and 129; l: 14, 103 and 104.
-pub fn run(
-    rt: &impl Print,
-    store: &mut [u8; lent::STORE],
-    scratch: &mut [u8; lent::SCRATCH],
-) -> io::Result<()> {
+pub fn run(rt: &impl Print, lent: &mut Lent) -> io::Result<()> {
     rt.write_all(b"\nexamples k and l\n")?;
-    example(rt, store, scratch, 256, 128)?;
-    example(rt, store, scratch, 256, 129)?;
-    example(rt, store, scratch, 568, 14)?;
-    example(rt, store, scratch, 4096, 103)?;
-    example(rt, store, scratch, 4096, 104)
+    example(rt, lent, 256, 128)?;
+    example(rt, lent, 256, 129)?;
+    example(rt, lent, 568, 14)?;
+    example(rt, lent, 4096, 103)?;
+    example(rt, lent, 4096, 104)
 }

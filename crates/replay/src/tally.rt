@@ -1,120 +1,115 @@
 // What was replayed, counted.
-use std::io;
+use std::fmt;
 
-// The places of the counts.
-pub const HISTORIES: usize = 0;
+// What is counted.
+#[derive(Clone, Copy)]
+pub enum Place {
+    Histories,
+    Ended,
+    Initialised,
+    Inserted,
+    Pages,
+    Held,
+    Listed,
+    Datoms,
+    Sound,
+    Unsound,
+    Poked,
+    Named,
+    ByBoth,
+    InAevt,
+    InAvet,
+    Different,
+}
 
-pub const INITIALISED: usize = 1;
+#[derive(Clone, Copy, Default)]
+pub struct Tally {
+    histories: u64,
+    ended: u64,
+    initialised: u64,
+    inserted: u64,
+    pages: u64,
+    held: u64,
+    listed: u64,
+    datoms: u64,
+    sound: u64,
+    unsound: u64,
+    poked: u64,
+    named: u64,
+    by_both: u64,
+    in_aevt: u64,
+    in_avet: u64,
+    different: u64,
+}
 
-pub const INSERTED: usize = 2;
+impl Tally {
+    // The count of a place.
+    fn at(&mut self, place: Place) -> &mut u64 {
+        match place {
+            Place::Histories => &mut self.histories,
+            Place::Ended => &mut self.ended,
+            Place::Initialised => &mut self.initialised,
+            Place::Inserted => &mut self.inserted,
+            Place::Pages => &mut self.pages,
+            Place::Held => &mut self.held,
+            Place::Listed => &mut self.listed,
+            Place::Datoms => &mut self.datoms,
+            Place::Sound => &mut self.sound,
+            Place::Unsound => &mut self.unsound,
+            Place::Poked => &mut self.poked,
+            Place::Named => &mut self.named,
+            Place::ByBoth => &mut self.by_both,
+            Place::InAevt => &mut self.in_aevt,
+            Place::InAvet => &mut self.in_avet,
+            Place::Different => &mut self.different,
+        }
+    }
 
-pub const PAGES: usize = 3;
+    // n more at a place.
+    pub fn add(&mut self, place: Place, n: u64) {
+        let count = self.at(place);
+        *count = count.wrapping_add(n);
+    }
 
-pub const LISTED: usize = 4;
-
-pub const DATOMS: usize = 5;
-
-pub const SOUND: usize = 6;
-
-pub const UNSOUND: usize = 7;
-
-pub const POKED: usize = 8;
-
-pub const ENDED: usize = 9;
-
-pub const BY_BOTH: usize = 10;
-
-pub const DIFFERENT: usize = 11;
-
-pub const HELD: usize = 12;
-
-pub const NAMED: usize = 13;
-
-pub const IN_AEVT: usize = 14;
-
-pub const IN_AVET: usize = 15;
-
-// How many counts there are.
-pub const PLACES: usize = 16;
-
-// n more at a place.
-pub fn add(counts: &mut [u64; 16], place: usize, n: u64) {
-    if place < PLACES {
-        counts[place] = counts[place].wrapping_add(n);
+    // One more at this place if what was answered is what was recorded, and else one more that differs.
+    pub fn settle(&mut self, is_same: bool, place: Place) {
+        self.add(if is_same { place } else { Place::Different }, 1);
     }
 }
 
-// One more at this place if what was answered is what was recorded, and else one more that differs.
-pub fn settle(counts: &mut [u64; 16], is_same: bool, place: usize) {
-    if is_same {
-        add(counts, place, 1);
-    } else {
-        add(counts, DIFFERENT, 1);
+impl fmt::Display for Tally {
+    fn fmt<W: fmt::Write>(&self, f: &mut fmt::Formatter<W>) -> fmt::Result {
+        writeln!(f, "{} histories begun", self.histories)?;
+        writeln!(f, "{} histories ended with the recorded store", self.ended)?;
+        writeln!(f, "{} initialise", self.initialised)?;
+        writeln!(f, "{} insert", self.inserted)?;
+        writeln!(
+            f,
+            "{} pages of these, byte for byte or by digest",
+            self.pages
+        )?;
+        writeln!(
+            f,
+            "{} batches of insert, held at the root that they led to",
+            self.held
+        )?;
+        writeln!(f, "{} listings", self.listed)?;
+        writeln!(f, "{} datoms of these", self.datoms)?;
+        writeln!(f, "{} checks, Sound", self.sound)?;
+        writeln!(f, "{} checks, Unsound at the recorded page", self.unsound)?;
+        writeln!(f, "{} pages damaged or repaired", self.poked)?;
+        writeln!(
+            f,
+            "{} answers that may name a fault, all four words, by the model",
+            self.named
+        )?;
+        writeln!(
+            f,
+            "{} answers by both oracles, the others by the patched one",
+            self.by_both
+        )?;
+        writeln!(f, "{} answers by attribute, entity, value", self.in_aevt)?;
+        writeln!(f, "{} answers by attribute, value, entity", self.in_avet)?;
+        writeln!(f, "{} differ", self.different)
     }
-}
-
-// One more answer in a further order.
-pub fn add_order(counts: &mut [u64; 16], order: u64) {
-    if order == 1 {
-        add(counts, IN_AEVT, 1);
-    }
-    if order == 2 {
-        add(counts, IN_AVET, 1);
-    }
-}
-
-pub fn line(rt: &impl Print, n: u64, what: &[u8]) -> io::Result<()> {
-    print!(rt; "{n}")?;
-    rt.write_all(what)
-}
-
-pub fn print(rt: &impl Print, counts: &[u64; 16]) -> io::Result<()> {
-    line(rt, counts[HISTORIES], b" histories begun\n")?;
-    line(
-        rt,
-        counts[ENDED],
-        b" histories ended with the recorded store\n",
-    )?;
-    line(rt, counts[INITIALISED], b" initialise\n")?;
-    line(rt, counts[INSERTED], b" insert\n")?;
-    line(
-        rt,
-        counts[PAGES],
-        b" pages of these, byte for byte or by digest\n",
-    )?;
-    line(
-        rt,
-        counts[HELD],
-        b" batches of insert, held at the root that they led to\n",
-    )?;
-    line(rt, counts[LISTED], b" listings\n")?;
-    line(rt, counts[DATOMS], b" datoms of these\n")?;
-    line(rt, counts[SOUND], b" checks, Sound\n")?;
-    line(
-        rt,
-        counts[UNSOUND],
-        b" checks, Unsound at the recorded page\n",
-    )?;
-    line(rt, counts[POKED], b" pages damaged or repaired\n")?;
-    line(
-        rt,
-        counts[NAMED],
-        b" answers that may name a fault, all four words, by the model\n",
-    )?;
-    line(
-        rt,
-        counts[BY_BOTH],
-        b" answers by both oracles, the others by the patched one\n",
-    )?;
-    line(
-        rt,
-        counts[IN_AEVT],
-        b" answers by attribute, entity, value\n",
-    )?;
-    line(
-        rt,
-        counts[IN_AVET],
-        b" answers by attribute, value, entity\n",
-    )?;
-    line(rt, counts[DIFFERENT], b" differ\n")
 }

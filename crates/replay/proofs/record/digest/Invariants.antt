@@ -1,6 +1,0 @@
--- `digest` ends: each turn takes one of the bytes.
-use Rattle.std.proofs.Common.{length, ◌-◌}
-use Rattle.replay.proofs.record.digest.Given as goal
-
-abbrev pub decreases-loop-i : goal.decreases-loop-i
-decreases-loop-i l = length l.bytes - l.i

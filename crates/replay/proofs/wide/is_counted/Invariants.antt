@@ -1,6 +1,0 @@
--- `is_counted` ends: each turn is one of the n datoms.
-use Rattle.std.proofs.Common.{◌-◌}
-use Rattle.replay.proofs.wide.is_counted.Given as goal
-
-abbrev pub decreases-loop-i : goal.decreases-loop-i
-decreases-loop-i l = l.n - l.i

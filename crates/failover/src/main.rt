@@ -19,33 +19,16 @@ struct Stand {
     root: PageId,
 }
 
-// Sends a batch, prints the receipt, and hands on what the next call is given.
-fn send(
-    rt: &impl Print,
-    store: &mut [u8],
-    heap: &[u8],
-    scratch: &mut [u8],
-    stand: Stand,
-    batch: &[u8],
-) -> io::Result<Stand> {
-    let stored = stand.stored;
-    match entry::insert(store, stored, stand.root, batch, scratch, heap) {
-        Answer::Done { root, pages } => {
-            say::done(rt, root, pages)?;
-            Ok(Stand {
-                stored: StoreRecord {
-                    size: stored.size,
-                    count: stored.count.wrapping_add(pages),
-                    heap: stored.heap,
-                    order: stored.order,
-                },
-                root,
-            })
-        }
-        Answer::Refused(refusal) => {
-            say::refused(rt, refusal)?;
-            Ok(stand)
-        }
+// Before the first batch, in pages of 256 bytes.
+fn nothing() -> Stand {
+    Stand {
+        stored: StoreRecord {
+            size: 256,
+            count: 0,
+            heap: 0,
+            order: 0,
+        },
+        root: PageId::max(),
     }
 }
 
@@ -68,113 +51,115 @@ fn highest() -> Datom {
     }
 }
 
-// All fills under a root, in order.
-fn list(
-    rt: &impl Print,
-    store: &[u8],
-    heap: &[u8],
-    stored: StoreRecord,
-    root: PageId,
-) -> io::Result<()> {
-    let started = listing::begin::start(store, stored, root, lowest(), highest(), heap);
-    let mut cursor = started.cursor;
-    let mut turns: u64 = 1000;
-    while 0 < turns {
-        let stepped = listing::step::step(store, stored, cursor, heap);
-        let answer = stepped.answer;
-        let Step::Yields(fill) = answer else {
-            break;
-        };
-        say::fill(rt, fill)?;
-        cursor = stepped.cursor;
-        turns -= 1;
-    }
-    say::end_of_line(rt)
-}
-
-// The same with more of the heap in use.
-fn with_heap(stand: Stand, used: u64) -> Stand {
-    let stored = stand.stored;
-    let root = stand.root;
-    Stand {
-        stored: StoreRecord {
-            size: stored.size,
-            count: stored.count,
-            heap: used,
-            order: stored.order,
-        },
-        root,
-    }
-}
-
-// Makes a batch of n fills, their texts behind what is used of the heap, and sends it.
-fn feed(
-    rt: &impl Print,
-    store: &mut [u8; 8192],
-    heap: &mut [u8; 1024],
-    scratch: &mut [u8; 62016],
+// What the replicator lends the library, and where it stands. An insert is lent the heap as it is the store, by `&mut`: behind one
+// reference all loans are of one kind.
+#[derive(Drop)]
+struct Replicator<'a> {
+    store: &'a mut [u8],
+    heap: &'a mut [u8],
+    scratch: &'a mut [u8],
     stand: Stand,
-    first: u64,
-    n: u64,
-) -> io::Result<Stand>
-    requires { n ≤ 8 }
-{
-    let mut batch = [0u8; 256];
-    let stored = stand.stored;
-    let used = stored.heap;
-    let end = fills::put(&mut batch, heap, used, first, n);
-    say::sending(rt, first, n, used)?;
-    send(
-        rt,
-        store,
-        heap,
-        scratch,
-        with_heap(stand, end),
-        fills::of(&batch, n),
-    )
 }
 
-fn list_at(rt: &impl Print, store: &[u8; 8192], heap: &[u8; 1024], stand: Stand) -> io::Result<()> {
-    say::listing(rt, stand.root)?;
-    list(rt, store, heap, stand.stored, stand.root)
+impl Replicator<'_> {
+    // Sends a batch, prints the receipt, and goes on from where that leads.
+    fn send(&mut self, rt: &impl Print, batch: &[u8]) -> io::Result<()> {
+        let Stand { stored, root } = self.stand;
+        let answer = entry::insert(
+            self.store,
+            stored,
+            root,
+            batch,
+            self.scratch,
+            &mut *self.heap,
+        );
+        match answer {
+            Answer::Done { root, pages } => {
+                let count = stored.count.wrapping_add(pages);
+                let stored = StoreRecord { count, ..stored };
+                self.stand = Stand { stored, root };
+                say::done(rt, root, pages)
+            }
+            Answer::Refused(refusal) => say::refused(rt, refusal),
+        }
+    }
+
+    // Makes a batch of n fills, their texts behind what is used of the heap, and sends it.
+    fn feed(&mut self, rt: &impl Print, first: u64, n: usize) -> io::Result<()>
+        requires { n ≤ 8 }
+    {
+        let mut batch = [0u8; 256];
+        let used = self.stand.stored.heap;
+        self.stand.stored.heap = fills::put(&mut batch, self.heap, used, first, n);
+        say::sending(rt, first, n, used)?;
+        self.send(rt, fills::of(&batch, n))
+    }
+
+    // All fills under the root of a stand, in order.
+    fn list(&self, rt: &impl Print, stand: Stand) -> io::Result<()> {
+        let Stand { stored, root } = stand;
+        let started = listing::begin::start(
+            self.store,
+            stored,
+            root,
+            lowest(),
+            highest(),
+            self.heap,
+        );
+        let mut cursor = started.cursor;
+        say::listing(rt, root)?;
+        for _ in 0..1000 {
+            let stepped = listing::step::step(self.store, stored, cursor, self.heap);
+            let Step::Yields(fill) = stepped.answer else {
+                break;
+            };
+            say::fill(rt, fill)?;
+            cursor = stepped.cursor;
+        }
+        say::end_of_line(rt)
+    }
+
+    fn check(&self, rt: &impl Print) -> io::Result<()> {
+        let Stand { stored, root } = self.stand;
+        say::checked(rt, invariants::check(self.store, stored, root, self.heap))
+    }
 }
 
-fn check_at(
-    rt: &impl Print,
-    store: &[u8; 8192],
-    heap: &[u8; 1024],
-    stand: Stand,
-) -> io::Result<()> {
-    say::checked(rt, invariants::check(store, stand.stored, stand.root, heap))
+// The feed, and the last batch of it once more.
+fn fail_over(rt: &impl Print, replicator: &mut Replicator) -> io::Result<()> {
+    replicator.feed(rt, 7, 5)?;
+    replicator.feed(rt, 12, 4)?;
+    replicator.list(rt, replicator.stand)?;
+    say::failover(rt)?;
+    replicator.feed(rt, 12, 4)?;
+    replicator.list(rt, replicator.stand)
+}
+
+// A batch that overlaps with it, and what is new in that alone.
+fn go_on(rt: &impl Print, replicator: &mut Replicator) -> io::Result<()> {
+    say::overlap(rt)?;
+    replicator.feed(rt, 14, 4)?;
+    say::fresh(rt)?;
+    replicator.feed(rt, 16, 2)?;
+    replicator.list(rt, replicator.stand)
 }
 
 fn main(rt: HostRuntime) -> io::Result<()> {
     let mut store = [0u8; 8192];
     let mut heap = [0u8; 1024];
     let mut scratch = [0u8; 62016];
-    let nothing = Stand {
-        stored: StoreRecord {
-            size: 256,
-            count: 0,
-            heap: 0,
-            order: 0,
-        },
-        root: PageId::max(),
+    let mut replicator = Replicator {
+        store: &mut store,
+        heap: &mut heap,
+        scratch: &mut scratch,
+        stand: nothing(),
     };
     say::title(&rt)?;
-    let first = feed(&rt, &mut store, &mut heap, &mut scratch, nothing, 1, 6)?;
-    let second = feed(&rt, &mut store, &mut heap, &mut scratch, first, 7, 5)?;
-    let third = feed(&rt, &mut store, &mut heap, &mut scratch, second, 12, 4)?;
-    list_at(&rt, &store, &heap, third)?;
-    say::failover(&rt)?;
-    let fourth = feed(&rt, &mut store, &mut heap, &mut scratch, third, 12, 4)?;
-    list_at(&rt, &store, &heap, fourth)?;
-    say::overlap(&rt)?;
-    let fifth = feed(&rt, &mut store, &mut heap, &mut scratch, fourth, 14, 4)?;
-    say::fresh(&rt)?;
-    let sixth = feed(&rt, &mut store, &mut heap, &mut scratch, fifth, 16, 2)?;
-    list_at(&rt, &store, &heap, sixth)?;
+    replicator.feed(&rt, 1, 6)?;
+    let first = replicator.stand;
+    fail_over(&rt, &mut replicator)?;
+    go_on(&rt, &mut replicator)?;
     say::older(&rt)?;
-    list_at(&rt, &store, &heap, first)?;
-    check_at(&rt, &store, &heap, sixth)
+    replicator.list(&rt, first)?;
+    replicator.check(&rt)
 }

@@ -4,105 +4,69 @@ use datom::Datom;
 use std::io;
 use store::PageId;
 
-fn words(rt: &impl Print, bytes: &[u8]) -> io::Result<()> {
-    rt.write_all(bytes)
-}
-
-fn number(rt: &impl Print, n: u64) -> io::Result<()> {
-    print!(rt; "{n}")
-}
-
 pub fn title(rt: &impl Print) -> io::Result<()> {
-    words(
-        rt,
-        b"Florinwick: a failover, in 256-byte pages\n\nThe feed.\n",
-    )
+    println!(rt; "Florinwick: a failover, in 256-byte pages\n\nThe feed.")
 }
 
-pub fn sending(rt: &impl Print, first: u64, n: u64, used: u64) -> io::Result<()> {
-    words(rt, b"  ")?;
-    number(rt, n)?;
-    words(rt, b" fills from number ")?;
-    number(rt, first)?;
-    words(rt, b" on, their texts at byte ")?;
-    number(rt, used)?;
-    words(rt, b" of the heap: ")
+pub fn sending(rt: &impl Print, first: u64, n: usize, used: u64) -> io::Result<()> {
+    print!(rt; "  {n} fills from number {first} on, their texts at byte {used} of the heap: ")
 }
 
 pub fn done(rt: &impl Print, root: PageId, pages: u64) -> io::Result<()> {
-    words(rt, b"Done, root ")?;
-    number(rt, root.0)?;
-    words(rt, b", pages written: ")?;
-    number(rt, pages)?;
-    words(rt, b"\n")
+    println!(rt; "Done, root {}, pages written: {pages}", root.0)
 }
 
 pub fn refused(rt: &impl Print, refusal: Refusal) -> io::Result<()> {
-    words(rt, b"refused with number ")?;
-    number(rt, refusal.number())?;
+    print!(rt; "refused with number {}, ", refusal.number())?;
     match refusal {
         Refusal::Repeated(i) => {
-            words(rt, b", Repeated, at place ")?;
-            number(rt, i as u64)?;
-            words(rt, b" of the batch; nothing is written\n")
+            println!(rt; "Repeated, at place {i} of the batch; nothing is written")
         }
-        _ => {
-            words(rt, b", detail ")?;
-            number(rt, refusal.detail())?;
-            words(rt, b"\n")
-        }
+        _ => println!(rt; "detail {}", refusal.detail()),
     }
 }
 
 pub fn listing(rt: &impl Print, root: PageId) -> io::Result<()> {
-    words(rt, b"  the fills under root ")?;
-    number(rt, root.0)?;
-    words(rt, b":")
+    print!(rt; "  the fills under root {}:", root.0)
 }
 
 pub fn fill(rt: &impl Print, d: Datom) -> io::Result<()> {
-    words(rt, b" ")?;
-    number(rt, d.entity.0)
+    print!(rt; " {}", d.entity.0)
 }
 
 pub fn end_of_line(rt: &impl Print) -> io::Result<()> {
-    words(rt, b"\n")
+    println!(rt; "")
 }
 
 pub fn failover(rt: &impl Print) -> io::Result<()> {
-    words(
-        rt,
-        b"\nThe failover. Did the last batch arrive? The replicator sends it again, its texts elsewhere on the heap.\n",
+    println!(rt;
+        "\nThe failover. Did the last batch arrive? The replicator sends it again, its texts elsewhere on the heap."
     )
 }
 
 pub fn overlap(rt: &impl Print) -> io::Result<()> {
-    words(
-        rt,
-        b"\nA batch that holds two of the last fills and two new ones goes in whole or not at all.\n",
+    println!(rt;
+        "\nA batch that holds two of the last fills and two new ones goes in whole or not at all."
     )
 }
 
 pub fn fresh(rt: &impl Print) -> io::Result<()> {
-    words(rt, b"\nThe two new ones alone.\n")
+    println!(rt; "\nThe two new ones alone.")
 }
 
 pub fn older(rt: &impl Print) -> io::Result<()> {
-    words(
-        rt,
-        b"\nAn older root lists what it listed, and the check finds no fault.\n",
-    )
+    println!(rt; "\nAn older root lists what it listed, and the check finds no fault.")
 }
 
 pub fn checked(rt: &impl Print, check: Check) -> io::Result<()> {
     match check {
-        Check::Sound => words(rt, b"  the check: Sound\n"),
+        Check::Sound => println!(rt; "  the check: Sound"),
         Check::Unsound(page, fault) => {
-            words(rt, b"  the check: Unsound, page ")?;
-            number(rt, page.0)?;
-            words(rt, b", fault ")?;
-            number(rt, fault.number())?;
-            words(rt, b"\n")
+            println!(rt;
+                "  the check: Unsound, page {}, fault {}",
+                page.0,
+                fault.number()
+            )
         }
         Check::Refused(refusal) => refused(rt, refusal),
     }

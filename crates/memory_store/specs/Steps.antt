@@ -1,10 +1,11 @@
 -- One step of each test along a list, as the reader's loops take it.
-use Rattle.std.specs.Prelude.{◌≡◌, ℕ, ◌+◌, ◌*◌, ◌%◌, ◌^◌, ◌<◌, ◌≤◌, Bool, true, false, ◌||◌, List, [], ◌∷◌, drop, ◌==◌, ◌≢◌, nat_le, nat_lt, refl}
+use Rattle.std.specs.Prelude.{◌≡◌, ℕ, ◌+◌, ◌*◌, ◌%◌, ◌^◌, ◌<◌, ◌≤◌, Bool, true, false, ◌||◌, List, [], ◌∷◌, drop, ◌==◌, ◌≢◌, nat_le, nat_lt, refl, zero, suc, ◌-◌, ◌&&◌}
 use Prim.Native.Nat.{zero-le, Ordering}
 use Rattle.std.proofs.Math.Decide.{dec_le}
 use native.Mathlib.Omega.{arith}
 use Rattle.std.proofs.Math.Bool.{or-false}
-use Rattle.std.proofs.Common.{ap, ◌∙◌, eq-eqb, ne_eqb, le-ltb, le-leb, eqb-true, ltb-true, ltb-false}
+use Rattle.std.specs.List.{list_all, range_with_len}
+use Rattle.std.proofs.Common.{ap, sym, ◌∙◌, eq-eqb, ne_eqb, le-ltb, le-leb, eqb-true, ltb-true, ltb-false}
 use Rattle.std.proofs.lemmas.Bool.{lt-leb, eqb-false}
 use Rattle.store.specs.declared.PageId.{PageId}
 use Rattle.store.specs.Words.{word_at, cells}
@@ -33,6 +34,15 @@ module _ {A : Type 0} (ok : A → Bool) where
   unfolding all
   all_end f w n i s h = rw (cells_end f w n i s h)
 
+-- so a test of each index from i on is `all` of the rest: the list has x i at index i
+module _ {A : Type 0} (ok : A → Bool) (x : ℕ → A) (n : ℕ) (l : List A) where
+  pub all_each :
+      ((i : ℕ) → i < n → drop i l ≡ x i ∷ drop (i + 1) l) → ((i : ℕ) → n ≤ i → all ok (drop i l) ≡ true) →
+      (m i : ℕ) → m ≡ n - i → list_all (λ j. ok (x j)) (range_with_len i m) ≡ all ok (drop i l)
+  unfolding all
+  all_each here past zero i e = sym (past i (omega (arith, e)))
+  all_each here past (suc m) i e = rw (here i (omega (arith, e)), all, ← all_each here past m (i + 1) (omega (arith, e)))
+
 -- `rising` likewise: a datom and the next one
 module _ (cmp : Datom → Datom → Ordering) (k i : ℕ) (s : List ℕ) where
   two : i + 1 < k → drop i (datoms_of k s) ≡ datom_at s (32 * i) ∷ (datom_at s (32 * i + 32) ∷ drop (i + 1 + 1) (datoms_of k s))
@@ -59,6 +69,23 @@ module _ (cmp : Datom → Datom → Ordering) (k i : ℕ) (s : List ℕ) where
     | yes a ↦ rw (cells_end datom_of 32 k i s a)
     | no a ↦ rw (datoms_from k i s (omega (arith, a)), cells_end datom_of 32 k (i + 1) s h)
   ]
+
+-- so a test of each index behind i, of the datom before and the one there
+module _ (cmp : Datom → Datom → Ordering) (k : ℕ) (s : List ℕ) where
+  abbrev pub rises : ℕ → Bool
+  rises j = is_less (cmp (datom_at s (32 * (j - 1))) (datom_at s (32 * (j - 1) + 32)))
+
+  pub rising_each : (m i : ℕ) → m ≡ k - (i + 1) → list_all rises (range_with_len (i + 1) m) ≡ rising cmp (drop i (datoms_of k s))
+  rising_each zero i e = sym (rising_end cmp k i s (omega (arith, e)))
+  rising_each (suc m) i e =
+      let w : i + 1 - 1 ≡ i = omega arith in
+      rw w (side (is_less (cmp (datom_at s (32 * i)) (datom_at s (32 * i + 32)))) refl (rising_each m (i + 1) (omega (arith, e))))
+    where
+      side :
+          (b : Bool) → is_less (cmp (datom_at s (32 * i)) (datom_at s (32 * i + 32))) ≡ b → {r : Bool} → r ≡ rising cmp (drop (i + 1) (datoms_of k s)) →
+          (b && r) ≡ rising cmp (drop i (datoms_of k s))
+      side true h on = on ∙ sym (rising_on cmp k i s (omega (arith, e)) h)
+      side false h on = sym (rising_stop cmp k i s (omega (arith, e)) h)
 
 -- what the words of a page say
 pub stored_word : (h s : List ℕ) (at : ℕ) (b : Bool) → stored_value h (record { 0 = word_at s (at + 16) }) ≡ b → stored_datom h (datom_at s at) ≡ b

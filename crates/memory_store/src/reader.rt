@@ -88,13 +88,7 @@ fn all_stored(s: &[u8], from: usize, k: usize, heap: &[u8]) -> bool
     requires { 32 * k ≤ length s.now }
     ensures { result ≡ all (stored_datom heap.now) (drop from (datoms_of k s.now)) }
 {
-    for i in from..k {
-        let value = Value(store::word(s, 32 * i + 16));
-        if !value.is_stored(heap) {
-            return false;
-        }
-    }
-    true
+    (from..k).all(|i| Value(store::word(s, 32 * i + 16)).is_stored(heap))
 }
 
 // Whether the datom at byte `at` is below the one behind it. Both are looked at where they lie: the places of the order's words do not change, so
@@ -131,12 +125,7 @@ fn all_rising(s: &[u8], from: usize, k: usize, by: Index, heap: &[u8]) -> bool
     requires { (from ≤ k) × (32 * k ≤ length s.now) }
     ensures { result ≡ rising (order_in by heap.now).cmp (drop from (datoms_of k s.now)) }
 {
-    for next in from + 1..k {
-        if !rises_at(s, 32 * (next - 1), by, heap) {
-            return false;
-        }
-    }
-    true
+    (from + 1..k).all(|next| rises_at(s, 32 * (next - 1), by, heap))
 }
 
 // Whether the child at byte `at` is none or below id. None is the largest word, so the number after it is 0: one test tells for both.
@@ -170,7 +159,7 @@ fn older_front(s: &[u8], at: usize, n: usize, id: PageId) -> usize
     i
 }
 
-// Every one of n children is none or below id.
+// Every one of n children is none or below id. A `for`, since `all` of the range compiles to three instructions more for a child.
 fn all_older(s: &[u8], at: usize, n: usize, id: PageId) -> bool
     requires { at + 8 * n ≤ length s.now }
     ensures { result ≡ all (older id) (cells page_of 8 n (drop at s.now)) }

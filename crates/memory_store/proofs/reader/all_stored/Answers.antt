@@ -1,28 +1,15 @@
--- `all_stored` meets its contract: the test on the rest of the list is the test on the whole. Assumes nothing.
-use Rattle.std.proofs.Common.{◌≡◌, ◌+◌, ◌*◌, true, false, sym, refl, ◌∙◌, arith}
-use Rattle.store.specs.Words.{word_at}
-use Rattle.datom.specs.Value.{stored_value}
-use Rattle.datom.specs.Datom.{datom_of, stored_datom}
+-- `all_stored` meets its contract: the test of each is the test on the rest of the list. Assumes nothing.
+use Rattle.std.proofs.Common.{◌*◌, sym, refl, ◌∙◌, rules}
+use Rattle.std.proofs.lemmas.Iterator.{YieldsList-from_range}
+use Rattle.std.proofs.lemmas.Iterator.Search.{all_from_yields_List}
+use Rattle.datom.specs.Datom.{datom_at, datom_of, datoms_of, stored_datom}
 use Rattle.datom.specs.Laws.{datoms_from}
-use Rattle.memory_store.specs.Steps.{all_on, all_stop, all_end, stored_word}
+use Rattle.memory_store.specs.Steps.{all_each, all_end, stored_word}
 use Rattle.memory_store.proofs.reader.all_stored.Goals as goal
 
-pub loop-i-init : goal.loop-i-init
-loop-i-init c = refl
-
-pub returns-then-not-is_stored : goal.returns-then-not-is_stored
-returns-then-not-is_stored c =
-    let a = c.args in
-    let l = c.loop-i in
-    let e : stored_value a.heap.now (record { 0 = word_at a.s.now (32 * l.i + 16) }) ≡ false = cc c.if-not-is_stored.true in
-    sym (all_stop (stored_datom a.heap.now) (datoms_from a.k l.i a.s.now (omega arith)) (stored_word a.heap.now a.s.now (32 * l.i) false e)) ∙ l.invariant
-
-pub loop-i-preserved : goal.loop-i-preserved
-loop-i-preserved c =
-    let a = c.args in
-    let l = c.loop-i in
-    let e : stored_value a.heap.now (record { 0 = word_at a.s.now (32 * l.i + 16) }) ≡ true = cc c.if-not-is_stored.false in
-    sym (all_on (stored_datom a.heap.now) (datoms_from a.k l.i a.s.now (omega arith)) (stored_word a.heap.now a.s.now (32 * l.i) true e)) ∙ l.invariant
-
 pub returns : goal.returns
-returns c = let l = c.loop-i in sym (all_end (stored_datom _) datom_of 32 _ l.i _ (omega arith)) ∙ l.invariant
+returns c =
+    let a = c.args in
+    let ok = stored_datom a.heap.now in
+    all_from_yields_List (λ i. ok (datom_at a.s.now (32 * i))) _ _ _ c.all.ensures.ran (YieldsList-from_range a.from a.k _ refl refl) (λ i b q t. (search rules, sym (stored_word a.heap.now a.s.now (32 * i) b (search rules))))
+    ∙ all_each ok (λ i. datom_at a.s.now (32 * i)) a.k (datoms_of a.k a.s.now) (λ i h. datoms_from a.k i a.s.now h) (λ i h. all_end ok datom_of 32 a.k i a.s.now h) _ a.from refl

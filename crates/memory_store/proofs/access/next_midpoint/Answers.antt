@@ -1,12 +1,9 @@
 -- `next_midpoint` meets its contract: what the rest gives is what the whole gives. Assumes nothing.
-use Rattle.std.proofs.Common.{◌≡◌, suc, ◌*◌, true, false, sym, refl, ◌∙◌, arith}
+use Rattle.std.proofs.Common.{◌≡◌, suc, ◌*◌, true, false, sym, ◌∙◌, arith}
 use Rattle.store.specs.Page.{is_none}
 use Rattle.store.specs.Cells.{pages_from}
 use Rattle.memory_store.specs.Steps.{next_on, next_stop, next_end}
 use Rattle.memory_store.proofs.access.next_midpoint.Goals as goal
-
-pub loop-i-init : goal.loop-i-init
-loop-i-init c = refl
 
 pub returns-then-not-is_none : goal.returns-then-not-is_none
 returns-then-not-is_none c =

@@ -6,9 +6,6 @@ use Rattle.rules.specs.Page.{older}
 use Rattle.memory_store.specs.Steps.{all_on, all_stop, all_end}
 use Rattle.memory_store.proofs.reader.all_older.Goals as goal
 
-pub loop-i-init : goal.loop-i-init
-loop-i-init c = c.older_front-i.ensures.1
-
 pub returns-then-not-is_older : goal.returns-then-not-is_older
 returns-then-not-is_older c =
     let a = c.args in

@@ -55,13 +55,10 @@ fn check_at(
         let child = store::child_at(part, c, i);
         if !child.is_none() {
             let low = level - 1;
-            match found::open_at(store, extent, c, low, child, by, heap) {
-                Err(fault) => return Err(Damage { page: child, fault }),
-                Ok(n) => {
-                    check_at(store, extent, c, low, child, n, midpoint, next, by, heap)?;
-                    midpoint = next;
-                }
-            }
+            let opened = found::open_at(store, extent, c, low, child, by, heap);
+            let n = opened.map_err(|fault| Damage { page: child, fault })?;
+            check_at(store, extent, c, low, child, n, midpoint, next, by, heap)?;
+            midpoint = next;
         }
     }
     Ok(())

@@ -12,7 +12,7 @@ ghost use Rattle.listing.specs.Starts.{started_as};
 
 use crate::way::Way;
 use crate::{descent, way};
-use answer::{Cursor, Refusal, Start, Started};
+use answer::{Cursor, Damage, Refusal, Start, Started};
 use datom::Datom;
 use index::{Index, Order};
 use memory_store::found;
@@ -123,10 +123,9 @@ fn start_under(
         return Ok(nothing());
     }
     let c = store::capacity_of(extent.size);
-    match found::node_at(store, extent, c, root, by, heap) {
-        Err(fault) => Err(Refusal::Damaged(root, fault)),
-        Ok(header) => start_at(store, extent, c, root, header.level, lower, upper, by, heap),
-    }
+    let read = found::node_at(store, extent, c, root, by, heap);
+    let header = read.map_err(|fault| Damage { page: root, fault })?;
+    start_at(store, extent, c, root, header.level, lower, upper, by, heap)
 }
 
 // The cursor that a start begins with. Document 01: "Starting a listing checks 1, 10, 5, then the bounds' order, then pages."

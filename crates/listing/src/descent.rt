@@ -85,21 +85,18 @@ pub fn descend(
     let mut filled = way;
     let mut p = page;
     for l in (0..level + 1).rev() {
-        match place_in(store, extent, c, seek, l, p, by, heap) {
-            Err(fault) => return Err(Damage { page: p, fault }),
-            Ok(Place { index, next }) => {
-                filled.indices[l] = index as u64;
-                filled.pages[l] = p;
-                if 0 < l {
-                    let NextMidpoint::Child(child) = next else {
-                        return Err(Damage {
-                            page: PageId::max(),
-                            fault: Fault::Missing,
-                        });
-                    };
-                    p = child;
-                }
-            }
+        let placed = place_in(store, extent, c, seek, l, p, by, heap);
+        let place = placed.map_err(|fault| Damage { page: p, fault })?;
+        filled.indices[l] = place.index as u64;
+        filled.pages[l] = p;
+        if 0 < l {
+            let NextMidpoint::Child(child) = place.next else {
+                return Err(Damage {
+                    page: PageId::max(),
+                    fault: Fault::Missing,
+                });
+            };
+            p = child;
         }
     }
     Ok(filled)

@@ -49,9 +49,8 @@ pub fn open_all(
     for level in (0..height).rev() {
         let page = cursor.begin_pages[level];
         let index = cursor.begin_indices[level];
-        if let Err(fault) = open_one(store, extent, c, level, index, page, by, heap) {
-            return Err(Damage { page, fault });
-        }
+        let opened = open_one(store, extent, c, level, index, page, by, heap);
+        opened.map_err(|fault| Damage { page, fault })?;
     }
     Ok(())
 }

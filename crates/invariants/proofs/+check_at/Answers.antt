@@ -3,7 +3,8 @@
 use native.Mathlib.Omega.{arith}
 use borrow.Author.Rules.{rules}
 use mathlib.Core.Path.{◌≡◌, refl, ap, ◌∙◌, sym}
-use Rattle.std.specs.Prelude.{ℕ, ◌+◌, Err}
+use Rattle.std.specs.Prelude.{ℕ, ◌+◌, Ok, Err}
+use Rattle.answer.specs.declared.Fault.{Fault}
 use Rattle.index.specs.Order.{order_in}
 use Rattle.memory_store.specs.Opened.{opened_node}
 use Rattle.invariants.specs.Bounds.{bound_of}
@@ -11,7 +12,7 @@ use Rattle.invariants.specs.Walk.{page_faulty}
 use Rattle.invariants.specs.Along.{Along, along_start, along_datoms, along_child, along_end, along_outside, along_none, along_above, along_sound, along_unsound}
 use Rattle.invariants.specs.Verdict.{verdict_of}
 use Rattle.invariants.proofs.+check_at.Goals as goal
-use Rattle.invariants.proofs.+check_at.Goals.{Joined-not-is_none, then-not-is_none+in-Ok+in_ok-check_at-in-Ok, else-not-is_none}
+use Rattle.invariants.proofs.+check_at.Goals.{Joined-not-is_none, then-not-is_none+in_ok-n+in_ok-check_at, else-not-is_none}
 
 pub loop-i-init : goal.loop-i-init
 loop-i-init t c = let a = c.args in
@@ -33,32 +34,35 @@ overflow_sub-low t c = let up = along_above c.loop-i.invariant (omega (arith, c.
     (sym c.is_none.ensures ∙ c.if-not-is_none.true) in
     omega (arith, up)
 
-pub open_at-requires : goal.open_at-requires
-open_at-requires t c = let A = c.loop-i.invariant in (A.good, A.room)
+pub open_at-opened-requires : goal.open_at-opened-requires
+open_at-opened-requires t c = let A = c.loop-i.invariant in (A.good, A.room)
 
-pub returns-in-Err : goal.returns-in-Err
-returns-in-Err t c = let a = c.args in
-    along_unsound c.loop-i.invariant (omega (arith, c.loop-i-test.true)) _ c.bound_at-next.ensures
+pub returns-in_err-n : goal.returns-in_err-n
+returns-in_err-n t c = let a = c.args in
+    let e : (f : Fault) × ((c.open_at-opened.result ≡ Err f) × (c.from_residual.result ≡ Err (record { page = c.child_at-child.result; fault = f }))) = search rules in
+    ap verdict_of e.1.1
+    ∙ along_unsound c.loop-i.invariant (omega (arith, c.loop-i-test.true)) _ c.bound_at-next.ensures
     (sym c.is_below.ensures ∙ c.if-not-is_below.false) _ c.child_at-child.ensures
     (sym c.is_none.ensures ∙ c.if-not-is_none.true) _
-    (page_faulty (order_in a.by a.heap.now) a.extent a.store.now _ _ _ _ _ c.in-Err.ensures) _ _ refl
+    (page_faulty (order_in a.by a.heap.now) a.extent a.store.now _ _ _ _ _ (sym e.1.0 ∙ c.open_at-opened.ensures)) _ _ refl
 
 pub check_at-requires : goal.check_at-requires
 check_at-requires t c = let A = c.loop-i.invariant in
     let up = along_above c.loop-i.invariant (omega (arith, c.loop-i-test.true)) _ c.bound_at-next.ensures
     (sym c.is_below.ensures ∙ c.if-not-is_below.false) _ c.child_at-child.ensures
     (sym c.is_none.ensures ∙ c.if-not-is_none.true) in
-    let read = opened_node (order_in c.args.by c.args.heap.now) c.args.extent c.args.store.now _ _ _ c.in-Ok.ensures in
+    let at : c.open_at-opened.result ≡ Ok c.in_ok-n.n = search rules in
+    let read = opened_node (order_in c.args.by c.args.heap.now) c.args.extent c.args.store.now _ _ _ (sym at ∙ c.open_at-opened.ensures) in
     (omega (arith, up, c.decreases), (A.good, A.room, read))
 
-pub returns-in_err-check_at-in-Ok : goal.returns-in_err-check_at-in-Ok
-returns-in_err-check_at-in-Ok t c =
-    let d = c.in_err-check_at-in-Ok.field-0.0 in
-    let k : c.from_residual.result ≡ Err d = search rules in
+pub returns-in_err-check_at : goal.returns-in_err-check_at
+returns-in_err-check_at t c =
+    let d = c.in_err-check_at.field-0.0 in
+    let k : c.from_residual-in_err-check_at.result ≡ Err d = search rules in
     ap verdict_of k
     ∙ along_unsound c.loop-i.invariant (omega (arith, c.loop-i-test.true)) _ c.bound_at-next.ensures
     (sym c.is_below.ensures ∙ c.if-not-is_below.false) _ c.child_at-child.ensures
-    (sym c.is_none.ensures ∙ c.if-not-is_none.true) _ c.in_err-check_at-in-Ok.ensures d.page d.fault refl
+    (sym c.is_none.ensures ∙ c.if-not-is_none.true) _ c.in_err-check_at.ensures d.page d.fault refl
 
 -- the walk past index i
 passed :
@@ -66,11 +70,11 @@ passed :
     Along (order_in c.args.by c.args.heap.now) c.args.extent c.args.store.now c.args.c c.args.level c.args.page c.args.k c.fetch-part.result.now (bound_of c.args.lower)
     (bound_of c.args.upper) (c.loop-i.i + 1) (bound_of c.bound_at-next.result) (bound_of c.if-not-is_none.midpoint)
 passed t c = elim c.if-not-is_none.branch [
-  | then-not-is_none+in-Ok+in_ok-check_at-in-Ok w ↦
+  | then-not-is_none+in_ok-n+in_ok-check_at w ↦
       rw w.midpoint-is
       (along_sound c.loop-i.invariant (omega (arith, c.loop-i-test.true)) _ c.bound_at-next.ensures
       (sym c.is_below.ensures ∙ c.if-not-is_below.false) _ c.child_at-child.ensures
-      (sym c.is_none.ensures ∙ w.if-not-is_none.true) _ w.in_ok-check_at-in-Ok.ensures refl)
+      (sym c.is_none.ensures ∙ w.if-not-is_none.true) _ w.in_ok-check_at.ensures refl)
   | else-not-is_none w ↦
       rw w.midpoint-is
       (along_none c.loop-i.invariant (omega (arith, c.loop-i-test.true)) _ c.bound_at-next.ensures

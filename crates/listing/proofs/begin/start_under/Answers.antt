@@ -2,33 +2,43 @@
 use Rattle.index.specs.Order.{order_in}
 use Rattle.listing.specs.StartLaws.{under_nothing, under_damaged, under_read}
 use Rattle.memory_store.specs.Readable.{opens, told_fine, told_faulty}
-use mathlib.Core.Path.{sym, ◌∙◌}
+use Rattle.answer.specs.declared.Fault.{Fault}
+use Rattle.answer.specs.declared.Refusal.TheVariants.{Damaged}
+use Rattle.listing.specs.Starts.{started_as}
+use Rattle.std.specs.Prelude.{Ok, Err}
+use borrow.Author.Rules.{rules}
+use mathlib.Core.Path.{◌≡◌, sym, ap, ◌∙◌}
 use Rattle.listing.proofs.begin.start_under.Goals as goal
 
 pub returns-then-not-is_any_between : goal.returns-then-not-is_any_between
 returns-then-not-is_any_between c = let a = c.args in
     rw c.nothing.ensures (under_nothing (order_in a.by a.heap.now) a.extent a.store.now a.root a.lower a.upper (sym c.is_any_between.ensures ∙ c.if-not-is_any_between.true))
 
-pub node_at-requires : goal.node_at-requires
-node_at-requires c = (c.requires, c.capacity_of-c.ensures)
+pub node_at-read-requires : goal.node_at-read-requires
+node_at-read-requires c = (c.requires, c.capacity_of-c.ensures)
 
 pub start_at-requires : goal.start_at-requires
 start_at-requires c =
     let pre = c.requires in
     let a = c.args in
-    let e = told_fine (order_in a.by a.heap.now) a.extent a.store.now a.root c.in-Ok.header c.in-Ok.ensures in
-    (pre, (c.capacity_of-c.ensures, (opens (order_in a.by a.heap.now) a.extent a.store.now a.root c.in-Ok.header.level c.in-Ok.header.count pre e).low))
+    let h = c.in_ok-header.header in
+    let at : c.node_at-read.result ≡ Ok h = search rules in
+    let e = told_fine (order_in a.by a.heap.now) a.extent a.store.now a.root h (rw at at c.node_at-read.ensures) in
+    (pre, (c.capacity_of-c.ensures, (opens (order_in a.by a.heap.now) a.extent a.store.now a.root h.level h.count pre e).low))
 
-pub returns-in-Err : goal.returns-in-Err
-returns-in-Err c =
+pub returns-in_err-header : goal.returns-in_err-header
+returns-in_err-header c =
     let a = c.args in
-    let e = told_faulty (order_in a.by a.heap.now) a.extent a.store.now a.root _ c.in-Err.ensures in
-    under_damaged (order_in a.by a.heap.now) a.extent a.store.now a.root a.lower a.upper
-    (sym c.is_any_between.ensures ∙ c.if-not-is_any_between.false) _ e
+    let w : (f : Fault) × ((c.node_at-read.result ≡ Err f) × (c.from_residual.result ≡ Err (Damaged a.root f))) = search rules in
+    let e = told_faulty (order_in a.by a.heap.now) a.extent a.store.now a.root w.0 (rw w.1.0 at c.node_at-read.ensures) in
+    ap started_as w.1.1
+    ∙ under_damaged (order_in a.by a.heap.now) a.extent a.store.now a.root a.lower a.upper (sym c.is_any_between.ensures ∙ c.if-not-is_any_between.false) w.0 e
 
-pub returns-in-Ok : goal.returns-in-Ok
-returns-in-Ok c =
+pub returns : goal.returns
+returns c =
     let a = c.args in
-    let e = told_fine (order_in a.by a.heap.now) a.extent a.store.now a.root c.in-Ok.header c.in-Ok.ensures in
-    c.start_at.ensures ∙ under_read (order_in a.by a.heap.now) a.extent a.store.now a.root a.lower a.upper
-    (sym c.is_any_between.ensures ∙ c.if-not-is_any_between.false) c.in-Ok.header.level c.in-Ok.header.count e
+    let h = c.in_ok-header.header in
+    let at : c.node_at-read.result ≡ Ok h = search rules in
+    let e = told_fine (order_in a.by a.heap.now) a.extent a.store.now a.root h (rw at at c.node_at-read.ensures) in
+    c.start_at.ensures
+    ∙ under_read (order_in a.by a.heap.now) a.extent a.store.now a.root a.lower a.upper (sym c.is_any_between.ensures ∙ c.if-not-is_any_between.false) h.level h.count e

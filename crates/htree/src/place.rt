@@ -104,13 +104,24 @@ pub fn split(
     let more = (n + 1) % pages;
     let last = pages - 1;
     let mut i = 0;
-    let mut next = written;
     for p in 0..last {
         let k = node::share_of(each, more, p);
-        split_part(store, extent, c, next, level, s, m, n, p, i, k)?;
-        next += 1;
+        split_part(
+            store,
+            extent,
+            c,
+            written + p as u64,
+            level,
+            s,
+            m,
+            n,
+            p,
+            i,
+            k,
+        )?;
         i += k;
     }
+    let next = written + last as u64;
     let id = put_part(store, extent, c, next, level, s, m, n, i, n - i)?;
     node::put_child(s, m, last, id);
     Ok(Placed {

@@ -3,10 +3,10 @@ use Prim.Native.Nat.{◌+◌, ◌-◌, ◌*◌}
 use native.Mathlib.Nat.{sub-zero, add-mul, one-mul}
 use native.Mathlib.Omega.{arith}
 use mathlib.Core.Path.{◌≡◌, sym, ◌∙◌}
-use lib.ListN.{length, length-take, length-drop}
+use lib.ListN.{length}
 use Rattle.std.proofs.lemmas.Result.{err_from_is_err_and}
 use Rattle.index.specs.Order.{order_in}
-use Rattle.htree.specs.Cycle.{rooms, area_fits, lower, drains_start, drains_ready, drains_small, drains_sent, drains_none, drains_on, drains_stop, flush_fails, flush_back, flush_done, insert_bad, loads_few, insert_flat, insert_stops, went_ready, went_few, insert_goes}
+use Rattle.htree.specs.Cycle.{rooms, area_fits, drains_start, drains_ready, drains_small, drains_sent, drains_none, drains_on, drains_stop, flush_fails, flush_back, flush_done, insert_bad, loads_few, insert_flat, insert_stops, went_ready, went_few, insert_goes}
 use Rattle.htree.proofs.insert.+drain_flush_insert_into.Goals as goal
 
 pub drain-loop-turn-init : goal.drain-loop-turn-init
@@ -18,13 +18,6 @@ drain-returns-then-left-c t c =
     let I = c.loop-turn.invariant in
     let P = c.requires in
     λ o e. drains_small I (omega (arith, P.2)) o e (omega (arith, P.0.cap))
-
-pub drain-has_pending-requires : goal.drain-has_pending-requires
-drain-has_pending-requires t c =
-    let a = c.args in
-    let I = c.loop-turn.invariant in
-    let P = c.requires in
-    (omega (arith, I.same, area_fits a.level (40 * a.m + 8) (32 * a.m) (length a.s.now) P.3), omega (arith, I.few, P.2))
 
 pub drain-returns-then-not-has_pending : goal.drain-returns-then-not-has_pending
 drain-returns-then-not-has_pending t c =
@@ -64,104 +57,6 @@ drain-returns t c =
     let P = c.requires in
     λ o e. drains_none I (omega (arith, P.2)) o e (omega arith)
 
-pub flush-longest_pending_span-span-requires : goal.flush-longest_pending_span-span-requires
-flush-longest_pending_span-span-requires t c =
-    let a = c.args in
-    let P = c.requires in
-    let g = rooms a.level (40 * a.m + 8) (32 * a.m) (length a.s.now) P.1 P.3 in
-    (omega arith, omega (arith, P.2))
-
-pub flush-child_at-child-requires : goal.flush-child_at-child-requires
-flush-child_at-child-requires t c =
-    let a = c.args in
-    let P = c.requires in
-    let g = rooms a.level (40 * a.m + 8) (32 * a.m) (length a.s.now) P.1 P.3 in
-    let Q = c.longest_pending_span-span.ensures in
-    omega (arith, P.2, Q.within)
-
-pub flush-overflow_sub-lower : goal.flush-overflow_sub-lower
-flush-overflow_sub-lower t c = omega (arith, c.requires.1)
-
-pub flush-open_at-opened-requires : goal.flush-open_at-opened-requires
-flush-open_at-opened-requires t c = let P = c.requires in (P.0.good, P.0.cap)
-
-pub flush-overflow_mul-own : goal.flush-overflow_mul-own
-flush-overflow_mul-own t c =
-    let a = c.args in
-    let P = c.requires in
-    let g = rooms a.level (40 * a.m + 8) (32 * a.m) (length a.s.now) P.1 P.3 in
-    omega arith
-
-pub flush-overflow_add-own : goal.flush-overflow_add-own
-flush-overflow_add-own t c =
-    let a = c.args in
-    let P = c.requires in
-    let g = rooms a.level (40 * a.m + 8) (32 * a.m) (length a.s.now) P.1 P.3 in
-    omega arith
-
-pub flush-overflow_mul-from : goal.flush-overflow_mul-from
-flush-overflow_mul-from t c =
-    let a = c.args in
-    let P = c.requires in
-    let g = rooms a.level (40 * a.m + 8) (32 * a.m) (length a.s.now) P.1 P.3 in
-    let Q = c.longest_pending_span-span.ensures in
-    omega (arith, P.2, Q.rises, Q.within)
-
-pub flush-overflow_add-own-2 : goal.flush-overflow_add-own-2
-flush-overflow_add-own-2 t c =
-    let a = c.args in
-    let P = c.requires in
-    let g = rooms a.level (40 * a.m + 8) (32 * a.m) (length a.s.now) P.1 P.3 in
-    let Q = c.longest_pending_span-span.ensures in
-    omega (arith, P.2, Q.rises, Q.within)
-
-pub flush-overflow_sub-upto : goal.flush-overflow_sub-upto
-flush-overflow_sub-upto t c =
-    let a = c.args in
-    let P = c.requires in
-    let g = rooms a.level (40 * a.m + 8) (32 * a.m) (length a.s.now) P.1 P.3 in
-    let Q = c.longest_pending_span-span.ensures in
-    omega (arith, Q.rises)
-
-pub flush-move_span-requires : goal.flush-move_span-requires
-flush-move_span-requires t c =
-    let a = c.args in
-    let P = c.requires in
-    let g = rooms a.level (40 * a.m + 8) (32 * a.m) (length a.s.now) P.1 P.3 in
-    let Q = c.longest_pending_span-span.ensures in
-    (omega (arith, P.2, Q.rises, Q.within), (omega (arith, P.2, Q.rises, Q.within), λ z. omega (arith, P.2, Q.rises, Q.within)))
-
-pub flush-slice_bounds-insert_into-count : goal.flush-slice_bounds-insert_into-count
-flush-slice_bounds-insert_into-count t c =
-    let a = c.args in
-    let P = c.requires in
-    let g = rooms a.level (40 * a.m + 8) (32 * a.m) (length a.s.now) P.1 P.3 in
-    let Q = c.longest_pending_span-span.ensures in
-    omega arith
-
-pub flush-overflow_sub-upto-2 : goal.flush-overflow_sub-upto-2
-flush-overflow_sub-upto-2 t c =
-    let a = c.args in
-    let P = c.requires in
-    let g = rooms a.level (40 * a.m + 8) (32 * a.m) (length a.s.now) P.1 P.3 in
-    let Q = c.longest_pending_span-span.ensures in
-    omega (arith, Q.rises)
-
-pub flush-insert_into-requires : goal.flush-insert_into-requires
-flush-insert_into-requires t c =
-    let a = c.args in
-    let P = c.requires in
-    let g = rooms a.level (40 * a.m + 8) (32 * a.m) (length a.s.now) P.1 P.3 in
-    let Q = c.longest_pending_span-span.ensures in (
-      omega (arith, P.1),
-      (
-        P.0,
-        rw (lower a.level P.1) (omega (arith, P.2, Q.rises, Q.within)),
-        rw (lower a.level P.1) (simp (length-take, length-drop) (omega arith)),
-        c.open_at-opened.ensures,
-      ),
-    )
-
 pub flush-splice-requires : goal.flush-splice-requires
 flush-splice-requires t c =
     let a = c.args in
@@ -171,22 +66,6 @@ flush-splice-requires t c =
     let T = rw (c.move_span.ensures, c.child_at-child.ensures) at c.in_ok-back.ensures in
     let J = flush_back a.extent a.store.now a.c a.written a.level a.m a.n a.s.now P.0 c.longest_pending_span-span.result Q (omega (arith, P.2)) (omega arith) (order_in a.by a.heap.now) _ _ _ _ T in
     (omega (arith, J, Q.rises), (Q.within, (omega (arith, P.2), omega arith)))
-
-pub flush-overflow_sub-result : goal.flush-overflow_sub-result
-flush-overflow_sub-result t c =
-    let a = c.args in
-    let P = c.requires in
-    let g = rooms a.level (40 * a.m + 8) (32 * a.m) (length a.s.now) P.1 P.3 in
-    let Q = c.longest_pending_span-span.ensures in
-    omega (arith, Q.rises)
-
-pub flush-overflow_sub-result-2 : goal.flush-overflow_sub-result-2
-flush-overflow_sub-result-2 t c =
-    let a = c.args in
-    let P = c.requires in
-    let g = rooms a.level (40 * a.m + 8) (32 * a.m) (length a.s.now) P.1 P.3 in
-    let Q = c.longest_pending_span-span.ensures in
-    omega (arith, Q.rises, Q.within)
 
 pub flush-overflow_add-result : goal.flush-overflow_add-result
 flush-overflow_add-result t c =

@@ -45,12 +45,6 @@ write_page-requires c =
     let l : length a.store.now - a.extent.count * a.extent.size ≤ length a.store.now - a.extent.count * a.extent.size = omega arith in
     (simp (length-take, length-drop) (omega arith), omega (arith, o.known.fits, R.cap), o.known.most, omega arith, search rules, search rules, search rules, search rules)
 
-pub overflow_add-result : goal.overflow_add-result
-overflow_add-result c =
-    let a = c.args in
-    let R = c.requires.0 in
-    let o = in_order a.extent a.store.now R.good in omega (arith, div-le_self (length a.store.now) a.extent.size)
-
 pub returns : goal.returns
 unfolding part_of node_of
 returns c =

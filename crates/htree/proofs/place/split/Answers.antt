@@ -2,6 +2,7 @@
 use Rattle.htree.specs.Split.{looping_next, looping_on, looping_end, looping_stop, looping_refused, divided, halfway_start, looping_ready, looping_same, looping_few, looping_share, looping_inner, looping_last}
 use Rattle.std.proofs.lemmas.Result.{err_from_is_err_and}
 use borrow.Author.Rules.{rules}
+use native.Mathlib.Nat.{add-zero}
 use native.Mathlib.Omega.{arith}
 use mathlib.Core.Path.{◌≡◌, refl}
 use Prim.Native.Nat.{◌+◌, ◌-◌, ◌/◌}
@@ -15,23 +16,11 @@ overflow_sub-pages c =
     let R = c.requires.0 in
     let K = (in_order a.extent a.store.now R.good).known in omega (arith, K.some, R.cap)
 
-pub overflow_add-pages : goal.overflow_add-pages
-overflow_add-pages c =
-    let a = c.args in
-    let R = c.requires.0 in
-    let K = (in_order a.extent a.store.now R.good).known in omega (arith, K.few, R.cap)
-
 pub nonzero_div-pages : goal.nonzero_div-pages
 nonzero_div-pages c =
     let a = c.args in
     let R = c.requires.0 in
     let K = (in_order a.extent a.store.now R.good).known in omega (arith, K.some, R.cap)
-
-pub overflow_add-each : goal.overflow_add-each
-overflow_add-each c =
-    let a = c.args in
-    let R = c.requires.0 in
-    let K = (in_order a.extent a.store.now R.good).known in omega arith
 
 pub nonzero_div-each : goal.nonzero_div-each
 nonzero_div-each c =
@@ -39,12 +28,6 @@ nonzero_div-each c =
     let R = c.requires.0 in
     let K = (in_order a.extent a.store.now R.good).known in
     let D = divided a.c a.n _ _ _ (omega (arith, K.some, R.cap)) (omega arith) refl refl refl in omega (arith, D.some)
-
-pub overflow_add-more : goal.overflow_add-more
-overflow_add-more c =
-    let a = c.args in
-    let R = c.requires.0 in
-    let K = (in_order a.extent a.store.now R.good).known in omega arith
 
 pub nonzero_rem-more : goal.nonzero_rem-more
 nonzero_rem-more c =
@@ -67,18 +50,11 @@ loop-p-init c =
     let K = (in_order a.extent a.store.now R.good).known in
     let D = divided a.c a.n _ _ _ (omega (arith, K.some, R.cap)) (omega arith) refl refl refl in
     record {
-      half = λ t o e. rw (D.each, D.more) (halfway_start t a.extent a.store.now a.written a.level a.m a.n a.s.now o e _ (rw (← R.cap) D.pages) R.room);
+      half = λ t o e. rw (add-zero, D.each, D.more) (halfway_start t a.extent a.store.now a.written a.level a.m a.n a.s.now o e _ (rw (← R.cap) D.pages) R.room);
       divided = D;
       begun = R;
       left = D.some;
     }
-
-pub share_of-k-requires : goal.share_of-k-requires
-share_of-k-requires c =
-    let a = c.args in
-    let I = c.loop-p.invariant in
-    let R = looping_ready I in
-    let K = (in_order a.extent c.loop-p.store R.good).known in omega (arith, I.divided.fit, K.few, R.cap)
 
 pub split_part-requires : goal.split_part-requires
 split_part-requires c =
@@ -90,9 +66,12 @@ split_part-requires c =
     let e = c.share_of-k.ensures in
     (R, omega (arith, looping_same I), search rules, omega (arith, h.0), omega (arith, looping_inner I (omega arith)), omega (arith, h.1), looping_few I)
 
+pub overflow_add-written : goal.overflow_add-written
+overflow_add-written c =
+    let I = c.loop-p.invariant in omega (arith, looping_next I)
+
 pub overflow_add-next : goal.overflow_add-next
 overflow_add-next c =
-    let a = c.args in
     let I = c.loop-p.invariant in omega (arith, looping_next I)
 
 pub overflow_add-i : goal.overflow_add-i
@@ -106,7 +85,8 @@ pub loop-p-preserved : goal.loop-p-preserved
 loop-p-preserved c =
     let a = c.args in
     let I = c.loop-p.invariant in
-    looping_on I (omega arith) (omega arith) _ c.share_of-k.ensures (omega arith) _ _ _ c.in_ok-split_part.ensures
+    let e : a.written + (c.loop-p.p + 1) ≡ a.written + c.loop-p.p + 1 = omega arith in
+    rw e (looping_on I (omega arith) (omega arith) _ c.share_of-k.ensures (omega arith) _ _ _ c.in_ok-split_part.ensures)
 
 pub returns-in_err-split_part : goal.returns-in_err-split_part
 returns-in_err-split_part c =
@@ -125,12 +105,8 @@ put_part-requires c =
     let a = c.args in
     let I = c.loop-p.invariant in
     let h = looping_last I (omega (arith, I.left)) in
-    (looping_ready I, omega (arith, looping_same I), search rules, omega (arith, h.1), omega (arith, h.0, (looping_share I).1, (looping_share I).0))
-
-pub put_child-requires : goal.put_child-requires
-put_child-requires c =
-    let a = c.args in
-    let I = c.loop-p.invariant in (omega (arith, looping_same I), omega (arith, looping_few I, (looping_last I (omega (arith, I.left))).1))
+    let z : (a.n + (a.c - 1)) / a.c - 1 ≡ c.loop-p.p = omega (arith, I.left) in
+    (rw z (looping_ready I), omega (arith, looping_same I), search rules, omega (arith, h.1), omega (arith, h.0, (looping_share I).1, (looping_share I).0))
 
 pub overflow_add-result : goal.overflow_add-result
 overflow_add-result c =
@@ -144,11 +120,13 @@ returns c =
     let z : (a.n + (a.c - 1)) / a.c - 1 ≡ c.loop-p.p = omega (arith, I.left) in
     λ t o e.
     rw (c.put_child.ensures, z)
-    (tell_went (looping_end I (omega arith) (omega arith) (omega (arith, I.left)) _ _ c.in_ok-id.ensures t o e))
+    (tell_went (looping_end I (omega arith) (omega arith) (omega (arith, I.left)) _ _ (rw z at c.in_ok-id.ensures) t o e))
 
 pub returns-in_err-id : goal.returns-in_err-id
 returns-in_err-id c =
+    let a = c.args in
     let I = c.loop-p.invariant in
+    let z : (a.n + (a.c - 1)) / a.c - 1 ≡ c.loop-p.p = omega (arith, I.left) in
     let q = err_from_is_err_and c.from_residual-in_err-id.result c.from_residual-in_err-id.ensures.1 in
     rw (q.1, q.2)
-    (λ t o e. tell_stopped (looping_refused I (omega (arith, I.left)) _ _ c.in_err-id.ensures t o e))
+    (λ t o e. tell_stopped (looping_refused I (omega (arith, I.left)) _ _ (rw z at c.in_err-id.ensures) t o e))

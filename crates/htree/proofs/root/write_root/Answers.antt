@@ -15,12 +15,6 @@ split-requires c =
     let I = c.loop-up.invariant in
     (rises_ready I, omega (arith, I.same), omega (arith, I.few), omega arith)
 
-pub overflow_add-high : goal.overflow_add-high
-overflow_add-high c =
-    let a = c.args in
-    let I = c.loop-up.invariant in
-    omega (arith, I.low)
-
 pub loop-up-smaller : goal.loop-up-smaller
 loop-up-smaller c =
     let a = c.args in

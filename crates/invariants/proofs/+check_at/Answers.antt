@@ -34,9 +34,6 @@ overflow_sub-low t c = let up = along_above c.loop-i.invariant (omega (arith, c.
     (sym c.is_none.ensures ∙ c.if-not-is_none.true) in
     omega (arith, up)
 
-pub open_at-opened-requires : goal.open_at-opened-requires
-open_at-opened-requires t c = let A = c.loop-i.invariant in (A.good, A.room)
-
 pub returns-in_err-n : goal.returns-in_err-n
 returns-in_err-n t c = let a = c.args in
     let e : (f : Fault) × ((c.open_at-opened.result ≡ Err f) × (c.from_residual.result ≡ Err (record { page = c.child_at-child.result; fault = f }))) = search rules in
@@ -87,6 +84,3 @@ loop-i-preserved t c = passed t (goal.at.loop-i-preserved t c).Joined-not-is_non
 
 pub returns-after-not-is_none : goal.returns-after-not-is_none
 returns-after-not-is_none t c = along_end (passed t (goal.at.returns-after-not-is_none t c).Joined-not-is_none) (omega arith)
-
-pub returns : goal.returns
-returns t c = along_end c.loop-i.invariant (omega (arith, c.loop-i-test.false))

@@ -22,9 +22,6 @@ returns-then-is_none c =
     let known = sym c.is_bad_root.ensures ∙ c.if-is_bad_root.false in
     check_none (order_in a.by a.heap.now) a.extent a.store.now a.root ok known (sym c.is_none.ensures ∙ c.if-is_none.true)
 
-pub node_at-requires : goal.node_at-requires
-node_at-requires c = (sym c.is_bad.ensures ∙ c.if-is_bad.false, c.capacity_of-c.ensures)
-
 pub check_at-requires : goal.check_at-requires
 check_at-requires c =
     let a = c.args in

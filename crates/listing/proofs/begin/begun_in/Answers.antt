@@ -28,9 +28,6 @@ returns-then-is_bad_root c =
     (order_bound a.by a.heap.now _ ∙ sym c.is_bound.ensures ∙ c.if-not-is_bound.false) (order_bound a.by a.heap.now _ ∙ sym c.is_bound-2.ensures ∙ c.if-not-is_bound-2.false)
     (sym c.is_bad_root.ensures ∙ c.if-is_bad_root.true)
 
-pub start_under-requires : goal.start_under-requires
-start_under-requires c = sym c.is_bad.ensures ∙ c.if-is_bad.false
-
 pub returns : goal.returns
 returns c =
     let a = c.args in

@@ -1,7 +1,6 @@
 -- `start_at` meets its contract: a way that is lost refuses the start, the lower first. Assumes nothing.
 use borrow.Author.Rules.{rules}
 use mathlib.Core.Path.{◌≡◌, ap, ◌∙◌}
-use native.Mathlib.Omega.{arith}
 use Rattle.std.specs.Prelude.{Some, Err}
 use Rattle.answer.specs.Damage.{damaged}
 use Rattle.index.specs.Order.{order_in}
@@ -9,9 +8,6 @@ use Rattle.listing.specs.Descent.{test_of, down_of}
 use Rattle.listing.specs.Fill.{down_long}
 use Rattle.listing.specs.Starts.{started_as, was_lost, came_down, full_of, upper_lost, both_down}
 use Rattle.listing.proofs.begin.start_at.Goals as goal
-
-pub descend-requires : goal.descend-requires
-descend-requires c = c.requires
 
 pub returns-in_err-begin : goal.returns-in_err-begin
 returns-in_err-begin c =
@@ -21,9 +17,6 @@ returns-in_err-begin c =
     let d = c.in_err-begin.field-0.0 in
     let k : c.from_residual.result ≡ Err (damaged d) = search rules in
     ap started_as k ∙ was_lost a.level _ c.descend.result d.page d.fault lower c.descend.ensures c.in_err-begin.was upper
-
-pub descend-requires-2 : goal.descend-requires-2
-descend-requires-2 c = c.requires
 
 pub returns-in_err-end : goal.returns-in_err-end
 returns-in_err-end c =
@@ -36,9 +29,6 @@ returns-in_err-end c =
     let d = c.in_err-end.field-0.0 in
     let k : c.from_residual-in_err-end.result ≡ Err (damaged d) = search rules in
     ap started_as k ∙ upper_lost a.level _ _ c.descend.result c.descend-2.result _ lower upper D d.page d.fault c.descend-2.ensures c.in_err-end.was
-
-pub cursor_of-requires : goal.cursor_of-requires
-cursor_of-requires c = let p = c.requires.1.1 in omega (arith, p)
 
 pub returns : goal.returns
 returns c =

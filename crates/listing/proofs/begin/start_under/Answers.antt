@@ -14,9 +14,6 @@ pub returns-then-not-is_any_between : goal.returns-then-not-is_any_between
 returns-then-not-is_any_between c = let a = c.args in
     rw c.nothing.ensures (under_nothing (order_in a.by a.heap.now) a.extent a.store.now a.root a.lower a.upper (sym c.is_any_between.ensures ∙ c.if-not-is_any_between.true))
 
-pub node_at-read-requires : goal.node_at-read-requires
-node_at-read-requires c = (c.requires, c.capacity_of-c.ensures)
-
 pub start_at-requires : goal.start_at-requires
 start_at-requires c =
     let pre = c.requires in

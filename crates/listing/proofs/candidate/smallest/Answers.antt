@@ -1,12 +1,11 @@
 -- `smallest` meets its contract: the minimum so far is that of the levels below. Assumes nothing.
 use native.Mathlib.Omega.{arith}
 use borrow.Author.Rules.{rules}
-use mathlib.Core.Path.{◌≡◌, ap, sym, ◌∙◌}
+use mathlib.Core.Path.{◌≡◌, sym, ◌∙◌}
 use Rattle.std.specs.Prelude.{◌+◌, Err}
 use Rattle.index.specs.Order.{order_in}
 use Rattle.rules.specs.Store.{fetch_page}
 use Rattle.listing.specs.Opening.{open_at}
-use Rattle.listing.specs.Candidate.{candidate_below}
 use Rattle.listing.specs.CandidateLaws.{candidate_none, candidate_on, candidate_stays}
 use Rattle.listing.specs.Levels.{fine_in}
 use Rattle.listing.proofs.candidate.smallest.Goals as goal
@@ -37,9 +36,3 @@ loop-level-preserved c =
     let a = c.args in
     let u = a.cursor in
     sym c.in_ok-best.was ∙ candidate_on (order_in a.by a.heap.now) (fetch_page (order_in a.by a.heap.now) a.extent a.store.now) u.begin_indices u.begin_pages c.loop-level.level _ c.chosen.result c.loop-level.invariant c.chosen.ensures
-
-pub returns : goal.returns
-returns c = let a = c.args in
-    let u = a.cursor in
-    let e : c.loop-level.level ≡ u.height = omega (arith, c.loop-level.auto.level-end, c.loop-level-test.false) in
-    c.loop-level.invariant ∙ ap (λ n. candidate_below (order_in a.by a.heap.now) (fetch_page (order_in a.by a.heap.now) a.extent a.store.now) n u.begin_indices u.begin_pages) e

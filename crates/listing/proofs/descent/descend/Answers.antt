@@ -12,9 +12,6 @@ pub loop-l-init : goal.loop-l-init
 loop-l-init c = let a = c.args in
     left_all (order_in a.by a.heap.now) a.extent a.store.now (test_of (order_in a.by a.heap.now) a.seek) a.level a.way a.page
 
-pub place_in-placed-requires : goal.place_in-placed-requires
-place_in-placed-requires c = (c.requires.0, c.requires.1.0)
-
 pub returns-in_err-place : goal.returns-in_err-place
 returns-in_err-place c =
     let a = c.args in

@@ -94,11 +94,6 @@ returns-in_default c =
     let word = c.well_formed.1.0 in
     rw c.max.ensures (adv_stuck (order_in a.by a.heap.now) a.extent a.store.now b a.level c.if-level-eq0.false (ap (λ ks. is_midpoint ks (get_or b.indices a.level 0)) kids ∙ sym mid ∙ c.if-not-is_midpoint_at.false) (omega (arith, word)) (sym next ∙ c.in_default.is))
 
-pub descend-requires : goal.descend-requires
-descend-requires c =
-    let pre = c.requires in
-    (pre.0, (pre.1.0, omega (arith, pre.1.1.0)))
-
 pub returns : goal.returns
 returns c =
     let a = c.args in

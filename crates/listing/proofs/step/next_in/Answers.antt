@@ -18,17 +18,11 @@ returns-then-cursor c =
     let u = a.cursor in
     rw c.max.ensures (step_tall (order_in a.by a.heap.now) a.extent a.store.now u (sym c.is_bad.ensures ∙ c.if-is_bad.false) c.if-cursor.true)
 
-pub is_at_end-requires : goal.is_at_end-requires
-is_at_end-requires c = c.if-cursor.false
-
 pub returns-then-is_at_end : goal.returns-then-is_at_end
 returns-then-is_at_end c =
     let a = c.args in
     let u = a.cursor in
     step_ended (order_in a.by a.heap.now) a.extent a.store.now u (sym c.is_bad.ensures ∙ c.if-is_bad.false) c.if-cursor.false (sym c.is_at_end.ensures ∙ c.if-is_at_end.true)
-
-pub step_on-requires : goal.step_on-requires
-step_on-requires c = ((sym c.is_bad.ensures ∙ c.if-is_bad.false), c.if-cursor.false)
 
 pub returns-in_err-step_on : goal.returns-in_err-step_on
 returns-in_err-step_on c =

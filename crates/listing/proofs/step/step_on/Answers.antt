@@ -14,9 +14,6 @@ use Rattle.listing.specs.Taken.{on_damaged, on_nothing, on_twice, on_under, on_a
 use borrow.Author.Rules.{rules}
 use Rattle.listing.proofs.step.step_on.Goals as goal
 
-pub open_all-requires : goal.open_all-requires
-open_all-requires c = (c.requires.0, (c.capacity_of-c.ensures, c.requires.1))
-
 pub returns-in_err-open_all : goal.returns-in_err-open_all
 returns-in_err-open_all c =
     let a = c.args in
@@ -26,11 +23,6 @@ returns-in_err-open_all c =
     ap (yielded_as u) k
     ∙ on_damaged (order_in a.by a.heap.now) a.extent a.store.now u d.page d.fault (open_frames (fetch_page (order_in a.by a.heap.now) a.extent a.store.now) (begin_frames u))
     (sym c.in_err-open_all.was ∙ c.open_all.ensures)
-
-pub smallest-requires : goal.smallest-requires
-smallest-requires c =
-    let pre = c.requires in
-    (pre.0, (c.capacity_of-c.ensures, (pre.1, sym c.open_all.ensures ∙ c.in_ok-open_all.was)))
 
 pub yield_at-requires : goal.yield_at-requires
 yield_at-requires c =

@@ -7,20 +7,12 @@ use Rattle.listing.specs.Advance.{yielded_as}
 use Rattle.listing.specs.AdvanceLaws.{yield_lost, yield_bottom}
 use Rattle.listing.proofs.step.yield_at.Goals as goal
 
-pub advance-requires : goal.advance-requires
-advance-requires c =
-    let pre = c.requires in
-    (pre.0, (pre.1.0, (pre.1.1.1.0, pre.1.1.1.1)))
-
 pub returns-in_err-next : goal.returns-in_err-next
 returns-in_err-next c =
     let a = c.args in
     let d = c.in_err-next.field-0.0 in
     let k : c.from_residual.result ≡ Err (damaged d) = search rules in
     ap (yielded_as a.cursor) k ∙ yield_lost a.cursor a.datom c.advance.result _ c.advance.ensures d.page d.fault c.in_err-next.was
-
-pub cursor_of-requires : goal.cursor_of-requires
-cursor_of-requires c = c.requires.1.1.0
 
 pub returns : goal.returns
 returns c =

@@ -18,9 +18,9 @@ use store::{Extent, PageId};
 
 // The index that is found in a page and the child that the way goes on to, if any.
 #[derive(Clone, Copy)]
-pub struct Place {
-    pub index: usize,
-    pub next: NextMidpoint,
+struct Place {
+    index: usize,
+    next: NextMidpoint,
 }
 
 // The index in a page of k datoms: that of the first which is not below the bound, or 0 where there is none.

@@ -54,9 +54,9 @@ fn advance(
 
 // A datom that a step yields, and the cursor behind it.
 #[derive(Clone, Copy)]
-pub struct Yielded {
-    pub datom: Datom,
-    pub cursor: Cursor,
+struct Yielded {
+    datom: Datom,
+    cursor: Cursor,
 }
 
 // The datom of a level is yielded, unless a page is lost while the cursor advances.

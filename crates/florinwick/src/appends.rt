@@ -6,13 +6,7 @@ ghost use Rattle.florinwick.specs.Append.{HeapReplied};
 use crate::words;
 
 // Appends an integer that has no inline form, one of 2^62 or more.
-#[unsafe(no_mangle)]
-pub extern "C" fn florinwick_append_u64(
-    heap: &mut [u8],
-    used: u64,
-    value: u64,
-    area: &mut [u8],
-) -> u64
+pub fn florinwick_append_u64(heap: &mut [u8], used: u64, value: u64, area: &mut [u8]) -> u64
     ensures { HeapReplied result area.old area.new heap.old heap.new used (append_word heap.old used value) }
 {
     if area.len() != words::AREA {
@@ -23,13 +17,7 @@ pub extern "C" fn florinwick_append_u64(
 }
 
 // Appends a byte string that has no inline form, one of 8 bytes or more.
-#[unsafe(no_mangle)]
-pub extern "C" fn florinwick_append_bytes(
-    heap: &mut [u8],
-    used: u64,
-    bytes: &[u8],
-    area: &mut [u8],
-) -> u64
+pub fn florinwick_append_bytes(heap: &mut [u8], used: u64, bytes: &[u8], area: &mut [u8]) -> u64
     ensures { HeapReplied result area.old area.new heap.old heap.new used (append_text heap.old used bytes.now) }
 {
     if area.len() != words::AREA {

@@ -1,7 +1,7 @@
 // A cursor in bytes, as a C caller keeps it between calls.
-ghost use Rattle.std.specs.Prelude.{◌≡◌, ◌+◌, ◌≤◌, length};
+ghost use Rattle.std.specs.Prelude.{ℕ, ◌≡◌, ◌+◌, ◌≤◌, length};
 ghost use Rattle.store.specs.Words.{little, bytes_of, cells, spread, patch};
-ghost use Rattle.store.specs.Page.{page_of, page_bytes};
+ghost use Rattle.store.specs.Page.{page};
 ghost use Rattle.florinwick.specs.Cursor.{cursor_bytes, cursor_in};
 
 use answer::Cursor;
@@ -10,35 +10,60 @@ use store::PageId;
 // How many bytes a cursor has.
 pub const BYTES: usize = 264;
 
-fn indices_in(s: &[u8]) -> [u64; 8]
-    requires { 64 ≤ length s.now }
-    ensures { result ≡ cells little 8 8 s.now }
-{
-    [
-        store::word(s, 0),
-        store::word(s, 8),
-        store::word(s, 16),
-        store::word(s, 24),
-        store::word(s, 32),
-        store::word(s, 40),
-        store::word(s, 48),
-        store::word(s, 56),
-    ]
+// What a cursor has eight of: an index or a page id, a word each.
+trait Word: Copy {
+    ghost word: { Self → ℕ };
+
+    ghost of_word: { ℕ → Self };
+
+    fn word(self) -> u64
+        ensures { result ≡ word self };
+
+    fn of_word(n: u64) -> Self
+        ensures { result ≡ of_word n };
 }
 
-fn pages_in(s: &[u8]) -> [PageId; 8]
+impl Word for u64 {
+    ghost word = { λ index. index };
+
+    ghost of_word = { λ n. n };
+
+    fn word(self) -> u64 {
+        self
+    }
+
+    fn of_word(n: u64) -> u64 {
+        n
+    }
+}
+
+impl Word for PageId {
+    ghost word = { λ page. page.0 };
+
+    ghost of_word = { page };
+
+    fn word(self) -> u64 {
+        self.0
+    }
+
+    fn of_word(n: u64) -> PageId {
+        PageId(n)
+    }
+}
+
+fn eight_in<W: Word>(s: &[u8]) -> [W; 8]
     requires { 64 ≤ length s.now }
-    ensures { result ≡ cells page_of 8 8 s.now }
+    ensures { result ≡ cells (λ p. W.of_word (little p)) 8 8 s.now }
 {
     [
-        PageId(store::word(s, 0)),
-        PageId(store::word(s, 8)),
-        PageId(store::word(s, 16)),
-        PageId(store::word(s, 24)),
-        PageId(store::word(s, 32)),
-        PageId(store::word(s, 40)),
-        PageId(store::word(s, 48)),
-        PageId(store::word(s, 56)),
+        W::of_word(store::word(s, 0)),
+        W::of_word(store::word(s, 8)),
+        W::of_word(store::word(s, 16)),
+        W::of_word(store::word(s, 24)),
+        W::of_word(store::word(s, 32)),
+        W::of_word(store::word(s, 40)),
+        W::of_word(store::word(s, 48)),
+        W::of_word(store::word(s, 56)),
     ]
 }
 
@@ -47,10 +72,10 @@ pub fn cursor_in(s: &[u8]) -> Cursor
     ensures { result ≡ cursor_in s.now }
 {
     let height = store::word(s, 0);
-    let begin_indices = indices_in(&s[8..]);
-    let begin_pages = pages_in(&s[72..]);
-    let end_indices = indices_in(&s[136..]);
-    let end_pages = pages_in(&s[200..]);
+    let begin_indices = eight_in(&s[8..]);
+    let begin_pages = eight_in(&s[72..]);
+    let end_indices = eight_in(&s[136..]);
+    let end_pages = eight_in(&s[200..]);
     Cursor {
         height,
         begin_indices,
@@ -60,26 +85,12 @@ pub fn cursor_in(s: &[u8]) -> Cursor
     }
 }
 
-fn put_indices(s: &mut [u8], at: usize, indices: [u64; 8])
+fn put_eight<W: Word>(s: &mut [u8], at: usize, words: [W; 8])
     requires { at + 64 ≤ length s.old }
-    ensures { s.new ≡ patch s.old at (spread (bytes_of 8) indices) }
+    ensures { s.new ≡ patch s.old at (spread (λ x. bytes_of 8 (W.word x)) words) }
 {
-    let mut i = 0;
-    while i < 8 {
-        store::put_word(s, at + 8 * i, indices[i]);
-        i += 1;
-    }
-}
-
-fn put_pages(s: &mut [u8], at: usize, pages: [PageId; 8])
-    requires { at + 64 ≤ length s.old }
-    ensures { s.new ≡ patch s.old at (spread page_bytes pages) }
-{
-    let mut i = 0;
-    while i < 8 {
-        let page = pages[i];
-        store::put_word(s, at + 8 * i, page.0);
-        i += 1;
+    for i in 0..8 {
+        store::put_word(s, at + 8 * i, words[i].word());
     }
 }
 
@@ -92,8 +103,8 @@ pub fn put_cursor(s: &mut [u8], cursor: Cursor)
     let end_indices = cursor.end_indices;
     let end_pages = cursor.end_pages;
     store::put_word(s, 0, cursor.height);
-    put_indices(s, 8, begin_indices);
-    put_pages(s, 72, begin_pages);
-    put_indices(s, 136, end_indices);
-    put_pages(s, 200, end_pages);
+    put_eight(s, 8, begin_indices);
+    put_eight(s, 72, begin_pages);
+    put_eight(s, 136, end_indices);
+    put_eight(s, 200, end_pages);
 }

@@ -1,4 +1,5 @@
-// The library as a C or C++ program calls it: numbers and byte slices, and an area of 32 bytes for the answer's four words.
+// The library as a C or C++ program calls it: numbers and byte slices, and an area of 32 bytes for the answer's four words. The archive
+// florinwick_c exports these functions.
 #![tactic(auto)]
 
 pub mod appends;
@@ -26,8 +27,7 @@ use store::PageId;
 const UNSOUND: u64 = 33;
 
 // Inserts a batch at a root, which is 2^64-1 for none.
-#[unsafe(no_mangle)]
-pub extern "C" fn florinwick_insert(
+pub fn florinwick_insert(
     store: &mut [u8],
     heap: &[u8],
     recorded: &[u8],
@@ -47,8 +47,7 @@ pub extern "C" fn florinwick_insert(
 }
 
 // Makes a new tree of a batch in any order.
-#[unsafe(no_mangle)]
-pub extern "C" fn florinwick_initialise(
+pub fn florinwick_initialise(
     store: &mut [u8],
     heap: &[u8],
     recorded: &[u8],
@@ -67,8 +66,7 @@ pub extern "C" fn florinwick_initialise(
 }
 
 // How many bytes of scratch a call needs; 0 for a page size that is not known.
-#[unsafe(no_mangle)]
-pub extern "C" fn florinwick_scratch_need(size: u64) -> u64
+pub fn florinwick_scratch_need(size: u64) -> u64
     ensures { result ≡ need_of size }
 {
     let c = store::capacity_of(size);
@@ -79,8 +77,7 @@ pub extern "C" fn florinwick_scratch_need(size: u64) -> u64
 }
 
 // Why a fetch is refused, or 0: the page is then the part of the store at id times size.
-#[unsafe(no_mangle)]
-pub extern "C" fn florinwick_fetch(store: &[u8], recorded: &[u8], id: u64, area: &mut [u8]) -> u64
+pub fn florinwick_fetch(store: &[u8], recorded: &[u8], id: u64, area: &mut [u8]) -> u64
     ensures { AreaReplied result area.old area.new (fetch_words (fetch_answer (extent_of (record_in recorded.now)) store.now (page id))) }
 {
     if area.len() != words::AREA {
@@ -94,8 +91,7 @@ pub extern "C" fn florinwick_fetch(store: &[u8], recorded: &[u8], id: u64, area:
 }
 
 // Whether the tree under a root is sound: 0, or 33 with the first fault and its page.
-#[unsafe(no_mangle)]
-pub extern "C" fn florinwick_check(
+pub fn florinwick_check(
     store: &[u8],
     heap: &[u8],
     recorded: &[u8],
@@ -119,8 +115,7 @@ pub extern "C" fn florinwick_check(
 }
 
 // Whether the tree under a root holds all datoms of a batch: 0, or 16 with the index of the first that it does not hold.
-#[unsafe(no_mangle)]
-pub extern "C" fn florinwick_held(
+pub fn florinwick_held(
     store: &[u8],
     heap: &[u8],
     recorded: &[u8],

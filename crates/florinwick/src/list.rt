@@ -68,8 +68,7 @@ fn keep_start(cursor: &mut [u8], area: &mut [u8], root: u64, started: Started) -
 }
 
 // Begins to list the datoms under a root, from the lower bound on and below the upper.
-#[unsafe(no_mangle)]
-pub extern "C" fn florinwick_list_start(
+pub fn florinwick_list_start(
     store: &[u8],
     heap: &[u8],
     recorded: &[u8],
@@ -117,8 +116,7 @@ fn keep_step(cursor: &mut [u8], datom: &mut [u8], area: &mut [u8], stepped: Step
 }
 
 // Hands out the next datom of a listing: 0, or 32 where it has ended.
-#[unsafe(no_mangle)]
-pub extern "C" fn florinwick_list_step(
+pub fn florinwick_list_step(
     store: &[u8],
     heap: &[u8],
     recorded: &[u8],

@@ -9,8 +9,7 @@ use crate::{recorded, words};
 use store::PageId;
 
 // Inserts a batch at a root as `florinwick_insert` does; where it answers 7, the third word has the fault's number.
-#[unsafe(no_mangle)]
-pub extern "C" fn florinwick_insert_named(
+pub fn florinwick_insert_named(
     store: &mut [u8],
     heap: &[u8],
     recorded: &[u8],

@@ -33,8 +33,7 @@ fn insert_laid(
 }
 
 // Inserts a batch of records at a root, which is 2^64-1 for none.
-#[unsafe(no_mangle)]
-pub extern "C" fn florinwick_insert_records(
+pub fn florinwick_insert_records(
     store: &mut [u8],
     heap: &[u8],
     recorded: &[u8],

@@ -132,8 +132,7 @@ fn in_order(a: &[u8], b: &[u8], by: Index, heap: &[u8]) -> u64
 }
 
 // The number that a fetch answers: 0 for a page that is given, else document 01's.
-#[unsafe(no_mangle)]
-pub extern "C" fn probe_fetch(store: &[u8], size: u64, count: u64, page: u64) -> u64
+pub fn probe_fetch(store: &[u8], size: u64, count: u64, page: u64) -> u64
     ensures { result ≡ (fetch_words (fetch_answer (record { size = size; count = count }) store.now (record { 0 = page }))).number }
 {
     match memory_store::fetch_refusal(store, Extent { size, count }, PageId(page)) {
@@ -161,8 +160,7 @@ fn write_in(bytes: &[u8], id: u64, free: &mut [u8], by: Index, heap: &[u8]) -> u
 
 // The first rule of document 01's "Readable" that the bytes break as page `id`, 1 to 7; 0 for a readable page; 2^64-1 where no page
 // has that many bytes.
-#[unsafe(no_mangle)]
-pub extern "C" fn probe_rule(bytes: &[u8], id: u64, order: u64, heap: &[u8]) -> u64
+pub fn probe_rule(bytes: &[u8], id: u64, order: u64, heap: &[u8]) -> u64
     ensures { result ≡ in_good_order nothing (λ o. rule_of (seen (order_in o heap.now) bytes.now id)) (index_of order) }
 {
     match index::index_of(order) {
@@ -172,8 +170,7 @@ pub extern "C" fn probe_rule(bytes: &[u8], id: u64, order: u64, heap: &[u8]) -> 
 }
 
 // The level of a readable page.
-#[unsafe(no_mangle)]
-pub extern "C" fn probe_level(bytes: &[u8], id: u64, order: u64, heap: &[u8]) -> u64
+pub fn probe_level(bytes: &[u8], id: u64, order: u64, heap: &[u8]) -> u64
     ensures { result ≡ in_good_order nothing (λ o. level_of (seen (order_in o heap.now) bytes.now id)) (index_of order) }
 {
     match index::index_of(order) {
@@ -183,8 +180,7 @@ pub extern "C" fn probe_level(bytes: &[u8], id: u64, order: u64, heap: &[u8]) ->
 }
 
 // The number of its datoms.
-#[unsafe(no_mangle)]
-pub extern "C" fn probe_count(bytes: &[u8], id: u64, order: u64, heap: &[u8]) -> u64
+pub fn probe_count(bytes: &[u8], id: u64, order: u64, heap: &[u8]) -> u64
     ensures { result ≡ in_good_order nothing (λ o. count_of (seen (order_in o heap.now) bytes.now id)) (index_of order) }
 {
     match index::index_of(order) {
@@ -194,15 +190,7 @@ pub extern "C" fn probe_count(bytes: &[u8], id: u64, order: u64, heap: &[u8]) ->
 }
 
 // Word j of the datom at index i: 0 entity, 1 attribute, 2 value, 3 last word.
-#[unsafe(no_mangle)]
-pub extern "C" fn probe_word(
-    bytes: &[u8],
-    id: u64,
-    i: usize,
-    j: usize,
-    order: u64,
-    heap: &[u8],
-) -> u64
+pub fn probe_word(bytes: &[u8], id: u64, i: usize, j: usize, order: u64, heap: &[u8]) -> u64
     ensures { result ≡ in_good_order nothing (λ o. word_of i j (seen (order_in o heap.now) bytes.now id)) (index_of order) }
 {
     match index::index_of(order) {
@@ -212,8 +200,7 @@ pub extern "C" fn probe_word(
 }
 
 // The child at index i.
-#[unsafe(no_mangle)]
-pub extern "C" fn probe_child(bytes: &[u8], id: u64, i: usize, order: u64, heap: &[u8]) -> u64
+pub fn probe_child(bytes: &[u8], id: u64, i: usize, order: u64, heap: &[u8]) -> u64
     ensures { result ≡ in_good_order nothing (λ o. child_of i (seen (order_in o heap.now) bytes.now id)) (index_of order) }
 {
     match index::index_of(order) {
@@ -223,8 +210,7 @@ pub extern "C" fn probe_child(bytes: &[u8], id: u64, i: usize, order: u64, heap:
 }
 
 // The first real child at or after an index.
-#[unsafe(no_mangle)]
-pub extern "C" fn probe_next(bytes: &[u8], id: u64, from: usize, order: u64, heap: &[u8]) -> u64
+pub fn probe_next(bytes: &[u8], id: u64, from: usize, order: u64, heap: &[u8]) -> u64
     ensures { result ≡ in_good_order nothing (λ o. next_of from (seen (order_in o heap.now) bytes.now id)) (index_of order) }
 {
     match index::index_of(order) {
@@ -234,8 +220,7 @@ pub extern "C" fn probe_next(bytes: &[u8], id: u64, from: usize, order: u64, hea
 }
 
 // The index of the first datom that is not below the one whose 32 bytes are given.
-#[unsafe(no_mangle)]
-pub extern "C" fn probe_first(bytes: &[u8], id: u64, sought: &[u8], order: u64, heap: &[u8]) -> u64
+pub fn probe_first(bytes: &[u8], id: u64, sought: &[u8], order: u64, heap: &[u8]) -> u64
     ensures { result ≡ in_good_order nothing (λ o. first_of (order_in o heap.now) sought.now (seen (order_in o heap.now) bytes.now id)) (index_of order) }
 {
     match index::index_of(order) {
@@ -245,8 +230,7 @@ pub extern "C" fn probe_first(bytes: &[u8], id: u64, sought: &[u8], order: u64, 
 }
 
 // How two datoms compare, each given by its 32 bytes: 0 below, 1 equal, 2 above.
-#[unsafe(no_mangle)]
-pub extern "C" fn probe_order(a: &[u8], b: &[u8], order: u64, heap: &[u8]) -> u64
+pub fn probe_order(a: &[u8], b: &[u8], order: u64, heap: &[u8]) -> u64
     ensures { result ≡ in_good_order nothing (λ o. order_of (order_in o heap.now) a.now b.now) (index_of order) }
 {
     match index::index_of(order) {
@@ -256,14 +240,7 @@ pub extern "C" fn probe_order(a: &[u8], b: &[u8], order: u64, heap: &[u8]) -> u6
 }
 
 // A readable page is written anew into a free one of the same length: 1 if so, and 0 with nothing changed if not.
-#[unsafe(no_mangle)]
-pub extern "C" fn probe_write(
-    bytes: &[u8],
-    id: u64,
-    free: &mut [u8],
-    order: u64,
-    heap: &[u8],
-) -> u64
+pub fn probe_write(bytes: &[u8], id: u64, free: &mut [u8], order: u64, heap: &[u8]) -> u64
     ensures { (result ≡ in_good_order 0 (λ o. wrote_of bytes.now free.old (seen (order_in o heap.now) bytes.now id)) (index_of order)) × (free.new ≡ in_good_order free.old (λ o. rewritten bytes.now free.old (seen (order_in o heap.now) bytes.now id)) (index_of order)) }
 {
     match index::index_of(order) {

@@ -61,15 +61,11 @@ pub fn insert_into(
     requires { Ready extent store.old c written × ((level + 1) * c + n ≤ m) × ((level + 1) * (40 * m + 8) + 32 * m ≤ length s.old) × (opened ≡ opened_of (fetch_at (env_of (order_in by heap.now) extent store.old) level page)) }
     ensures { Tells extent store.old store.new m s.new written result (insert_into (env_of (order_in by heap.now) extent store.old) level page (batch_at m n s.old)) }
 {
-    let count = match load(store, extent, c, level, page, opened, s, m, n, by, heap) {
-        Ok(count) => count,
-        Err(fault) => {
-            return Err(Failed {
-                refusal: Refusal::Damaged(page, fault),
-                written,
-            });
-        }
-    };
+    let loaded = load(store, extent, c, level, page, opened, s, m, n, by, heap);
+    let count = loaded.map_err(|fault| Failed {
+        refusal: Refusal::Damaged(page, fault),
+        written,
+    })?;
     if level == 0 {
         return place::settle(store, extent, c, written, level, s, m, count);
     }

@@ -5,6 +5,11 @@ use native.Mathlib.Omega.{arith}
 use mathlib.Core.Path.{◌≡◌, sym, ◌∙◌}
 use lib.ListN.{length}
 use Rattle.std.proofs.lemmas.Result.{err_from_is_err_and}
+use Rattle.std.specs.Prelude.{Ok, Err}
+use borrow.Author.Rules.{rules}
+use Rattle.answer.specs.declared.Fault.{Fault}
+use Rattle.answer.specs.declared.Refusal.TheVariants.{Damaged}
+use Rattle.htree.specs.Told.{failed}
 use Rattle.index.specs.Order.{order_in}
 use Rattle.htree.specs.Cycle.{rooms, area_fits, drains_start, drains_ready, drains_small, drains_sent, drains_none, drains_on, drains_stop, flush_fails, flush_back, flush_done, insert_bad, loads_few, insert_flat, insert_stops, went_ready, went_few, insert_goes}
 use Rattle.htree.proofs.insert.+drain_flush_insert_into.Goals as goal
@@ -100,7 +105,8 @@ pub insert_into-settle-requires : goal.insert_into-settle-requires
 insert_into-settle-requires t c =
     let a = c.args in
     let P = c.requires in
-    let L = c.in-Ok.ensures in
+    let at : c.load-loaded.result ≡ Ok c.in_ok-count.count = search rules in
+    let L = rw at at c.load-loaded.ensures in
     let f = area_fits a.level (40 * a.m + 8) (32 * a.m) (length a.s.now) P.2 in
     let g = area_fits a.level a.c a.n a.m P.1 in
     let h = loads_few (order_in a.by a.heap.now) a.extent a.store.now a.c a.written a.level a.page a.s.now a.m a.n _ L in (P.0, omega arith, omega (arith, P.0.cap))
@@ -109,7 +115,8 @@ pub insert_into-returns-then-level-eq0 : goal.insert_into-returns-then-level-eq0
 insert_into-returns-then-level-eq0 t c =
     let a = c.args in
     let P = c.requires in
-    let L = c.in-Ok.ensures in
+    let at : c.load-loaded.result ≡ Ok c.in_ok-count.count = search rules in
+    let L = rw at at c.load-loaded.ensures in
     let f = area_fits a.level (40 * a.m + 8) (32 * a.m) (length a.s.now) P.2 in
     let g = area_fits a.level a.c a.n a.m P.1 in
     let h = loads_few (order_in a.by a.heap.now) a.extent a.store.now a.c a.written a.level a.page a.s.now a.m a.n _ L in
@@ -119,7 +126,8 @@ pub insert_into-drain-requires : goal.insert_into-drain-requires
 insert_into-drain-requires t c =
     let a = c.args in
     let P = c.requires in
-    let L = c.in-Ok.ensures in
+    let at : c.load-loaded.result ≡ Ok c.in_ok-count.count = search rules in
+    let L = rw at at c.load-loaded.ensures in
     let f = area_fits a.level (40 * a.m + 8) (32 * a.m) (length a.s.now) P.2 in
     let g = area_fits a.level a.c a.n a.m P.1 in
     let h = loads_few (order_in a.by a.heap.now) a.extent a.store.now a.c a.written a.level a.page a.s.now a.m a.n _ L in
@@ -130,23 +138,27 @@ pub insert_into-settle-requires-2 : goal.insert_into-settle-requires-2
 insert_into-settle-requires-2 t c =
     let a = c.args in
     let P = c.requires in
-    let L = c.in-Ok.ensures in
+    let at : c.load-loaded.result ≡ Ok c.in_ok-count.count = search rules in
+    let L = rw at at c.load-loaded.ensures in
     let f = area_fits a.level (40 * a.m + 8) (32 * a.m) (length a.s.now) P.2 in
     let g = area_fits a.level a.c a.n a.m P.1 in
     let h = loads_few (order_in a.by a.heap.now) a.extent a.store.now a.c a.written a.level a.page a.s.now a.m a.n _ L in
     let T = c.in_ok-left.ensures in
     (went_ready (order_in a.by a.heap.now) a.extent a.store.now a.c a.written a.level a.page a.s.now a.m a.n _ L (omega arith) _ _ _ _ T P.0, omega arith, went_few (order_in a.by a.heap.now) a.extent a.store.now a.c a.written a.level a.page a.s.now a.m a.n _ L (omega arith) _ _ _ _ T)
 
-pub insert_into-returns-in-Err : goal.insert_into-returns-in-Err
-insert_into-returns-in-Err t c =
+pub insert_into-returns-in_err-count : goal.insert_into-returns-in_err-count
+insert_into-returns-in_err-count t c =
     let a = c.args in
-    insert_bad (order_in a.by a.heap.now) a.extent a.store.now a.c a.written a.level a.page a.s.now a.m a.n _ c.requires.0 _ (c.in-Err.ensures) _
+    let e : (f : Fault) × ((c.load-loaded.result ≡ Err f) × (c.from_residual.result ≡ Err (failed (Damaged a.page f) a.written))) = search rules in
+    rw e.1.1
+    (insert_bad (order_in a.by a.heap.now) a.extent a.store.now a.c a.written a.level a.page a.s.now a.m a.n _ c.requires.0 e.0 (rw e.1.0 at c.load-loaded.ensures) _)
 
 pub insert_into-returns : goal.insert_into-returns
 insert_into-returns t c =
     let a = c.args in
     let P = c.requires in
-    let L = c.in-Ok.ensures in
+    let at : c.load-loaded.result ≡ Ok c.in_ok-count.count = search rules in
+    let L = rw at at c.load-loaded.ensures in
     let f = area_fits a.level (40 * a.m + 8) (32 * a.m) (length a.s.now) P.2 in
     let g = area_fits a.level a.c a.n a.m P.1 in
     let h = loads_few (order_in a.by a.heap.now) a.extent a.store.now a.c a.written a.level a.page a.s.now a.m a.n _ L in
@@ -157,10 +169,11 @@ pub insert_into-returns-in_err-left : goal.insert_into-returns-in_err-left
 insert_into-returns-in_err-left t c =
     let a = c.args in
     let P = c.requires in
-    let L = c.in-Ok.ensures in
+    let at : c.load-loaded.result ≡ Ok c.in_ok-count.count = search rules in
+    let L = rw at at c.load-loaded.ensures in
     let f = area_fits a.level (40 * a.m + 8) (32 * a.m) (length a.s.now) P.2 in
     let g = area_fits a.level a.c a.n a.m P.1 in
     let h = loads_few (order_in a.by a.heap.now) a.extent a.store.now a.c a.written a.level a.page a.s.now a.m a.n _ L in
-    let q = err_from_is_err_and c.from_residual.result c.from_residual.ensures.1 in
+    let q = err_from_is_err_and c.from_residual-in_err-left.result c.from_residual-in_err-left.ensures.1 in
     rw (q.1, q.2)
     (insert_stops (order_in a.by a.heap.now) a.extent a.store.now a.c a.written a.level a.page a.s.now a.m a.n _ L (omega arith) _ _ _ _ c.in_err-left.ensures)

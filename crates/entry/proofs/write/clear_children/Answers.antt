@@ -6,8 +6,5 @@ use Rattle.entry.proofs.write.clear_children.Goals as goal
 pub loop-i-init : goal.loop-i-init
 loop-i-init c = cleared_start _ _
 
-pub put_child-requires : goal.put_child-requires
-put_child-requires c = (omega (arith, c.loop-i.invariant.same), omega arith)
-
 pub loop-i-preserved : goal.loop-i-preserved
 loop-i-preserved c = rw (c.put_child.ensures, c.max.ensures) (cleared_on _ _ _ _ c.loop-i.invariant (omega arith) c.requires.0)

@@ -1,5 +1,5 @@
 -- The ways through a look at bytes, and what is known of a readable page.
-use Rattle.std.specs.Prelude.{ℕ, zero, suc, ◌+◌, ◌*◌, ◌≤◌, ◌<◌, Bool, true, false, List, [], ◌∷◌, ◌≡◌, refl, eqb, length, drop, get_or, Ok, Err}
+use Rattle.std.specs.Prelude.{ℕ, zero, suc, ◌+◌, ◌*◌, ◌≤◌, ◌<◌, Bool, true, false, List, [], ◌∷◌, ◌≡◌, refl, eqb, length, drop, get_or, Result, Ok, Err}
 use Rattle.std.proofs.Common.{add-zero, mul-zero, arith, sym, ◌∙◌}
 use Rattle.std.proofs.Math.Path.{ap}
 use borrow.Author.Tests.{eqb-false, eq-eqb, ne_eqb}
@@ -22,8 +22,6 @@ use Rattle.rules.proofs.SplitLaws.{whole_part}
 use Rattle.rules.proofs.ReadLaws.{Readable, readable, read_count}
 use Rattle.memory_store.specs.declared.reader.Header.{Header}
 use Rattle.memory_store.specs.Reading.{said}
-use Rattle.probe.specs.declared.Look.{Look}
-use Rattle.probe.specs.declared.Look.TheVariants.{Unread, Good}
 use Rattle.probe.specs.Seen.{unread, holds, nothing, seen, shown, of_node, head_word, of_datom, order_number, order_of, wrote_of, rewritten}
 
 -- bytes that a page may have hold its header
@@ -32,16 +30,16 @@ look_fits s c e some = omega (arith, (known_size (length s) (λ z. some (e ∙ z
 
 -- one law for each answer of a look
 module _ (t : DatomOrd) (s : List ℕ) (id c : ℕ) (e : c ≡ capacity (length s)) where
-  pub look_none : c ≡ 0 → shown s (Unread nothing) ≡ seen t s id
+  pub look_none : c ≡ 0 → shown s (Err nothing) ≡ seen t s id
   unfolding shown seen
   look_none z = rw (eq-eqb (capacity (length s)) 0 (sym e ∙ z))
 
   module _ (some : c ≡ 0 → ⊥) where
-    pub look_broken : (r : Rule) → said c s (Err r) ≡ read_page t c (page id) s → shown s (Unread (rule_number r)) ≡ seen t s id
+    pub look_broken : (r : Rule) → said c s (Err r) ≡ read_page t c (page id) s → shown s (Err (rule_number r)) ≡ seen t s id
     unfolding shown seen said
     look_broken r q = rw (ne_eqb (capacity (length s)) 0 (λ z. some (e ∙ z)), ← e, ← q)
 
-    pub look_good : (h : Header) → said c s (Ok h) ≡ read_page t c (page id) s → shown s (Good h.level h.count) ≡ seen t s id
+    pub look_good : (h : Header) → said c s (Ok h) ≡ read_page t c (page id) s → shown s (Ok h) ≡ seen t s id
     unfolding shown seen said
     look_good h q = rw (ne_eqb (capacity (length s)) 0 (λ z. some (e ∙ z)), ← e, ← q)
 
@@ -54,20 +52,20 @@ pub record Held (t : DatomOrd) (s : List ℕ) (l k : ℕ) : Type 0 where
   pub most : capacity (length s) ≤ most_datoms
   pub rise : rising t.cmp (datoms_of k s) ≡ true
 
-pub held : (t : DatomOrd) (s : List ℕ) (id l k : ℕ) → shown s (Good l k) ≡ seen t s id → Held t s l k
+pub held : (t : DatomOrd) (s : List ℕ) (id : ℕ) (h : Header) → shown s (Ok h) ≡ seen t s id → Held t s h.level h.count
 unfolding shown seen node_of
-held t s id l k e = side (eqb (capacity (length s)) 0) refl (read_page t (capacity (length s)) (page id) s) refl
+held t s id h e = side (eqb (capacity (length s)) 0) refl (read_page t (capacity (length s)) (page id) s) refl
   where
-    side : (b : Bool) → eqb (capacity (length s)) 0 ≡ b → (r : Read) → read_page t (capacity (length s)) (page id) s ≡ r → Held t s l k
+    side : (b : Bool) → eqb (capacity (length s)) 0 ≡ b → (r : Read) → read_page t (capacity (length s)) (page id) s ≡ r → Held t s h.level h.count
     side true p r q = let z : holds _ ≡ unread nothing = rw p at e in absurd (apart (cc))
     side false p (broken r) q = let z : holds _ ≡ unread (rule_number r) = rw (p, q) at e in absurd (apart (cc))
     side false p (good n) q =
-        let z : holds (node_of (capacity (length s)) l k s) ≡ holds n = rw (p, q) at e in
-        let m : node_of (capacity (length s)) l k s ≡ n = cc in
+        let z : holds (node_of (capacity (length s)) h.level h.count s) ≡ holds n = rw (p, q) at e in
+        let m : node_of (capacity (length s)) h.level h.count s ≡ n = cc in
         let R : Readable t (capacity (length s)) (page id) s n = readable t (capacity (length s)) (page id) s n q in
         let K = known_size (length s) (eqb-false (capacity (length s)) 0 p) in
-        let many : k ≡ length n.datoms = sym (cells_length datom_of 32 k s) ∙ ap (λ (x : Node). length x.datoms) m in
-        let level : l ≡ level_of (capacity (length s)) s = ap (λ (x : Node). x.level) (m ∙ sym R.node) in
+        let many : h.count ≡ length n.datoms = sym (cells_length datom_of 32 h.count s) ∙ ap (λ (x : Node). length x.datoms) m in
+        let level : h.level ≡ level_of (capacity (length s)) s = ap (λ (x : Node). x.level) (m ∙ sym R.node) in
         record {
           low = omega (arith, R.low);
           size = K.most;
@@ -78,18 +76,18 @@ held t s id l k e = side (eqb (capacity (length s)) 0) refl (read_page t (capaci
         }
 
 -- from what a look showed to what an entry answers
-module _ (t : DatomOrd) (s : List ℕ) (id : ℕ) {v : Look} where
-  pub of_unread : (f : Node → ℕ) {n : ℕ} → v ≡ Unread n → shown s v ≡ seen t s id → nothing ≡ of_node f (seen t s id)
+module _ (t : DatomOrd) (s : List ℕ) (id : ℕ) {v : Result Header ℕ} where
+  pub of_unread : (f : Node → ℕ) {n : ℕ} → v ≡ Err n → shown s v ≡ seen t s id → nothing ≡ of_node f (seen t s id)
   unfolding shown
   of_unread f e q = ap (of_node f) (ap (shown s) (sym e) ∙ q)
 
-  module _ {l k : ℕ} (e : v ≡ Good l k) (q : shown s v ≡ seen t s id) where
-    pub of_good : (f : Node → ℕ) → f (node_of (capacity (length s)) l k s) ≡ of_node f (seen t s id)
+  module _ {h : Header} (e : v ≡ Ok h) (q : shown s v ≡ seen t s id) where
+    pub of_good : (f : Node → ℕ) → f (node_of (capacity (length s)) h.level h.count s) ≡ of_node f (seen t s id)
     unfolding shown
     of_good f = ap (of_node f) (ap (shown s) (sym e) ∙ q)
 
-    pub good_held : Held t s l k
-    good_held = held t s id l k (ap (shown s) (sym e) ∙ q)
+    pub good_held : Held t s h.level h.count
+    good_held = held t s id h (ap (shown s) (sym e) ∙ q)
 
 -- words of datoms
 word_of : (s : List ℕ) (at j : ℕ) (ds : List Datom) → j ≤ 3 → word_at s (at + 8 * j) ≡ head_word j (datom_at s at ∷ ds)
@@ -133,22 +131,22 @@ module _ (f : Datom → ℕ) (b : List ℕ) where
   of_others e = rw (ne_eqb (length b) 32 e)
 
 -- a page written anew
-module _ (t : DatomOrd) (s free : List ℕ) (id : ℕ) {v : Look} where
-  pub not_written : {n : ℕ} → v ≡ Unread n → shown s v ≡ seen t s id → (0 ≡ wrote_of s free (seen t s id)) × (free ≡ rewritten s free (seen t s id))
+module _ (t : DatomOrd) (s free : List ℕ) (id : ℕ) {v : Result Header ℕ} where
+  pub not_written : {n : ℕ} → v ≡ Err n → shown s v ≡ seen t s id → (0 ≡ wrote_of s free (seen t s id)) × (free ≡ rewritten s free (seen t s id))
   unfolding shown wrote_of rewritten
   not_written e q = let z = ap (shown s) (sym e) ∙ q in (ap (wrote_of s free) z, ap (rewritten s free) z)
 
-  module _ {l k : ℕ} (e : v ≡ Good l k) (q : shown s v ≡ seen t s id) where
+  module _ {h : Header} (e : v ≡ Ok h) (q : shown s v ≡ seen t s id) where
     pub no_place : (length free ≡ length s → ⊥) → (0 ≡ wrote_of s free (seen t s id)) × (free ≡ rewritten s free (seen t s id))
     unfolding shown wrote_of rewritten
-    no_place h = let z = ap (shown s) (sym e) ∙ q in rw (← z, ne_eqb (length free) (length s) h) (refl, refl)
+    no_place m = let z = ap (shown s) (sym e) ∙ q in rw (← z, ne_eqb (length free) (length s) m) (refl, refl)
 
     pub written :
         length free ≡ length s →
         (1 ≡ wrote_of s free (seen t s id))
-        × (patch free 0 (encode_page (length s) (capacity (length s)) (part_of 0 k (node_of (capacity (length s)) l k s))) ≡ rewritten s free (seen t s id))
+        × (patch free 0 (encode_page (length s) (capacity (length s)) (part_of 0 h.count (node_of (capacity (length s)) h.level h.count s))) ≡ rewritten s free (seen t s id))
     unfolding shown wrote_of rewritten
-    written h = let z = ap (shown s) (sym e) ∙ q in rw (← z, eq-eqb (length free) (length s) h, whole_part (capacity (length s)) l k s) (refl, refl)
+    written m = let z = ap (shown s) (sym e) ∙ q in rw (← z, eq-eqb (length free) (length s) m, whole_part (capacity (length s)) h.level h.count s) (refl, refl)
 
 -- two datoms' bytes, compared
 module _ (t : DatomOrd) (a b : List ℕ) where

@@ -1,5 +1,5 @@
 -- What bytes are as a page, and the numbers that the entries answer with: the definitions of the rules, over any bytes.
-use Rattle.std.specs.Prelude.{ℕ, cond, List, [], ◌∷◌, eqb, length, drop, get_or}
+use Rattle.std.specs.Prelude.{ℕ, cond, List, [], ◌∷◌, eqb, length, drop, get_or, Result, Ok, Err}
 use Rattle.store.specs.Words.{patch}
 use Rattle.store.specs.Page.{page, none}
 use Rattle.store.specs.Size.{capacity}
@@ -15,8 +15,7 @@ use Rattle.answer.specs.Names.{rule_number}
 use Rattle.rules.specs.Page.{Node, Read, broken, good, node_of, encode_page, read_page}
 use Rattle.rules.specs.Node.{rank, next_midpoint}
 use Rattle.rules.specs.Lookup as lookup
-use Rattle.probe.specs.declared.Look.{Look}
-use Rattle.probe.specs.declared.Look.TheVariants.{Unread, Good}
+use Rattle.memory_store.specs.declared.reader.Header.{Header}
 
 abbrev pub nothing : ℕ
 nothing = 0xffff_ffff_ffff_ffff
@@ -40,9 +39,9 @@ unfoldable pub seen : DatomOrd → List ℕ → ℕ → Seen
 seen t s id = cond (eqb (capacity (length s)) 0) (unread nothing) (of_read (read_page t (capacity (length s)) (page id) s))
 
 -- the code's answer
-unfoldable pub shown : List ℕ → Look → Seen
-shown s (Unread n) = unread n
-shown s (Good l k) = holds (node_of (capacity (length s)) l k s)
+unfoldable pub shown : List ℕ → Result Header ℕ → Seen
+shown s (Err n) = unread n
+shown s (Ok h) = holds (node_of (capacity (length s)) h.level h.count s)
 
 abbrev pub rule_of : Seen → ℕ
 rule_of (unread n) = n

@@ -10,64 +10,57 @@ ghost use Rattle.probe.specs.Seen.{nothing, in_good_order, seen, shown, rule_of,
 
 use answer::{Fetch, NextMidpoint};
 use index::{Index, Named, Order};
+use memory_store::reader::Header;
 use store::{Extent, PageId};
 
+// Where there is nothing to say: an entry for C answers with one word.
 const NOTHING: u64 = 0xffff_ffff_ffff_ffff;
 
-// What bytes are as a page: not readable, with the number of the first broken rule, or readable with a level and a count.
-#[derive(Clone, Copy)]
-enum Look {
-    Unread(u64),
-    Good(usize, usize),
-}
-
-fn look_at(bytes: &[u8], id: u64, by: Index, heap: &[u8]) -> Look
+// The header of bytes that are a readable page, or the number of the first broken rule.
+fn look_at(bytes: &[u8], id: u64, by: Index, heap: &[u8]) -> Result<Header, u64>
     ensures { shown bytes.now result ≡ seen (order_in by heap.now) bytes.now id }
 {
     let c = store::capacity_of(bytes.len() as u64);
     if c == 0 {
-        return Look::Unread(NOTHING);
+        return Err(NOTHING);
     }
-    match memory_store::reader::read_page(bytes, c, PageId(id), by, heap) {
-        Err(rule) => Look::Unread(rule.number()),
-        Ok(header) => Look::Good(header.level, header.count),
-    }
+    memory_store::reader::read_page(bytes, c, PageId(id), by, heap).map_err(|rule| rule.number())
 }
 
 fn rule_in(bytes: &[u8], id: u64, by: Index, heap: &[u8]) -> u64
     ensures { result ≡ rule_of (seen (order_in by heap.now) bytes.now id) }
 {
     match look_at(bytes, id, by, heap) {
-        Look::Unread(rule) => rule,
-        Look::Good(_, _) => 0,
+        Err(rule) => rule,
+        Ok(_) => 0,
     }
 }
 
 fn level_in(bytes: &[u8], id: u64, by: Index, heap: &[u8]) -> u64
     ensures { result ≡ level_of (seen (order_in by heap.now) bytes.now id) }
 {
-    let Look::Good(level, _) = look_at(bytes, id, by, heap) else {
+    let Ok(header) = look_at(bytes, id, by, heap) else {
         return NOTHING;
     };
-    level as u64
+    header.level as u64
 }
 
 fn count_in(bytes: &[u8], id: u64, by: Index, heap: &[u8]) -> u64
     ensures { result ≡ count_of (seen (order_in by heap.now) bytes.now id) }
 {
-    let Look::Good(_, count) = look_at(bytes, id, by, heap) else {
+    let Ok(header) = look_at(bytes, id, by, heap) else {
         return NOTHING;
     };
-    count as u64
+    header.count as u64
 }
 
 fn word_in(bytes: &[u8], id: u64, i: usize, j: usize, by: Index, heap: &[u8]) -> u64
     ensures { result ≡ word_of i j (seen (order_in by heap.now) bytes.now id) }
 {
-    let Look::Good(_, count) = look_at(bytes, id, by, heap) else {
+    let Ok(header) = look_at(bytes, id, by, heap) else {
         return NOTHING;
     };
-    if count <= i {
+    if header.count <= i {
         return NOTHING;
     }
     if 3 < j {
@@ -79,10 +72,10 @@ fn word_in(bytes: &[u8], id: u64, i: usize, j: usize, by: Index, heap: &[u8]) ->
 fn child_in(bytes: &[u8], id: u64, i: usize, by: Index, heap: &[u8]) -> u64
     ensures { result ≡ child_of i (seen (order_in by heap.now) bytes.now id) }
 {
-    let Look::Good(_, count) = look_at(bytes, id, by, heap) else {
+    let Ok(header) = look_at(bytes, id, by, heap) else {
         return NOTHING;
     };
-    if count < i {
+    if header.count < i {
         return NOTHING;
     }
     let c = store::capacity_of(bytes.len() as u64);
@@ -93,11 +86,11 @@ fn child_in(bytes: &[u8], id: u64, i: usize, by: Index, heap: &[u8]) -> u64
 fn next_in(bytes: &[u8], id: u64, from: usize, by: Index, heap: &[u8]) -> u64
     ensures { result ≡ next_of from (seen (order_in by heap.now) bytes.now id) }
 {
-    let Look::Good(_, count) = look_at(bytes, id, by, heap) else {
+    let Ok(header) = look_at(bytes, id, by, heap) else {
         return NOTHING;
     };
     let c = store::capacity_of(bytes.len() as u64);
-    match memory_store::access::next_midpoint(bytes, c, count, from) {
+    match memory_store::access::next_midpoint(bytes, c, header.count, from) {
         NextMidpoint::Child(child) => child.0,
         NextMidpoint::Nothing => NOTHING,
     }
@@ -106,13 +99,19 @@ fn next_in(bytes: &[u8], id: u64, from: usize, by: Index, heap: &[u8]) -> u64
 fn first_in(bytes: &[u8], id: u64, sought: &[u8], by: Index, heap: &[u8]) -> u64
     ensures { result ≡ first_of (order_in by heap.now) sought.now (seen (order_in by heap.now) bytes.now id) }
 {
-    let Look::Good(_, count) = look_at(bytes, id, by, heap) else {
+    let Ok(header) = look_at(bytes, id, by, heap) else {
         return NOTHING;
     };
     if sought.len() != 32 {
         return NOTHING;
     }
-    memory_store::access::first_not_below(bytes, count, datom::datom_at(sought, 0), by, heap) as u64
+    memory_store::access::first_not_below(
+        bytes,
+        header.count,
+        datom::datom_at(sought, 0),
+        by,
+        heap,
+    ) as u64
 }
 
 fn in_order(a: &[u8], b: &[u8], by: Index, heap: &[u8]) -> u64
@@ -144,7 +143,7 @@ pub fn probe_fetch(store: &[u8], size: u64, count: u64, page: u64) -> u64
 fn write_in(bytes: &[u8], id: u64, free: &mut [u8], by: Index, heap: &[u8]) -> u64
     ensures { (result ≡ wrote_of bytes.now free.old (seen (order_in by heap.now) bytes.now id)) × (free.new ≡ rewritten bytes.now free.old (seen (order_in by heap.now) bytes.now id)) }
 {
-    let Look::Good(level, count) = look_at(bytes, id, by, heap) else {
+    let Ok(header) = look_at(bytes, id, by, heap) else {
         return 0;
     };
     let size = bytes.len();
@@ -152,6 +151,7 @@ fn write_in(bytes: &[u8], id: u64, free: &mut [u8], by: Index, heap: &[u8]) -> u
         return 0;
     }
     let c = store::capacity_of(size as u64);
+    let Header { level, count } = header;
     memory_store::writer::write_page(free, 0, size, c, level, bytes, c, count, 0, count);
     1
 }

@@ -14,4 +14,4 @@ pub returns : goal.returns
 unfolding node_of
 returns c =
     sym (cells_length datom_of 32 _ c.args.bytes.now)
-    ∙ of_good _ _ _ c.in-Good.is c.look_at.ensures (λ n. length n.datoms)
+    ∙ of_good _ _ _ c.in-Ok.is c.look_at.ensures (λ n. length n.datoms)

@@ -8,4 +8,4 @@ returns-in_default c = of_unread _ _ _ _ c.in_default.is c.look_at.ensures
 
 pub returns : goal.returns
 unfolding node_of
-returns c = of_good _ _ _ c.in-Good.is c.look_at.ensures (λ n. n.level)
+returns c = of_good _ _ _ c.in-Ok.is c.look_at.ensures (λ n. n.level)

@@ -1,7 +1,11 @@
 -- `look_at` meets its contract. Assumes nothing.
-use mathlib.Core.Path.{◌∙◌, ap}
+use Rattle.std.specs.Prelude.{◌≡◌, ◌⊎◌, Ok, Err}
+use Rattle.std.proofs.Common.{sym, ◌∙◌, ap, inl, inr, rules}
 use Rattle.index.specs.Order.{order_in}
-use Rattle.probe.specs.Seen.{shown, unread}
+use Rattle.answer.specs.declared.Rule.{Rule}
+use Rattle.answer.specs.Names.{rule_number}
+use Rattle.memory_store.specs.declared.reader.Header.{Header}
+use Rattle.memory_store.specs.Reading.{said}
 use Rattle.probe.specs.Laws.{look_none, look_fits, look_broken, look_good}
 use Rattle.probe.proofs.look_at.Goals as goal
 
@@ -11,14 +15,12 @@ returns-then-c-eq0 c = look_none _ _ _ _ c.capacity_of-c.ensures c.if-c-eq0.true
 pub read_page-requires : goal.read_page-requires
 read_page-requires c = look_fits c.args.bytes.now _ c.capacity_of-c.ensures c.if-c-eq0.false
 
-pub returns-in-Err : goal.returns-in-Err
-unfolding shown
-returns-in-Err c =
+pub returns : goal.returns
+returns c =
     let a = c.args in
-    ap unread c.number.ensures
-    ∙ look_broken (order_in a.by a.heap.now) a.bytes.now a.id _ c.capacity_of-c.ensures c.if-c-eq0.false _ c.in-Err.ensures
-
-pub returns-in-Ok : goal.returns-in-Ok
-returns-in-Ok c =
-    let a = c.args in
-    look_good (order_in a.by a.heap.now) a.bytes.now a.id _ c.capacity_of-c.ensures c.if-c-eq0.false _ c.in-Ok.ensures
+    let t = order_in a.by a.heap.now in
+    let ways : ((h : Header) × ((c.read_page.result ≡ Ok h) × (c.map_err.result ≡ Ok h))) ⊎ ((r : Rule) × ((c.read_page.result ≡ Err r) × (c.map_err.result ≡ Err (rule_number r)))) = search rules in
+    elim ways [
+      | inl w ↦ rw w.1.1 (look_good t a.bytes.now a.id _ c.capacity_of-c.ensures c.if-c-eq0.false w.0 (ap (said _ a.bytes.now) (sym w.1.0) ∙ c.read_page.ensures))
+      | inr w ↦ rw w.1.1 (look_broken t a.bytes.now a.id _ c.capacity_of-c.ensures c.if-c-eq0.false w.0 (ap (said _ a.bytes.now) (sym w.1.0) ∙ c.read_page.ensures))
+    ]

@@ -14,7 +14,7 @@ returns-in_default c = of_unread _ _ _ _ c.in_default.is c.look_at.ensures
 
 pub next_midpoint-requires : goal.next_midpoint-requires
 next_midpoint-requires c =
-    let h = good_held _ _ _ c.in-Good.is c.look_at.ensures in
+    let h = good_held _ _ _ c.in-Ok.is c.look_at.ensures in
     let e = c.capacity_of-c.ensures in
     (omega arith, omega arith)
 
@@ -24,7 +24,7 @@ returns-in-Child c =
     let a = c.args in
     let e = rw c.capacity_of-c.ensures at c.next_midpoint.ensures in
     ap (λ (m : NextMidpoint). (child_of m).0) (sym c.in-Child.is ∙ e)
-    ∙ of_good _ _ _ c.in-Good.is c.look_at.ensures (λ n. (child_of (next_midpoint (drop a.from n.children))).0)
+    ∙ of_good _ _ _ c.in-Ok.is c.look_at.ensures (λ n. (child_of (next_midpoint (drop a.from n.children))).0)
 
 pub returns-in-Nothing : goal.returns-in-Nothing
 unfolding node_of
@@ -32,4 +32,4 @@ returns-in-Nothing c =
     let a = c.args in
     let e = rw c.capacity_of-c.ensures at c.next_midpoint.ensures in
     ap (λ (m : NextMidpoint). (child_of m).0) (sym c.in-Nothing.is ∙ e)
-    ∙ of_good _ _ _ c.in-Good.is c.look_at.ensures (λ n. (child_of (next_midpoint (drop a.from n.children))).0)
+    ∙ of_good _ _ _ c.in-Ok.is c.look_at.ensures (λ n. (child_of (next_midpoint (drop a.from n.children))).0)

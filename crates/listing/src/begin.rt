@@ -26,12 +26,17 @@ pub fn cursor_of(height: usize, begin: Way, end: Way) -> Cursor
 {
     let b = way::only_used(begin, height);
     let e = way::only_used(end, height);
+    // Each array has a name first, since the check does not follow one from field to field.
+    let begin_indices = b.indices;
+    let begin_pages = b.pages;
+    let end_indices = e.indices;
+    let end_pages = e.pages;
     Cursor {
         height: height as u64,
-        begin_indices: b.indices,
-        begin_pages: b.pages,
-        end_indices: e.indices,
-        end_pages: e.pages,
+        begin_indices,
+        begin_pages,
+        end_indices,
+        end_pages,
     }
 }
 

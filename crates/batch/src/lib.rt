@@ -12,7 +12,8 @@ ghost use Rattle.batch.specs.Finding.{finding_of, counted};
 ghost use Rattle.batch.specs.Twins.{earlier};
 
 use answer::Refusal;
-use index::{Index, Order};
+use index::Index;
+use std::cmp::Ordering;
 
 // Of a check: nothing, or the refusal to give.
 #[derive(Clone, Copy)]
@@ -88,14 +89,14 @@ pub fn order_fault(b: &[u8], n: usize, by: Index, heap: &[u8]) -> Finding
     while i < n {
         let d = datom::datom_at(b, 32 * i);
         match index::order_of(p, d, by, heap) {
-            Order::Less => {
+            Ordering::Less => {
                 p = d;
                 i += 1;
             }
-            Order::Equal => {
+            Ordering::Equal => {
                 return Finding::Found(Refusal::OutOfOrder(i));
             }
-            Order::Greater => {
+            Ordering::Greater => {
                 return Finding::Found(Refusal::OutOfOrder(i));
             }
         }
@@ -113,11 +114,11 @@ fn has_twin(b: &[u8], i: usize, by: Index, heap: &[u8]) -> bool
     while 0 < j {
         j -= 1;
         match index::order_of(datom::datom_at(b, 32 * j), d, by, heap) {
-            Order::Less => {}
-            Order::Equal => {
+            Ordering::Less => {}
+            Ordering::Equal => {
                 return true;
             }
-            Order::Greater => {}
+            Ordering::Greater => {}
         }
     }
     false

@@ -1,5 +1,5 @@
 -- A few bytes as a number.
-use Rattle.std.specs.Prelude.{ℕ, zero, suc, ◌+◌, ◌-◌, ◌*◌, ◌/◌, ◌%◌, ◌^◌, ◌≤◌, ◌<◌, List, [], ◌∷◌, true, false, ◌≡◌, drop, get_or}
+use Rattle.std.specs.Prelude.{ℕ, zero, suc, ◌+◌, ◌-◌, ◌*◌, ◌/◌, ◌%◌, ◌^◌, ◌≤◌, ◌<◌, List, [], ◌∷◌, Some, None, true, false, ◌≡◌, drop, get_or}
 use Rattle.std.proofs.Common.{zero-le, suc-le-suc, pow-suc, arith, ap, ◌∙◌, length-drop, drop_of_length-le, drop-cons, get_or-drop}
 use borrow.Author.Tests.{le-leb, lt-leb, le-ltb, lt-ltb, eq-eqb}
 use Rattle.std.specs.Int.Bits.{bit_and}
@@ -8,7 +8,6 @@ use Rattle.std.proofs.Math.ListN.{length}
 use Rattle.store.specs.Words.{little, bytes_of}
 use Rattle.store.specs.Laws.{bytes_little, low_bytes}
 use Rattle.datom.specs.declared.Value.{Value}
-use Rattle.datom.specs.declared.Inline.TheVariants.{Made, TooLarge}
 use Rattle.datom.specs.Value.{is_int, str_len, is_str, str, inline_content, inline_str}
 
 pub little_below : (n : ℕ) (s : List ℕ) → ((i : ℕ) → get_or s i 0 < 256) → length s ≤ n → little s < 256 ^ n
@@ -47,10 +46,10 @@ pub other_tag : (n : ℕ) → n < 2 ^ 64 → (bit_and n 0xc000_0000_0000_0000 �
 other_tag n h e z = e (tag_of n h ∙ rw z)
 
 -- the ways of a byte string
-pub too_long : (s : List ℕ) → 7 < length s → TooLarge ≡ inline_str s
+pub too_long : (s : List ℕ) → 7 < length s → None ≡ inline_str s
 too_long s h = rw (lt-leb (length s) 7 h)
 
-pub is_short : (s : List ℕ) (w : ℕ) → length s ≤ 7 → w ≡ little s → Made (record { 0 = 2 ^ 63 + length s * 2 ^ 56 + w }) ≡ inline_str s
+pub is_short : (s : List ℕ) (w : ℕ) → length s ≤ 7 → w ≡ little s → Some (record { 0 = 2 ^ 63 + length s * 2 ^ 56 + w }) ≡ inline_str s
 is_short s w h e = rw (le-leb (length s) 7 h, e)
 
 -- the word that is made of a byte string stands for just these bytes

@@ -1,10 +1,8 @@
 -- Values: which words are one, and what each stands for.
-use Rattle.std.specs.Prelude.{ℕ, ◌+◌, ◌*◌, ◌/◌, ◌%◌, ◌^◌, Bool, ◌&&◌, ◌||◌, not, cond, List, leb, ltb, eqb, length}
+use Rattle.std.specs.Prelude.{ℕ, ◌+◌, ◌*◌, ◌/◌, ◌%◌, ◌^◌, Bool, ◌&&◌, ◌||◌, not, cond, List, Option, Some, None, leb, ltb, eqb, length}
 use Rattle.store.specs.Words.{little, bytes_of}
 use Rattle.heap.specs.Constant.{word_there, bytes_there, integer_at, bytes_at, valid_int, valid_str}
 use Rattle.datom.specs.declared.Value.{Value}
-use Rattle.datom.specs.declared.Inline.{Inline}
-use Rattle.datom.specs.declared.Inline.TheVariants.{Made, TooLarge}
 
 -- "Value: below 2^62, an inline integer."
 unfoldable pub is_int : Value → Bool
@@ -72,13 +70,13 @@ unfoldable pub content : List ℕ → Value → Content
 content h v = cond (names_int v) (named_int h (offset_of v)) (cond (names_str v) (named_str h (offset_of v)) (inline_content v))
 
 -- an integer in the word itself
-abbrev pub inline_int : ℕ → Inline
-inline_int n = cond (ltb n (2 ^ 62)) (Made (record { 0 = n })) TooLarge
+abbrev pub inline_int : ℕ → Option Value
+inline_int n = cond (ltb n (2 ^ 62)) (Some (record { 0 = n })) None
 
 -- a flag, as the integer 1 or 0
 abbrev pub bool_int : Bool → Value
 bool_int b = cond b (record { 0 = 1 }) (record { 0 = 0 })
 
 -- a byte string in the word itself: the tag, the length, and the bytes, the first one lowest
-abbrev pub inline_str : List ℕ → Inline
-inline_str b = cond (leb (length b) 7) (Made (record { 0 = 2 ^ 63 + length b * 2 ^ 56 + little b })) TooLarge
+abbrev pub inline_str : List ℕ → Option Value
+inline_str b = cond (leb (length b) 7) (Some (record { 0 = 2 ^ 63 + length b * 2 ^ 56 + little b })) None

@@ -114,13 +114,6 @@ impl TidOp {
 #[derive(Clone, Copy)]
 pub struct Value(pub u64);
 
-// A value that was to stand in the word itself.
-#[derive(Clone, Copy)]
-pub enum Inline {
-    Made(Value),
-    TooLarge,
-}
-
 impl Value {
     // Only the bit that marks a value outside the word.
     pub const TAG_EXTERNAL: u64 = 0x4000_0000_0000_0000;
@@ -233,13 +226,14 @@ impl Value {
         self.is_stored(heap)
     }
 
-    pub fn from_u64_inline(value: u64) -> Inline
+    // An integer that stands in the word itself, if it is small enough.
+    pub fn from_u64_inline(value: u64) -> Option<Value>
         ensures { result ≡ inline_int value }
     {
         if value < Value::TAG_EXTERNAL {
-            return Inline::Made(Value(value));
+            return Some(Value(value));
         }
-        Inline::TooLarge
+        None
     }
 
     pub fn from_bool(value: bool) -> Value
@@ -248,16 +242,16 @@ impl Value {
         if value { Value(1) } else { Value(0) }
     }
 
-    // A byte string of at most seven bytes.
-    pub fn from_bytes_inline(bytes: &[u8]) -> Inline
+    // A byte string that stands in the word itself, if it has at most seven bytes.
+    pub fn from_bytes_inline(bytes: &[u8]) -> Option<Value>
         ensures { result ≡ inline_str bytes.now }
     {
         let n = bytes.len() as u64;
         if Value::MAX_LENGTH < n {
-            return Inline::TooLarge;
+            return None;
         }
         let word = joined(bytes);
-        Inline::Made(Value(Value::TAG_BYTES + n * Value::LENGTH_BIT + word))
+        Some(Value(Value::TAG_BYTES + n * Value::LENGTH_BIT + word))
     }
 }
 

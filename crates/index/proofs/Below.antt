@@ -8,7 +8,7 @@ use Rattle.store.specs.Laws.{apart}
 use Rattle.datom.specs.declared.Datom.{Datom}
 use Rattle.index.specs.declared.Index.{Index}
 use Rattle.index.specs.declared.Index.TheVariants.{Eavt, Aevt, Avet}
-use Rattle.index.specs.declared.Order.TheVariants.{Less, Greater}
+use Rattle.std.specs.declared.cmp.Ordering.TheVariants.{Less, Greater}
 use Rattle.index.specs.Order.{and_then, is_less, order_in, named}
 use Rattle.index.specs.Compare.{below, same, above, three}
 use Rattle.index.specs.Front.{by_value, second_decides, both_small}

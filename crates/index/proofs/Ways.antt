@@ -6,7 +6,7 @@ use Rattle.store.specs.Laws.{apart}
 use Rattle.datom.specs.declared.Datom.{Datom}
 use Rattle.index.specs.declared.Index.{Index}
 use Rattle.index.specs.declared.Index.TheVariants.{Eavt, Aevt, Avet}
-use Rattle.index.specs.declared.Order.TheVariants.{Less, Equal, Greater}
+use Rattle.std.specs.declared.cmp.Ordering.TheVariants.{Less, Equal, Greater}
 use Rattle.index.specs.Order.{and_then, cmp_value, Part, the_last, cmp_part, cmp_parts, parts_of, order_in, named}
 use Rattle.index.specs.Compare.{cmp_lt, cmp_gt, cmp_eq}
 use Rattle.index.specs.Front.{by_value}

@@ -3,10 +3,11 @@ use Prim.Native.Nat.{ℕ, zero, suc, ◌+◌, ◌*◌, ◌/◌, ◌%◌, ◌^◌
 use Rattle.std.proofs.Common.{mul-le-mul_right, arith, sym, ap, ◌∙◌, take-append-drop, drop-drop}
 use Rattle.std.proofs.Math.Nat.{div-div-eq-div-mul}
 use Rattle.std.specs.Prelude.{List, ◌++◌, ◌≡◌, refl, length, drop}
+use Rattle.std.specs.Int.{swap_bytes, w64}
 use Rattle.store.specs.Words.{bytes_of, word_at}
 use Rattle.store.specs.Bytes.{Bytes}
 use Rattle.store.specs.Laws.{word_back, word_small}
-use Rattle.index.specs.declared.Order.TheVariants.{Less, Greater}
+use Rattle.std.specs.declared.cmp.Ordering.TheVariants.{Less, Greater}
 use Rattle.index.specs.Order.{and_then, cmp_bytes, named}
 use Rattle.index.specs.Key.{turned, swapped}
 use Rattle.index.specs.Keys.{power}
@@ -77,3 +78,11 @@ module _ (a b : List ℕ) (i : ℕ) (p : Bytes a) (q : Bytes b) (h : i + 8 ≤ l
   pub words_on : swapped (word_at a i) ≡ swapped (word_at b i) → cmp_bytes (drop (i + 8) a) (drop (i + 8) b) ≡ cmp_bytes (drop i a) (drop i b)
   unfolding and_then
   words_on e = rw by_word (simp (cmp_eq _ _ e))
+
+-- the library's swap of a word's bytes
+pub swap_is : (v : ℕ) → v < 2 ^ 64 → swap_bytes w64 v ≡ swapped v
+unfolding turned
+swap_is v h = omega arith
+
+pub turn_is : (v : ℕ) → v < 2 ^ 64 → swap_bytes w64 v / 256 ≡ turned v
+turn_is v h = omega (arith, swap_is v h)

@@ -15,7 +15,9 @@ use Rattle.datom.specs.Laws.{str_form}
 use Rattle.datom.specs.Stored as stored
 use Rattle.datom.specs.Stored.{Tag01, tag_01, Tag10, tag_10, Tag11, tag_11, int_word}
 use Rattle.datom.specs.Content.{content_inline, content_near, content_int, content_far_int, content_far_str, content_max}
-use Rattle.index.specs.declared.Order.TheVariants.{Less, Equal, Greater}
+use Rattle.index.specs.declared.content.Kind.{Kind}
+use Rattle.index.specs.declared.content.Kind.TheVariants.{Integer, Text, Top}
+use Rattle.std.specs.declared.cmp.Ordering.TheVariants.{Less, Equal, Greater}
 use Rattle.index.specs.Order.{cmp_bytes, cmp_content, named}
 
 -- "Integers come before byte strings, these before max"
@@ -23,6 +25,12 @@ unfoldable pub kind_of : Content → ℕ
 kind_of (int n) = 0
 kind_of (str b) = 1
 kind_of top = 2
+
+-- the code's kinds, in the same order
+abbrev pub rank : Kind → ℕ
+rank Integer = 0
+rank Text = 1
+rank Top = 2
 
 -- two contents of different kinds
 pub kind_less : (x y : Content) → kind_of x < kind_of y → Less ≡ named (cmp_content x y)

@@ -7,10 +7,9 @@ use Rattle.datom.specs.Value.{Content, int, str, top, content}
 use Rattle.datom.specs.Datom.{formed_datom, stored_datom, bound_datom}
 use Rattle.index.specs.declared.Index.{Index}
 use Rattle.index.specs.declared.Index.TheVariants.{Eavt, Aevt, Avet}
-use Rattle.index.specs.declared.Named.{Named}
-use Rattle.index.specs.declared.Named.TheVariants.{By, Unknown}
-use Rattle.index.specs.declared.Order.{Order}
-use Rattle.index.specs.declared.Order.TheVariants.{Less, Equal, Greater}
+use Rattle.std.specs.Prelude.{Option, Some, None}
+use Rattle.std.specs.declared.cmp.Ordering as cmp
+use Rattle.std.specs.declared.cmp.Ordering.TheVariants.{Less, Equal, Greater}
 
 -- the first difference decides
 unfoldable pub and_then : Ordering → Ordering → Ordering
@@ -63,8 +62,8 @@ parts_of Aevt = the_attribute ∷ the_entity ∷ the_value ∷ the_last ∷ []
 parts_of Avet = the_attribute ∷ the_value ∷ the_entity ∷ the_last ∷ []
 
 -- the orders by their numbers, of which all others are unknown: "13 BadOrder for an unknown order number"
-unfoldable pub index_of : ℕ → Named
-index_of n = cond (eqb n 0) (By Eavt) (cond (eqb n 1) (By Aevt) (cond (eqb n 2) (By Avet) Unknown))
+unfoldable pub index_of : ℕ → Option Index
+index_of n = cond (eqb n 0) (Some Eavt) (cond (eqb n 1) (Some Aevt) (cond (eqb n 2) (Some Avet) None))
 
 -- what the rules take as given of datoms, and use only through laws: how two compare, which words may be given, which datoms may be
 -- stored, which may be a bound
@@ -90,7 +89,7 @@ is_same Ordering.eq = true
 is_same Ordering.gt = false
 
 -- the code's name of an ordering
-unfoldable pub named : Ordering → Order
+unfoldable pub named : Ordering → cmp.Ordering
 named Ordering.lt = Less
 named Ordering.eq = Equal
 named Ordering.gt = Greater

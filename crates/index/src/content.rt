@@ -3,44 +3,45 @@ ghost use Rattle.std.specs.Prelude.{◌≡◌, length, drop, true};
 ghost use Prim.Native.Nat.{◌≤◌, compare};
 ghost use Rattle.heap.specs.Constant.{bytes_at};
 ghost use Rattle.datom.specs.Value.{content, int, str, offset_of};
-ghost use Rattle.index.specs.declared.Order.TheVariants.{Less};
+ghost use Rattle.std.specs.declared.cmp.Ordering.TheVariants.{Less};
 ghost use Rattle.index.specs.Order.{and_then, cmp_bytes, cmp_content, cmp_value, is_less, named};
-ghost use Rattle.index.specs.Kinds.{kind_of};
+ghost use Rattle.index.specs.Kinds.{kind_of, rank};
 
-use crate::Order;
 use datom::Value;
+use std::cmp::Ordering;
 
 // The kinds of content, in their order.
-const INTEGER: u64 = 0;
-
-const TEXT: u64 = 1;
-
-const TOP: u64 = 2;
+#[derive(Clone, Copy, PartialEq, Eq, PartialOrd, Ord)]
+enum Kind {
+    Integer,
+    Text,
+    Top,
+}
 
 // Which kind of content a value stands for. One that cannot be read is taken for max.
-fn kind_of(v: Value, heap: &[u8]) -> u64
-    ensures { result ≡ kind_of (content heap.now v) }
+fn kind_of(v: Value, heap: &[u8]) -> Kind
+    ensures { rank result ≡ kind_of (content heap.now v) }
 {
     if v.0 < Value::TAG_EXTERNAL {
-        return INTEGER;
+        return Kind::Integer;
     }
     if v.0 < Value::TAG_BYTES {
         return if heap::has_word(heap, v.offset()) {
-            INTEGER
+            Kind::Integer
         } else {
-            TOP
+            Kind::Top
         };
     }
     if v.0 < Value::TAG_MASK {
-        return if v.is_bytes() { TEXT } else { TOP };
+        return if v.is_bytes() { Kind::Text } else { Kind::Top };
     }
     if v.is_max() {
-        return TOP;
+        return Kind::Top;
     }
     if heap::has_bytes(heap, v.offset()) {
-        TEXT
+        Kind::Text
     } else {
-        TOP
+        Kind::Top
     }
 }
 
@@ -56,56 +57,32 @@ fn integer_of(v: Value, heap: &[u8]) -> u64
 }
 
 // By unsigned bytes from index `from` on, a proper prefix first.
-fn order_of_bytes_from(a: &[u8], b: &[u8], from: usize) -> Order
+fn order_of_bytes_from(a: &[u8], b: &[u8], from: usize) -> Ordering
     requires { (from ≤ length a.now) × (from ≤ length b.now) }
     ensures { result ≡ named (cmp_bytes (drop from a.now) (drop from b.now)) }
 {
-    let n = a.len();
-    let m = b.len();
-    let mut i = from;
-    while i < n {
-        if m <= i {
-            return Order::Greater;
+    for i in from..a.len().min(b.len()) {
+        if a[i] != b[i] {
+            return a[i].cmp(&b[i]);
         }
-        let x = a[i];
-        let y = b[i];
-        if x < y {
-            return Order::Less;
-        }
-        if y < x {
-            return Order::Greater;
-        }
-        i += 1;
     }
-    crate::order_of_numbers(n as u64, m as u64)
-}
-
-// How many bytes both have.
-fn common_length(a: &[u8], b: &[u8]) -> usize
-    ensures { (result ≤ length a.now) × (result ≤ length b.now) }
-{
-    let n = a.len();
-    let m = b.len();
-    if n < m {
-        return n;
-    }
-    m
+    a.len().cmp(&b.len())
 }
 
 // By unsigned bytes, a proper prefix first: eight at a time as one number, the first of them highest, and what is left one by one.
-fn order_of_bytes(a: &[u8], b: &[u8]) -> Order
+fn order_of_bytes(a: &[u8], b: &[u8]) -> Ordering
     ensures { result ≡ named (cmp_bytes a.now b.now) }
 {
-    let end = common_length(a, b);
+    let end = a.len().min(b.len());
     let mut i = 0;
     while 8 <= end - i {
-        let x = crate::swap(store::word(a, i));
-        let y = crate::swap(store::word(b, i));
+        let x = store::word(a, i).swap_bytes();
+        let y = store::word(b, i).swap_bytes();
         if x < y {
-            return Order::Less;
+            return Ordering::Less;
         }
         if y < x {
-            return Order::Greater;
+            return Ordering::Greater;
         }
         i += 8;
     }
@@ -122,11 +99,11 @@ fn first_rises(a: &[u8], b: &[u8]) -> bool
     if b.len() < 8 {
         return false;
     }
-    crate::swap(store::word(a, 0)) < crate::swap(store::word(b, 0))
+    store::word(a, 0).swap_bytes() < store::word(b, 0).swap_bytes()
 }
 
 // A byte string that a value stands for against bytes. One that stands in the word itself is laid out first.
-fn order_of_text(v: Value, b: &[u8], heap: &[u8]) -> Order
+fn order_of_text(v: Value, b: &[u8], heap: &[u8]) -> Ordering
     requires { kind_of (content heap.now v) ≡ 1 }
     ensures { result ≡ named (cmp_content (content heap.now v) (str b.now)) }
 {
@@ -140,7 +117,7 @@ fn order_of_text(v: Value, b: &[u8], heap: &[u8]) -> Order
 }
 
 // Two byte strings that values stand for.
-fn order_of_texts(a: Value, b: Value, heap: &[u8]) -> Order
+fn order_of_texts(a: Value, b: Value, heap: &[u8]) -> Ordering
     requires { (kind_of (content heap.now a) ≡ 1) × (kind_of (content heap.now b) ≡ 1) }
     ensures { result ≡ named (cmp_content (content heap.now a) (content heap.now b)) }
 {
@@ -154,24 +131,19 @@ fn order_of_texts(a: Value, b: Value, heap: &[u8]) -> Order
 }
 
 // Two values, by the kinds of what they stand for and then by that.
-fn order_of_kinds(a: Value, b: Value, heap: &[u8]) -> Order
+fn order_of_kinds(a: Value, b: Value, heap: &[u8]) -> Ordering
     ensures { result ≡ named (cmp_value heap.now a b) }
 {
     let v = kind_of(a, heap);
     let w = kind_of(b, heap);
-    if v < w {
-        return Order::Less;
+    if v != w {
+        return v.cmp(&w);
     }
-    if w < v {
-        return Order::Greater;
+    match v {
+        Kind::Integer => integer_of(a, heap).cmp(&integer_of(b, heap)),
+        Kind::Text => order_of_texts(a, b, heap),
+        Kind::Top => Ordering::Equal,
     }
-    if v == INTEGER {
-        return crate::order_of_numbers(integer_of(a, heap), integer_of(b, heap));
-    }
-    if v == TEXT {
-        return order_of_texts(a, b, heap);
-    }
-    Order::Equal
 }
 
 // Whether a value names a byte string that is there: if so it stands for its bytes.
@@ -188,7 +160,7 @@ fn names_text(v: Value, heap: &[u8]) -> bool
 }
 
 // Two values, by what they stand for. Most that come here name two byte strings, which are compared where they lie.
-pub fn order_of_contents(a: Value, b: Value, heap: &[u8]) -> Order
+pub fn order_of_contents(a: Value, b: Value, heap: &[u8]) -> Ordering
     ensures { result ≡ named (cmp_value heap.now a b) }
 {
     if !names_text(a, heap) {
@@ -227,9 +199,5 @@ pub fn is_below_behind(a: Value, b: Value, x: u64, y: u64, s: u64, t: u64, heap:
     if texts_rise(a, b, heap) {
         return true;
     }
-    match crate::order_of_behind(a, b, x, y, s, t, heap) {
-        Order::Less => true,
-        Order::Equal => false,
-        Order::Greater => false,
-    }
+    crate::order_of_behind(a, b, x, y, s, t, heap).is_lt()
 }

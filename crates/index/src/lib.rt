@@ -8,9 +8,10 @@ ghost use Prim.Native.Nat.{compare};
 ghost use Rattle.index.specs.Order.{and_then, cmp_value, index_of, order_in, named};
 ghost use Rattle.index.specs.Parts.{place_of, first, second};
 ghost use Rattle.index.specs.Front.{both_integers, by_entity, by_value, second_decides};
-ghost use Rattle.index.specs.Key.{key, turned, swapped};
+ghost use Rattle.index.specs.Key.{key, turned};
 
 use datom::{Datom, Value};
+use std::cmp::Ordering;
 
 // Which order a tree is in: by entity, attribute, value and last word, or by attribute first, with the entity or the value behind it.
 #[derive(Clone, Copy)]
@@ -20,22 +21,15 @@ pub enum Index {
     Avet,
 }
 
-// What a number of an order names.
-#[derive(Clone, Copy)]
-pub enum Named {
-    By(Index),
-    Unknown,
-}
-
-// The order that a number names in a store's record.
-pub fn index_of(number: u64) -> Named
+// The order that a number names in a store's record, if it names one.
+pub fn index_of(number: u64) -> Option<Index>
     ensures { result ≡ index_of number }
 {
     match number {
-        0 => Named::By(Index::Eavt),
-        1 => Named::By(Index::Aevt),
-        2 => Named::By(Index::Avet),
-        _ => Named::Unknown,
+        0 => Some(Index::Eavt),
+        1 => Some(Index::Aevt),
+        2 => Some(Index::Avet),
+        _ => None,
     }
 }
 
@@ -60,33 +54,11 @@ pub fn second_place(by: Index) -> usize
     }
 }
 
-// How one datom stands to another.
-#[derive(Clone, Copy)]
-pub enum Order {
-    Less,
-    Equal,
-    Greater,
-}
-
-// All eight bytes, the first of them highest: one byte swap to the compiler.
-fn swap(v: u64) -> u64
-    ensures { result ≡ swapped v }
-{
-    v % 256 * 72057594037927936
-        + v / 256 % 256 * 281474976710656
-        + v / 65536 % 256 * 1099511627776
-        + v / 16777216 % 256 * 4294967296
-        + v / 4294967296 % 256 * 16777216
-        + v / 1099511627776 % 256 * 65536
-        + v / 281474976710656 % 256 * 256
-        + v / 72057594037927936
-}
-
 // The seven low bytes, the first of them highest.
 fn turn(v: u64) -> u64
     ensures { result ≡ turned v }
 {
-    swap(v) / 256
+    v.swap_bytes() / 256
 }
 
 // The key of max and of what is malformed: above the key of every byte string.
@@ -106,19 +78,6 @@ fn key_of(v: Value) -> u64
     TOP_KEY
 }
 
-// By number.
-fn order_of_numbers(a: u64, b: u64) -> Order
-    ensures { result ≡ named (compare a b) }
-{
-    if a < b {
-        return Order::Less;
-    }
-    if b < a {
-        return Order::Greater;
-    }
-    Order::Equal
-}
-
 // Whether two values are integers that stand in their words. The bits of both are looked at as one number.
 fn are_integers(a: Value, b: Value) -> bool
     ensures { result ≡ both_integers a b }
@@ -127,49 +86,28 @@ fn are_integers(a: Value, b: Value) -> bool
 }
 
 // Two values, by what they stand for. No value that stands in the word itself has the bit that marks the others.
-fn order_of_values(a: Value, b: Value, heap: &[u8]) -> Order
+fn order_of_values(a: Value, b: Value, heap: &[u8]) -> Ordering
     ensures { result ≡ named (cmp_value heap.now a b) }
 {
     if !a.is_external() {
         if !b.is_external() {
-            return order_of_numbers(key_of(a), key_of(b));
+            return key_of(a).cmp(&key_of(b));
         }
     }
     content::order_of_contents(a, b, heap)
-}
-
-// Two numbers, then two others.
-fn order_of_pairs(x: u64, y: u64, s: u64, t: u64) -> Order
-    ensures { result ≡ named (and_then (compare x y) (compare s t)) }
-{
-    if x < y {
-        return Order::Less;
-    }
-    if y < x {
-        return Order::Greater;
-    }
-    order_of_numbers(s, t)
 }
 
 // Which word an order goes by first, and whether the value comes straight behind the attribute.
 fn is_by_entity(by: Index) -> bool
     ensures { result ≡ by_entity by }
 {
-    match by {
-        Index::Eavt => true,
-        Index::Aevt => false,
-        Index::Avet => false,
-    }
+    matches!(by, Index::Eavt)
 }
 
 fn is_by_value(by: Index) -> bool
     ensures { result ≡ by_value by }
 {
-    match by {
-        Index::Eavt => false,
-        Index::Aevt => false,
-        Index::Avet => true,
-    }
+    matches!(by, Index::Avet)
 }
 
 // Whether the second words of an order are different and tell which datom is below: small ones tell whatever they are, and of the others those
@@ -188,51 +126,47 @@ pub fn second_decides(u: u64, v: u64, by: Index) -> bool
 
 // Value, entity, last word: what an order asks of behind the attribute, where the entity does not tell before. It takes words and no datoms,
 // which would have to be put into memory for the call.
-fn order_of_behind(a: Value, b: Value, x: u64, y: u64, s: u64, t: u64, heap: &[u8]) -> Order
+fn order_of_behind(a: Value, b: Value, x: u64, y: u64, s: u64, t: u64, heap: &[u8]) -> Ordering
     ensures { result ≡ named (and_then (cmp_value heap.now a b) (and_then (compare x y) (compare s t))) }
 {
-    match order_of_values(a, b, heap) {
-        Order::Less => Order::Less,
-        Order::Equal => order_of_pairs(x, y, s, t),
-        Order::Greater => Order::Greater,
-    }
+    order_of_values(a, b, heap).then(x.cmp(&y)).then(s.cmp(&t))
 }
 
 // How two datoms stand to each other in a tree's order, by the constants of the heap in use: the first difference decides. The first two
 // words are compared here, as far as they tell by themselves, in one piece: the compiler puts this into every loop over datoms, and
 // nothing that is longer.
-pub fn order_of(a: Datom, b: Datom, by: Index, heap: &[u8]) -> Order
+pub fn order_of(a: Datom, b: Datom, by: Index, heap: &[u8]) -> Ordering
     ensures { result ≡ named ((order_in by heap.now).cmp a b) }
 {
     if is_by_entity(by) {
         if a.entity.0 < b.entity.0 {
-            return Order::Less;
+            return Ordering::Less;
         }
         if b.entity.0 < a.entity.0 {
-            return Order::Greater;
+            return Ordering::Greater;
         }
     }
     if a.attribute.0 < b.attribute.0 {
-        return Order::Less;
+        return Ordering::Less;
     }
     if b.attribute.0 < a.attribute.0 {
-        return Order::Greater;
+        return Ordering::Greater;
     }
     if is_by_value(by) {
         if are_integers(a.value, b.value) {
             if a.value.0 < b.value.0 {
-                return Order::Less;
+                return Ordering::Less;
             }
             if b.value.0 < a.value.0 {
-                return Order::Greater;
+                return Ordering::Greater;
             }
         }
     } else {
         if a.entity.0 < b.entity.0 {
-            return Order::Less;
+            return Ordering::Less;
         }
         if b.entity.0 < a.entity.0 {
-            return Order::Greater;
+            return Ordering::Greater;
         }
     }
     order_of_behind(

@@ -6,7 +6,8 @@ ghost use Rattle.rules.specs.Check.{above_lower, below_upper};
 ghost use Rattle.invariants.specs.Bounds.{bound_of, bound_at};
 
 use datom::Datom;
-use index::{Index, Order};
+use index::Index;
+use std::cmp::Ordering;
 
 // Whether a datom is above a lower bound.
 fn is_above(lower: Option<Datom>, d: Datom, by: Index, heap: &[u8]) -> bool
@@ -15,9 +16,9 @@ fn is_above(lower: Option<Datom>, d: Datom, by: Index, heap: &[u8]) -> bool
     match lower {
         None => true,
         Some(x) => match index::order_of(x, d, by, heap) {
-            Order::Less => true,
-            Order::Equal => false,
-            Order::Greater => false,
+            Ordering::Less => true,
+            Ordering::Equal => false,
+            Ordering::Greater => false,
         },
     }
 }

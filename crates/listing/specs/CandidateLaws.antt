@@ -11,7 +11,7 @@ use Rattle.store.specs.Cells.{cells_end}
 use Rattle.datom.specs.declared.Datom.{Datom}
 use Rattle.datom.specs.Datom.{datom_at, datom_of}
 use Rattle.datom.specs.Laws.{datoms_from}
-use Rattle.index.specs.declared.Order.TheVariants.{Less, Equal, Greater}
+use Rattle.std.specs.declared.cmp.Ordering.TheVariants.{Less, Equal, Greater}
 use Rattle.index.specs.Named.{is_lt, is_eq, is_gt}
 use Rattle.index.specs.Order.{DatomOrd, named}
 use Rattle.rules.specs.Page.{Node, node_of, level_of, count_of}

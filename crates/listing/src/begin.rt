@@ -14,7 +14,8 @@ use crate::way::Way;
 use crate::{descent, way};
 use answer::{Cursor, Damage, Refusal, Start, Started};
 use datom::Datom;
-use index::{Index, Order};
+use index::Index;
+use std::cmp::Ordering;
 use memory_store::found;
 use ordered::Ordered;
 use store::{Extent, PageId, StoreRecord};
@@ -101,9 +102,9 @@ fn is_any_between(root: PageId, lower: Datom, upper: Datom, by: Index, heap: &[u
     ensures { result ≡ (is_less ((order_in by heap.now).cmp lower upper) && not (is_none root)) }
 {
     match index::order_of(lower, upper, by, heap) {
-        Order::Less => !root.is_none(),
-        Order::Equal => false,
-        Order::Greater => false,
+        Ordering::Less => !root.is_none(),
+        Ordering::Equal => false,
+        Ordering::Greater => false,
     }
 }
 

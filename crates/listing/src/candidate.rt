@@ -11,7 +11,8 @@ ghost use Rattle.listing.specs.Candidate.{pick_one, pick, candidate_below};
 
 use answer::Cursor;
 use datom::Datom;
-use index::{Index, Order};
+use index::Index;
+use std::cmp::Ordering;
 use memory_store::access;
 use store::{Extent, PageId};
 
@@ -38,9 +39,9 @@ fn against(
         return Ok(Some(Candidate { level, datom: x }));
     };
     match index::order_of(smallest.datom, x, by, heap) {
-        Order::Less => Ok(best),
-        Order::Equal => Err(page),
-        Order::Greater => Ok(Some(Candidate { level, datom: x })),
+        Ordering::Less => Ok(best),
+        Ordering::Equal => Err(page),
+        Ordering::Greater => Ok(Some(Candidate { level, datom: x })),
     }
 }
 

@@ -6,7 +6,8 @@ ghost use Rattle.rules.specs.Node.{rank_by};
 ghost use Rattle.lookup.specs.Gap.{inside, narrowed};
 
 use datom::Datom;
-use index::{Index, Order};
+use index::Index;
+use std::cmp::Ordering;
 
 // The datoms above the one sought whose paths run through the same pages and meet an equal datom in none of them: those below the
 // least datom that stands next to it in these pages, or all of them where it is above every page.
@@ -29,9 +30,9 @@ pub fn narrow(gap: Gap, page: &[u8], k: usize, i: usize, by: Index, heap: &[u8])
         return Gap::Below(next);
     };
     match index::order_of(next, high, by, heap) {
-        Order::Less => Gap::Below(next),
-        Order::Equal => Gap::Below(high),
-        Order::Greater => Gap::Below(high),
+        Ordering::Less => Gap::Below(next),
+        Ordering::Equal => Gap::Below(high),
+        Ordering::Greater => Gap::Below(high),
     }
 }
 
@@ -43,9 +44,9 @@ fn is_inside(gap: Gap, d: Datom, by: Index, heap: &[u8]) -> bool
         return true;
     };
     match index::order_of(d, high, by, heap) {
-        Order::Less => true,
-        Order::Equal => false,
-        Order::Greater => false,
+        Ordering::Less => true,
+        Ordering::Equal => false,
+        Ordering::Greater => false,
     }
 }
 

@@ -26,7 +26,8 @@ use crate::gap::Gap;
 use answer::{Fault, NextMidpoint, Refusal};
 use batch::Finding;
 use datom::Datom;
-use index::{Index, Order};
+use index::Index;
+use std::cmp::Ordering;
 use memory_store::{access, found};
 use store::{Extent, PageId};
 
@@ -75,9 +76,9 @@ fn is_met(page: &[u8], k: usize, i: usize, d: Datom, by: Index, heap: &[u8]) -> 
         return false;
     }
     match index::order_of(datom::datom_at(page, 32 * i), d, by, heap) {
-        Order::Less => false,
-        Order::Equal => true,
-        Order::Greater => false,
+        Ordering::Less => false,
+        Ordering::Equal => true,
+        Ordering::Greater => false,
     }
 }
 

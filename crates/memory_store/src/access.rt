@@ -8,7 +8,8 @@ ghost use Rattle.rules.specs.Node.{is_midpoint, next_midpoint, rank};
 
 use answer::NextMidpoint;
 use datom::Datom;
-use index::{Index, Order};
+use index::Index;
+use std::cmp::Ordering;
 
 // The level that the header of a page with room for c datoms tells.
 pub fn level_of(s: &[u8], c: usize) -> usize
@@ -59,13 +60,13 @@ pub fn first_not_below(s: &[u8], k: usize, d: Datom, by: Index, heap: &[u8]) -> 
     while lo < hi {
         let mid = lo + (hi - lo) / 2;
         match index::order_of(datom::datom_at(s, 32 * mid), d, by, heap) {
-            Order::Less => {
+            Ordering::Less => {
                 lo = mid + 1;
             }
-            Order::Equal => {
+            Ordering::Equal => {
                 hi = mid;
             }
-            Order::Greater => {
+            Ordering::Greater => {
                 hi = mid;
             }
         }

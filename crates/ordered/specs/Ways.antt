@@ -4,7 +4,7 @@ use Rattle.std.proofs.Math.Path.{refl}
 use Rattle.store.specs.declared.StoreRecord.{StoreRecord}
 use Rattle.store.specs.Laws.{apart}
 use Rattle.index.specs.declared.Index.{Index}
-use Rattle.index.specs.declared.Named.TheVariants as named
+use Rattle.std.specs.Prelude.{Some, None}
 use Rattle.index.specs.Order.{index_of}
 use Rattle.answer.specs.declared.Refusal.{Refusal}
 use Rattle.answer.specs.declared.Refusal.TheVariants.{BadStore, BadOrder}
@@ -34,11 +34,11 @@ module _ (r : StoreRecord) (h : List ℕ) where
     unfolding ordered record_fault
     pages_next bad e = rw (good, e)
 
-    pub order_then : (bad : Bool) → bad ≡ false → index_of r.order ≡ named.Unknown → Refused BadOrder ≡ ordered r h bad
+    pub order_then : (bad : Bool) → bad ≡ false → index_of r.order ≡ None → Refused BadOrder ≡ ordered r h bad
     unfolding ordered record_fault
     order_then bad e n = rw (good, e, n)
 
-    pub order_known_law : (bad : Bool) (i : Index) → bad ≡ false → index_of r.order ≡ named.By i → By i ≡ ordered r h bad
+    pub order_known_law : (bad : Bool) (i : Index) → bad ≡ false → index_of r.order ≡ Some i → By i ≡ ordered r h bad
     unfolding ordered record_fault
     order_known_law bad i e n = rw (good, e, n)
 

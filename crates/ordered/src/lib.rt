@@ -5,7 +5,7 @@ ghost use Rattle.std.specs.Prelude.{◌≡◌};
 ghost use Rattle.ordered.specs.Ways.{ordered};
 
 use answer::Refusal;
-use index::{Index, Named};
+use index::Index;
 use store::StoreRecord;
 
 // The order to go by, or why the call is refused.
@@ -27,7 +27,7 @@ pub fn order_in(recorded: StoreRecord, bad: bool, heap: &[u8]) -> Ordered
         return Ordered::Refused(Refusal::BadStore);
     }
     match index::index_of(recorded.order) {
-        Named::By(by) => Ordered::By(by),
-        Named::Unknown => Ordered::Refused(Refusal::BadOrder),
+        Some(by) => Ordered::By(by),
+        None => Ordered::Refused(Refusal::BadOrder),
     }
 }

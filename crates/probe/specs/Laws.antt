@@ -12,7 +12,7 @@ use Rattle.store.specs.Cells.{cells_end, pages_at}
 use Rattle.datom.specs.declared.Datom.{Datom}
 use Rattle.datom.specs.Datom.{datom_at, datom_of, datoms_of}
 use Rattle.datom.specs.Laws.{datoms_from}
-use Rattle.index.specs.declared.Order.{Order}
+use Rattle.std.specs.declared.cmp.Ordering.{Ordering}
 use Rattle.index.specs.Order.{DatomOrd, named}
 use Rattle.answer.specs.declared.Rule.{Rule}
 use Rattle.answer.specs.Names.{rule_number}
@@ -150,7 +150,7 @@ module _ (t : DatomOrd) (s free : List ℕ) (id : ℕ) {v : Result Header ℕ} w
 
 -- two datoms' bytes, compared
 module _ (t : DatomOrd) (a b : List ℕ) where
-  pub ordered : length a ≡ 32 → length b ≡ 32 → {o : Order} → o ≡ named (t.cmp (datom_at a 0) (datom_at b 0)) → order_number o ≡ order_of t a b
+  pub ordered : length a ≡ 32 → length b ≡ 32 → {o : Ordering} → o ≡ named (t.cmp (datom_at a 0) (datom_at b 0)) → order_number o ≡ order_of t a b
   ordered e f q =
       ap order_number q
       ∙ (of_datom_law (λ y. order_number (named (t.cmp (datom_at a 0) y))) b f ∙ of_datom_law (λ x. of_datom (λ y. order_number (named (t.cmp x y))) b) a e)

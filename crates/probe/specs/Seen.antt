@@ -6,10 +6,9 @@ use Rattle.store.specs.Size.{capacity}
 use Rattle.datom.specs.declared.Datom.{Datom}
 use Rattle.datom.specs.Datom.{datom_of}
 use Rattle.index.specs.declared.Index.{Index}
-use Rattle.index.specs.declared.Named.{Named}
-use Rattle.index.specs.declared.Named.TheVariants.{By, Unknown}
-use Rattle.index.specs.declared.Order.{Order}
-use Rattle.index.specs.declared.Order.TheVariants.{Less, Equal, Greater}
+use Rattle.std.specs.Prelude.{Option, Some, None}
+use Rattle.std.specs.declared.cmp.Ordering.{Ordering}
+use Rattle.std.specs.declared.cmp.Ordering.TheVariants.{Less, Equal, Greater}
 use Rattle.index.specs.Order.{DatomOrd, named}
 use Rattle.answer.specs.Names.{rule_number}
 use Rattle.rules.specs.Page.{Node, Read, broken, good, node_of, encode_page, read_page}
@@ -21,9 +20,9 @@ abbrev pub nothing : ℕ
 nothing = 0xffff_ffff_ffff_ffff
 
 -- in the order that a number names, or what is said of one that is unknown
-abbrev pub in_good_order : {A : Type 0} → A → (Index → A) → Named → A
-in_good_order otherwise f (By i) = f i
-in_good_order otherwise f Unknown = otherwise
+abbrev pub in_good_order : {A : Type 0} → A → (Index → A) → Option Index → A
+in_good_order otherwise f (Some i) = f i
+in_good_order otherwise f None = otherwise
 
 -- a page that is not readable, with the number of the first broken rule, or what it holds
 pub data Seen : Type 0 where
@@ -80,7 +79,7 @@ abbrev pub first_of : DatomOrd → List ℕ → Seen → ℕ
 first_of t b v = of_node (λ n. of_datom (λ d. rank t.cmp d n.datoms) b) v
 
 -- 0 below, 1 equal, 2 above
-abbrev pub order_number : Order → ℕ
+abbrev pub order_number : Ordering → ℕ
 order_number Less = 0
 order_number Equal = 1
 order_number Greater = 2

@@ -9,8 +9,9 @@ ghost use Rattle.rules.specs.Store.{fetch_answer};
 ghost use Rattle.probe.specs.Seen.{nothing, in_good_order, seen, shown, rule_of, level_of, count_of, word_of, child_of, next_of, first_of, order_of, wrote_of, rewritten};
 
 use answer::{Fetch, NextMidpoint};
-use index::{Index, Named, Order};
+use index::Index;
 use memory_store::reader::Header;
+use std::cmp::Ordering;
 use store::{Extent, PageId};
 
 // Where there is nothing to say: an entry for C answers with one word.
@@ -124,9 +125,9 @@ fn in_order(a: &[u8], b: &[u8], by: Index, heap: &[u8]) -> u64
         return NOTHING;
     }
     match index::order_of(datom::datom_at(a, 0), datom::datom_at(b, 0), by, heap) {
-        Order::Less => 0,
-        Order::Equal => 1,
-        Order::Greater => 2,
+        Ordering::Less => 0,
+        Ordering::Equal => 1,
+        Ordering::Greater => 2,
     }
 }
 
@@ -164,8 +165,8 @@ pub fn probe_rule(bytes: &[u8], id: u64, order: u64, heap: &[u8]) -> u64
     ensures { result ≡ in_good_order nothing (λ o. rule_of (seen (order_in o heap.now) bytes.now id)) (index_of order) }
 {
     match index::index_of(order) {
-        Named::By(by) => rule_in(bytes, id, by, heap),
-        Named::Unknown => NOTHING,
+        Some(by) => rule_in(bytes, id, by, heap),
+        None => NOTHING,
     }
 }
 
@@ -174,8 +175,8 @@ pub fn probe_level(bytes: &[u8], id: u64, order: u64, heap: &[u8]) -> u64
     ensures { result ≡ in_good_order nothing (λ o. level_of (seen (order_in o heap.now) bytes.now id)) (index_of order) }
 {
     match index::index_of(order) {
-        Named::By(by) => level_in(bytes, id, by, heap),
-        Named::Unknown => NOTHING,
+        Some(by) => level_in(bytes, id, by, heap),
+        None => NOTHING,
     }
 }
 
@@ -184,8 +185,8 @@ pub fn probe_count(bytes: &[u8], id: u64, order: u64, heap: &[u8]) -> u64
     ensures { result ≡ in_good_order nothing (λ o. count_of (seen (order_in o heap.now) bytes.now id)) (index_of order) }
 {
     match index::index_of(order) {
-        Named::By(by) => count_in(bytes, id, by, heap),
-        Named::Unknown => NOTHING,
+        Some(by) => count_in(bytes, id, by, heap),
+        None => NOTHING,
     }
 }
 
@@ -194,8 +195,8 @@ pub fn probe_word(bytes: &[u8], id: u64, i: usize, j: usize, order: u64, heap: &
     ensures { result ≡ in_good_order nothing (λ o. word_of i j (seen (order_in o heap.now) bytes.now id)) (index_of order) }
 {
     match index::index_of(order) {
-        Named::By(by) => word_in(bytes, id, i, j, by, heap),
-        Named::Unknown => NOTHING,
+        Some(by) => word_in(bytes, id, i, j, by, heap),
+        None => NOTHING,
     }
 }
 
@@ -204,8 +205,8 @@ pub fn probe_child(bytes: &[u8], id: u64, i: usize, order: u64, heap: &[u8]) -> 
     ensures { result ≡ in_good_order nothing (λ o. child_of i (seen (order_in o heap.now) bytes.now id)) (index_of order) }
 {
     match index::index_of(order) {
-        Named::By(by) => child_in(bytes, id, i, by, heap),
-        Named::Unknown => NOTHING,
+        Some(by) => child_in(bytes, id, i, by, heap),
+        None => NOTHING,
     }
 }
 
@@ -214,8 +215,8 @@ pub fn probe_next(bytes: &[u8], id: u64, from: usize, order: u64, heap: &[u8]) -
     ensures { result ≡ in_good_order nothing (λ o. next_of from (seen (order_in o heap.now) bytes.now id)) (index_of order) }
 {
     match index::index_of(order) {
-        Named::By(by) => next_in(bytes, id, from, by, heap),
-        Named::Unknown => NOTHING,
+        Some(by) => next_in(bytes, id, from, by, heap),
+        None => NOTHING,
     }
 }
 
@@ -224,8 +225,8 @@ pub fn probe_first(bytes: &[u8], id: u64, sought: &[u8], order: u64, heap: &[u8]
     ensures { result ≡ in_good_order nothing (λ o. first_of (order_in o heap.now) sought.now (seen (order_in o heap.now) bytes.now id)) (index_of order) }
 {
     match index::index_of(order) {
-        Named::By(by) => first_in(bytes, id, sought, by, heap),
-        Named::Unknown => NOTHING,
+        Some(by) => first_in(bytes, id, sought, by, heap),
+        None => NOTHING,
     }
 }
 
@@ -234,8 +235,8 @@ pub fn probe_order(a: &[u8], b: &[u8], order: u64, heap: &[u8]) -> u64
     ensures { result ≡ in_good_order nothing (λ o. order_of (order_in o heap.now) a.now b.now) (index_of order) }
 {
     match index::index_of(order) {
-        Named::By(by) => in_order(a, b, by, heap),
-        Named::Unknown => NOTHING,
+        Some(by) => in_order(a, b, by, heap),
+        None => NOTHING,
     }
 }
 
@@ -244,7 +245,7 @@ pub fn probe_write(bytes: &[u8], id: u64, free: &mut [u8], order: u64, heap: &[u
     ensures { (result ≡ in_good_order 0 (λ o. wrote_of bytes.now free.old (seen (order_in o heap.now) bytes.now id)) (index_of order)) × (free.new ≡ in_good_order free.old (λ o. rewritten bytes.now free.old (seen (order_in o heap.now) bytes.now id)) (index_of order)) }
 {
     match index::index_of(order) {
-        Named::By(by) => write_in(bytes, id, free, by, heap),
-        Named::Unknown => 0,
+        Some(by) => write_in(bytes, id, free, by, heap),
+        None => 0,
     }
 }

@@ -7,8 +7,7 @@ pub use Rattle.store.specs.Record.{extent_of}
 use Rattle.datom.specs.declared.Datom.{Datom}
 use Rattle.index.specs.declared.Index.{Index}
 use Rattle.index.specs.declared.Index.TheVariants.{Eavt}
-use Rattle.index.specs.declared.Named.{Named}
-use Rattle.index.specs.declared.Named.TheVariants.{By, Unknown}
+use Rattle.std.specs.Prelude.{Option, Some, None}
 use Rattle.index.specs.Order.{DatomOrd, index_of, order_in}
 use Rattle.answer.specs.declared.Refusal.TheVariants.{BadStore, BadOrder}
 use Rattle.answer.specs.declared.Answer.{Answer}
@@ -35,13 +34,13 @@ abbrev pub used_heap : StoreRecord → List ℕ → List ℕ
 used_heap r h = take r.heap h
 
 -- the order that the record names; an unknown one is refused before a datom is compared, so what stands for it here decides nothing
-abbrev pub is_unknown : Named → Bool
-is_unknown (By i) = false
-is_unknown Unknown = true
+abbrev pub is_unknown : Option Index → Bool
+is_unknown (Some i) = false
+is_unknown None = true
 
-abbrev pub index_in : Named → Index
-index_in (By i) = i
-index_in Unknown = Eavt
+abbrev pub index_in : Option Index → Index
+index_in (Some i) = i
+index_in None = Eavt
 
 abbrev pub order_for : StoreRecord → Index
 order_for r = index_in (index_of r.order)

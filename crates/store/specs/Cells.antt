@@ -1,6 +1,6 @@
 -- What stands at an index of cells of bytes, and what a store into them does.
 use Prim.Native.Nat.{ℕ, zero, suc, ◌+◌, ◌-◌, ◌*◌, ◌<◌, ◌≤◌}
-use Rattle.std.proofs.Math.Nat.{mul-zero, mul-one}
+use Rattle.std.proofs.Math.Nat.{mul-zero, mul-one, div-div-eq-div-mul}
 use Rattle.std.proofs.Common.{mul-suc, zero-add, add-zero, suc-add, add_assoc, add-one, arith, sym, ◌∙◌, length-append, drop_of_length-le, take-append-drop, drop-cons, take_at, drop_at, take-take, take_all}
 use mathlib.Core.List.{List, [], ◌∷◌, ◌++◌, append_assoc, append-nil}
 use Rattle.std.specs.Prelude.{◌≡◌, length, take, drop, get_or}
@@ -8,8 +8,9 @@ use Rattle.std.proofs.Math.Path.{refl, ap}
 use Rattle.std.proofs.Math.ListN.{length-drop}
 use Rattle.std.proofs.Math.Seq.{drop-drop, length-take-le, take-length, take-nil, drop-append-add}
 use Rattle.std.proofs.lemmas.List.{drop-append-le}
+use Rattle.std.specs.Int.{to_le_bytes, from_le_bytes, w64}
 use Rattle.store.specs.declared.PageId.{PageId}
-use Rattle.store.specs.Words.{little, cells, word_at, word_of, patch}
+use Rattle.store.specs.Words.{little, bytes_of, cells, word_at, word_of, patch}
 use Rattle.store.specs.Page.{page, page_of}
 use Rattle.store.specs.Laws.{cells_length}
 
@@ -25,6 +26,14 @@ runs (suc n) s at h = rw (drop-cons s at 0 (omega arith)) (ap (λ (l : List ℕ)
 eight : (b0 b1 b2 b3 b4 b5 b6 b7 : ℕ) → word_of b0 b1 b2 b3 b4 b5 b6 b7 ≡ little (b0 ∷ b1 ∷ b2 ∷ b3 ∷ b4 ∷ b5 ∷ b6 ∷ b7 ∷ [])
 unfolding little
 eight b0 b1 b2 b3 b4 b5 b6 b7 = omega arith
+
+-- the library's bytes of a word, and its reading of eight bytes
+pub le_bytes : (v : ℕ) → to_le_bytes w64 v ≡ bytes_of 8 v
+unfolding bytes_of
+le_bytes v = simp div-div-eq-div-mul
+
+pub le_word : (b0 b1 b2 b3 b4 b5 b6 b7 : ℕ) → from_le_bytes w64 (b0 ∷ b1 ∷ b2 ∷ b3 ∷ b4 ∷ b5 ∷ b6 ∷ b7 ∷ []) ≡ word_of b0 b1 b2 b3 b4 b5 b6 b7
+le_word b0 b1 b2 b3 b4 b5 b6 b7 = omega arith
 
 pub word_is : (s : List ℕ) (at : ℕ) → at + 8 ≤ length s
     → word_of (get_or s at 0) (get_or s (at + 1) 0) (get_or s (at + 2) 0) (get_or s (at + 3) 0) (get_or s (at + 4) 0) (get_or s (at + 5) 0) (get_or s (at + 6) 0) (get_or s (at + 7) 0)

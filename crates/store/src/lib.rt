@@ -74,21 +74,12 @@ pub fn capacity_of(size: u64) -> usize
     }
 }
 
-// The eight bytes of a word, lowest first. The products are shifts to the compiler, and with the reads below one load.
-fn joined(b0: u8, b1: u8, b2: u8, b3: u8, b4: u8, b5: u8, b6: u8, b7: u8) -> u64
-    ensures { result ≡ word_of b0 b1 b2 b3 b4 b5 b6 b7 }
-{
-    let lo = (b0 as u64) + (b1 as u64) * 256 + (b2 as u64) * 65536 + (b3 as u64) * 16777216;
-    let hi = (b4 as u64) + (b5 as u64) * 256 + (b6 as u64) * 65536 + (b7 as u64) * 16777216;
-    lo + hi * 4294967296
-}
-
-// The word that stands at byte `at`.
+// The word that stands at byte `at`: one load to the compiler.
 pub fn word(s: &[u8], at: usize) -> u64
     requires { at + 8 ≤ length s.now }
     ensures { result ≡ word_at s.now at }
 {
-    joined(
+    u64::from_le_bytes([
         s[at],
         s[at + 1],
         s[at + 2],
@@ -97,7 +88,7 @@ pub fn word(s: &[u8], at: usize) -> u64
         s[at + 5],
         s[at + 6],
         s[at + 7],
-    )
+    ])
 }
 
 // The child at index i of a page, or of an area laid out as one, with room for m datoms: the children stand behind these.
@@ -108,15 +99,14 @@ pub fn child_at(s: &[u8], m: usize, i: usize) -> PageId
     PageId(word(s, 32 * m + 8 * i))
 }
 
-// All of `p` goes into `s` from byte `at` on: one copying of memory to the compiler.
+// All of `p` goes into `s` from byte `at` on: one copying of memory to the compiler, which asks C for memcpy. The library's `copy_from_slice`
+// asks for memmove, and the archive may ask for no more than memcpy and memset (tests/florin/callers.sh).
 pub fn put(s: &mut [u8], at: usize, p: &[u8])
     requires { at + length p.now ≤ length s.old }
     ensures { s.new ≡ patch s.old at p.now }
 {
-    let mut i = 0;
-    while i < p.len() {
+    for i in 0..p.len() {
         s[at + i] = p[i];
-        i += 1;
     }
 }
 
@@ -125,35 +115,16 @@ pub fn put_word(s: &mut [u8], at: usize, w: u64)
     requires { at + 8 ≤ length s.old }
     ensures { s.new ≡ patch s.old at (bytes_of 8 w) }
 {
-    let w1 = w / 256;
-    let w2 = w1 / 256;
-    let w3 = w2 / 256;
-    let w4 = w3 / 256;
-    let w5 = w4 / 256;
-    let w6 = w5 / 256;
-    let w7 = w6 / 256;
-    let word = [
-        (w % 256) as u8,
-        (w1 % 256) as u8,
-        (w2 % 256) as u8,
-        (w3 % 256) as u8,
-        (w4 % 256) as u8,
-        (w5 % 256) as u8,
-        (w6 % 256) as u8,
-        (w7 % 256) as u8,
-    ];
-    put(s, at, &word);
+    put(s, at, &w.to_le_bytes());
 }
 
-// Zeros go into `s` from byte `at` up to byte `end`: one clearing of memory to the compiler.
+// Zeros go into `s` from byte `at` up to byte `end`: one clearing of memory to the compiler. The library's `fill` sets the last byte apart.
 fn clear(s: &mut [u8], at: usize, end: usize)
     requires { (at ≤ end) × (end ≤ length s.old) }
     ensures { s.new ≡ patch s.old at (zeros (end - at)) }
 {
-    let mut i = at;
-    while i < end {
+    for i in at..end {
         s[i] = 0;
-        i += 1;
     }
 }
 

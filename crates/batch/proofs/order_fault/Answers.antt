@@ -4,7 +4,7 @@ use native.Mathlib.Omega.{arith}
 use mathlib.Core.Path.{◌≡◌, sym, ◌∙◌}
 use Rattle.datom.specs.Datom.{datom_at}
 use Rattle.datom.specs.Laws.{datoms_from}
-use Rattle.index.specs.declared.Order.TheVariants.{Less, Equal, Greater}
+use Rattle.std.specs.declared.cmp.Ordering.TheVariants.{Less, Equal, Greater}
 use Rattle.index.specs.Order.{order_in, named}
 use Rattle.index.specs.Named.{less_named, equal_named, greater_named}
 use Rattle.batch.specs.Steps.{low_on, low_stop, low_end, order_none, order_start}

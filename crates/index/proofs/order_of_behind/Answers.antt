@@ -1,13 +1,10 @@
 -- `index::order_of_behind` meets its contract: the values decide, or the numbers behind them. Assumes nothing.
-use mathlib.Core.Path.{sym, ◌∙◌}
-use Rattle.index.proofs.Ways.{less_front, equal_front, greater_front}
+use Rattle.std.proofs.Common.{◌∙◌}
+use Rattle.index.specs.Named.{numbers_named, then_three}
 use Rattle.index.proofs.order_of_behind.Goals as goal
 
-pub returns-in-Less : goal.returns-in-Less
-returns-in-Less c = less_front _ _ (sym c.order_of_values.ensures ∙ c.in-Less.is)
-
-pub returns-in-Equal : goal.returns-in-Equal
-returns-in-Equal c = c.order_of_pairs.ensures ∙ equal_front _ _ (sym c.order_of_values.ensures ∙ c.in-Equal.is)
-
-pub returns-in-Greater : goal.returns-in-Greater
-returns-in-Greater c = greater_front _ _ (sym c.order_of_values.ensures ∙ c.in-Greater.is)
+pub returns : goal.returns
+returns c =
+    let a = c.args in
+    c.then-2.ensures
+    ∙ rw (c.then.ensures, c.order_of_values.ensures, c.cmp.ensures, c.cmp-2.ensures, numbers_named a.x a.y, numbers_named a.s a.t) (then_three _ _ _)

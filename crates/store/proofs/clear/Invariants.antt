@@ -1,11 +1,8 @@
-use Prim.Native.Nat.{◌-◌, ◌≤◌}
+use Prim.Native.Nat.{◌-◌}
 use mathlib.Core.Path.{◌≡◌}
 use lib.ListN.{length}
 use Rattle.store.specs.Words.{zeros, patch}
 use Rattle.store.proofs.clear.Given as goal
 
 abbrev pub invariant-loop-i : goal.invariant-loop-i
-invariant-loop-i l = (l.at ≤ l.i) × (l.i ≤ l.end) × (length l.s ≡ length l.initial.s) × (l.s ≡ patch l.initial.s l.at (zeros (l.i - l.at)))
-
-abbrev pub decreases-loop-i : goal.decreases-loop-i
-decreases-loop-i l = l.end - l.i
+invariant-loop-i l = (length l.s ≡ length l.initial.s) × (l.s ≡ patch l.initial.s l.at (zeros (l.i - l.at)))

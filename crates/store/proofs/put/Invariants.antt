@@ -1,9 +1,6 @@
-use Rattle.std.proofs.Common.{length, take, ◌-◌, ◌≡◌, ◌≤◌}
+use Rattle.std.proofs.Common.{length, take, ◌≡◌}
 use Rattle.store.specs.Words.{patch}
 use Rattle.store.proofs.put.Given as goal
 
 abbrev pub invariant-loop-i : goal.invariant-loop-i
-invariant-loop-i l = (l.i ≤ length l.p) × (length l.s ≡ length l.initial.s) × (l.s ≡ patch l.initial.s l.at (take l.i l.p))
-
-abbrev pub decreases-loop-i : goal.decreases-loop-i
-decreases-loop-i l = length l.p - l.i
+invariant-loop-i l = (length l.s ≡ length l.initial.s) × (l.s ≡ patch l.initial.s l.at (take l.i l.p))

@@ -3,14 +3,14 @@ use native.Mathlib.Omega.{arith}
 use mathlib.Core.Path.{refl, ◌∙◌, ap}
 use Rattle.index.specs.Order.{named}
 use Rattle.index.specs.Key.{swapped}
-use Rattle.index.specs.Eight.{words_less, words_greater, words_on}
+use Rattle.index.specs.Eight.{words_less, words_greater, words_on, swap_is}
 use Rattle.index.proofs.content.order_of_bytes.Goals as goal
 
 pub loop-i-init : goal.loop-i-init
 loop-i-init c = (omega arith, refl)
 
 pub word-requires : goal.word-requires
-word-requires c = omega (arith, c.common_length-end.ensures)
+word-requires c = omega (arith, c.min-end.ensures)
 
 pub word-requires-in-loop-i : goal.word-requires-in-loop-i
 word-requires-in-loop-i c = omega arith
@@ -21,7 +21,7 @@ returns-then-x-y c =
     let l = c.loop-i in
     words_less a.a.now a.b.now l.i (λ i. (c.shared_slice_known-1.given i).fits) (λ i. (c.shared_slice_known-2-1.given i).fits)
     (omega arith) (omega arith)
-    (omega (arith, c.swap-x.ensures ∙ ap swapped c.word.ensures, c.swap-y.ensures ∙ ap swapped c.word-in-loop-i.ensures, c.if-x-y.true))
+    (omega (arith, c.swap_bytes-x.ensures ∙ swap_is c.word.result (omega arith) ∙ ap swapped c.word.ensures, c.swap_bytes-y.ensures ∙ swap_is c.word-in-loop-i.result (omega arith) ∙ ap swapped c.word-in-loop-i.ensures, c.if-x-y.true))
     ∙ ap named l.invariant.1
 
 pub returns-then-y-x : goal.returns-then-y-x
@@ -30,7 +30,7 @@ returns-then-y-x c =
     let l = c.loop-i in
     words_greater a.a.now a.b.now l.i (λ i. (c.shared_slice_known-1.given i).fits) (λ i. (c.shared_slice_known-2-1.given i).fits)
     (omega arith) (omega arith)
-    (omega (arith, c.swap-x.ensures ∙ ap swapped c.word.ensures, c.swap-y.ensures ∙ ap swapped c.word-in-loop-i.ensures, c.if-y-x.true))
+    (omega (arith, c.swap_bytes-x.ensures ∙ swap_is c.word.result (omega arith) ∙ ap swapped c.word.ensures, c.swap_bytes-y.ensures ∙ swap_is c.word-in-loop-i.result (omega arith) ∙ ap swapped c.word-in-loop-i.ensures, c.if-y-x.true))
     ∙ ap named l.invariant.1
 
 pub overflow_add-i : goal.overflow_add-i
@@ -46,7 +46,7 @@ loop-i-preserved c =
       omega arith,
       words_on a.a.now a.b.now l.i (λ i. (c.shared_slice_known-1.given i).fits) (λ i. (c.shared_slice_known-2-1.given i).fits)
           (omega arith) (omega arith)
-          (omega (arith, c.swap-x.ensures ∙ ap swapped c.word.ensures, c.swap-y.ensures ∙ ap swapped c.word-in-loop-i.ensures, c.if-x-y.false, c.if-y-x.false))
+          (omega (arith, c.swap_bytes-x.ensures ∙ swap_is c.word.result (omega arith) ∙ ap swapped c.word.ensures, c.swap_bytes-y.ensures ∙ swap_is c.word-in-loop-i.result (omega arith) ∙ ap swapped c.word-in-loop-i.ensures, c.if-x-y.false, c.if-y-x.false))
           ∙ l.invariant.1,
     )
 

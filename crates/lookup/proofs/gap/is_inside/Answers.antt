@@ -1,6 +1,6 @@
 -- `is_inside` meets its contract: an open gap has no end, else the comparison with the end says it. Assumes nothing.
 use mathlib.Core.Path.{◌≡◌}
-use Rattle.index.specs.declared.Order.TheVariants.{Less, Equal, Greater}
+use Rattle.std.specs.declared.cmp.Ordering.TheVariants.{Less, Equal, Greater}
 use Rattle.index.specs.Order.{order_in, named}
 use Rattle.index.specs.Named.{less_named, equal_named, greater_named}
 use Rattle.lookup.specs.Gap.{inside}

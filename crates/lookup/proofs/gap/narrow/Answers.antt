@@ -5,7 +5,7 @@ use mathlib.Core.Path.{◌≡◌}
 use Rattle.store.specs.Cells.{cells_end}
 use Rattle.datom.specs.Datom.{datom_at, datom_of}
 use Rattle.datom.specs.Laws.{datoms_from}
-use Rattle.index.specs.declared.Order.TheVariants.{Less, Equal, Greater}
+use Rattle.std.specs.declared.cmp.Ordering.TheVariants.{Less, Equal, Greater}
 use Rattle.index.specs.Order.{order_in, named}
 use Rattle.index.specs.Named.{less_named, equal_named, greater_named}
 use Rattle.lookup.specs.Gap.{narrowed}

@@ -1,7 +1,7 @@
 -- `first_not_below` meets its contract: the index sought lies between the two ends. Assumes nothing.
 use Rattle.std.proofs.Common.{◌≡◌, ◌+◌, ◌-◌, ◌*◌, ◌/◌, zero-le, arith}
 use Rattle.datom.specs.Datom.{datom_at}
-use Rattle.index.specs.declared.Order.TheVariants.{Less, Equal, Greater}
+use Rattle.std.specs.declared.cmp.Ordering.TheVariants.{Less, Equal, Greater}
 use Rattle.index.specs.Order.{order_in, named}
 use Rattle.index.proofs.Laws.{order_preorder}
 use Rattle.memory_store.specs.RankLaws.{seek_right, seek_left, rank_within}

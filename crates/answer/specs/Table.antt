@@ -1,22 +1,12 @@
 -- "Numbers the caller may get": for every case of every answer its number and its four words.
+use Rattle.std.specs.Prelude.{Some, None}
+use Rattle.answer.specs.declared.Flaw.TheVariants.{Unsound, Refused}
+use Rattle.std.specs.Prelude.{Err, Ok}
+use Rattle.answer.specs.Answers.{Answer, Append, Check, Fetch, Held, Start, Step, done_with, ended_step, stored_as, unchecked, unsound_at, yielding}
 use Rattle.std.specs.Prelude.{ℕ}
 use Rattle.store.specs.declared.PageId.{PageId}
 use Rattle.answer.specs.declared.Refusal.{Refusal}
 use Rattle.answer.specs.declared.Refusal.TheVariants.{BadStore, TooMany, BadDatom, OutOfOrder, NoPage, Repeated, Damaged, TooTall, NoRoom, BadBound, BadConstant, HeapFull, BadOrder, NotHeld}
-use Rattle.answer.specs.declared.Answer.{Answer}
-use Rattle.answer.specs.declared.Answer.TheVariants as answer
-use Rattle.answer.specs.declared.Append.{Append}
-use Rattle.answer.specs.declared.Append.TheVariants as append
-use Rattle.answer.specs.declared.Held.{Held}
-use Rattle.answer.specs.declared.Held.TheVariants as held
-use Rattle.answer.specs.declared.Fetch.{Fetch}
-use Rattle.answer.specs.declared.Fetch.TheVariants as fetch
-use Rattle.answer.specs.declared.Start.{Start}
-use Rattle.answer.specs.declared.Start.TheVariants as start
-use Rattle.answer.specs.declared.Step.{Step}
-use Rattle.answer.specs.declared.Step.TheVariants as step
-use Rattle.answer.specs.declared.Check.{Check}
-use Rattle.answer.specs.declared.Check.TheVariants as check
 use Rattle.answer.specs.Names.{fault_number, fault_in}
 
 -- the column "No"
@@ -76,13 +66,13 @@ done_words root pages = record { number = 0; root = root.0; pages = pages; detai
 
 -- "0 for Done"; document 02, One: "the replicator's four words stay"
 abbrev pub answer_words : PageId → Answer → Words
-answer_words given (answer.Done root pages) = done_words root pages
-answer_words given (answer.Refused r) = refused_words given.0 r
+answer_words given (Ok d) = done_words d.root d.pages
+answer_words given (Err r) = refused_words given.0 r
 
 -- the same answer, with the fault
 abbrev pub named_answer : PageId → Answer → Words
-named_answer given (answer.Done root pages) = done_words root pages
-named_answer given (answer.Refused r) = named_words given.0 r
+named_answer given (Ok d) = done_words d.root d.pages
+named_answer given (Err r) = named_words given.0 r
 
 -- a call that is given no root has 0 there, and so has one with nothing to say
 abbrev pub plain : ℕ → Words
@@ -90,30 +80,30 @@ plain number = record { number = number; root = 0; pages = 0; detail = 0 }
 
 -- "0 where the tree holds all its datoms"
 abbrev pub held_words : PageId → Held → Words
-held_words given held.All = plain 0
-held_words given (held.Refused r) = named_words given.0 r
+held_words given (Ok u) = plain 0
+held_words given (Err r) = named_words given.0 r
 
 -- document 02, Two: the value "names an offset", and the caller's heap length grows by the bytes appended; both 0 if refused
 abbrev pub append_words : Append → Words
-append_words (append.Stored value bytes) = record { number = 0; root = value.0; pages = bytes; detail = 0 }
-append_words (append.Refused r) = refused_words 0 r
+append_words (Ok s) = record { number = 0; root = s.value.0; pages = s.bytes; detail = 0 }
+append_words (Err r) = refused_words 0 r
 
 abbrev pub fetch_words : Fetch → Words
-fetch_words fetch.Given = plain 0
-fetch_words (fetch.Refused r) = refused_words 0 r
+fetch_words (Ok u) = plain 0
+fetch_words (Err r) = refused_words 0 r
 
 abbrev pub start_words : PageId → Start → Words
-start_words given start.Begun = plain 0
-start_words given (start.Refused r) = named_words given.0 r
+start_words given (Ok u) = plain 0
+start_words given (Err r) = named_words given.0 r
 
 -- a step that yields is 0, one that has ended 32
 abbrev pub step_words : Step → Words
-step_words (step.Yields d) = plain 0
-step_words step.Ended = plain 32
-step_words (step.Refused r) = named_words 0 r
+step_words (Ok (Some d)) = plain 0
+step_words (Ok None) = plain 32
+step_words (Err r) = named_words 0 r
 
 -- Sound is 0, Unsound 33 with its page and its fault
 abbrev pub check_words : PageId → Check → Words
-check_words given check.Sound = plain 0
-check_words given (check.Unsound p f) = record { number = 33; root = 0; pages = fault_number f; detail = p.0 }
-check_words given (check.Refused r) = refused_words given.0 r
+check_words given (Ok u) = plain 0
+check_words given (Err (Unsound p f)) = record { number = 33; root = 0; pages = fault_number f; detail = p.0 }
+check_words given (Err (Refused r)) = refused_words given.0 r

@@ -6,6 +6,7 @@ ghost use Rattle.answer.specs.Names.{rule_number, fault_number, fault_in};
 ghost use Rattle.answer.specs.Table.{number_of, detail_of};
 ghost use Rattle.answer.specs.Damage.{damaged};
 ghost use Rattle.answer.specs.declared.Fault.TheVariants.{Breaks};
+ghost use Rattle.answer.specs.declared.Flaw.TheVariants.{Unsound, Refused};
 
 use datom::{Datom, Value};
 use store::PageId;
@@ -178,39 +179,18 @@ impl From<Damage> for Refusal {
     }
 }
 
-// Of an insert or an initialise.
+// What an insert or an initialise has done: the new root, and how many pages are written past the count.
 #[derive(Clone, Copy)]
-pub enum Answer {
-    Done { root: PageId, pages: u64 },
-    Refused(Refusal),
+pub struct Done {
+    pub root: PageId,
+    pub pages: u64,
 }
 
-// Of the call that asks whether a tree holds a batch: it holds all of it, or why not.
+// What an append has stored: the value that names the constant, and the bytes by which the heap has grown.
 #[derive(Clone, Copy)]
-pub enum Held {
-    All,
-    Refused(Refusal),
-}
-
-// Of an append to the heap: the value that names the constant, and the bytes by which the heap has grown.
-#[derive(Clone, Copy)]
-pub enum Append {
-    Stored { value: Value, bytes: u64 },
-    Refused(Refusal),
-}
-
-// Of the second call that names the refusal of a fetch.
-#[derive(Clone, Copy)]
-pub enum Fetch {
-    Given,
-    Refused(Refusal),
-}
-
-// Of the search for the next midpoint: the caller goes on only with a child.
-#[derive(Clone, Copy)]
-pub enum NextMidpoint {
-    Child(PageId),
-    Nothing,
+pub struct Stored {
+    pub value: Value,
+    pub bytes: u64,
 }
 
 // A listing's place: the height, and for each end an index and a page for every level.
@@ -223,37 +203,39 @@ pub struct Cursor {
     pub end_pages: [PageId; 8],
 }
 
-#[derive(Clone, Copy)]
-pub enum Start {
-    Begun,
-    Refused(Refusal),
-}
-
 // Of the start of a listing. The cursor of a refused start has ended.
 #[derive(Clone, Copy)]
 pub struct Started {
-    pub answer: Start,
+    pub answer: Result<(), Refusal>,
     pub cursor: Cursor,
 }
 
-#[derive(Clone, Copy)]
-pub enum Step {
-    Yields(Datom),
-    Ended,
-    Refused(Refusal),
-}
-
-// Of a step: an ended or refused one returns its cursor as it was.
+// Of a step: the next datom, or none at the end. An ended or refused step returns its cursor as it was.
 #[derive(Clone, Copy)]
 pub struct Stepped {
-    pub answer: Step,
+    pub answer: Result<Option<Datom>, Refusal>,
     pub cursor: Cursor,
 }
 
-// Of the check.
+// Why a tree is not sound, or the check refused.
 #[derive(Clone, Copy)]
-pub enum Check {
-    Sound,
+pub enum Flaw {
     Unsound(PageId, Fault),
     Refused(Refusal),
+}
+
+impl From<Damage> for Flaw {
+    ghost from_gives = { λ damage flaw. flaw ≡ Unsound damage.page damage.fault };
+
+    fn from(damage: Damage) -> Flaw {
+        Flaw::Unsound(damage.page, damage.fault)
+    }
+}
+
+impl From<Refusal> for Flaw {
+    ghost from_gives = { λ refusal flaw. flaw ≡ Refused refusal };
+
+    fn from(refusal: Refusal) -> Flaw {
+        Flaw::Refused(refusal)
+    }
 }

@@ -1,7 +1,7 @@
 -- What an append answers and leaves, against the rules.
+use Rattle.answer.specs.Answers.{Append}
 use Rattle.std.specs.Prelude.{ℕ, List, ◌≡◌}
 use Rattle.std.proofs.Common.{sym, ◌∙◌}
-use Rattle.answer.specs.declared.Append.{Append}
 use Rattle.rules.specs.Append.{Appending, heap_after}
 
 -- the answer, and every byte of the heap's slice

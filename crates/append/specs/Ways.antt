@@ -1,4 +1,6 @@
 -- The ways through an append, one refusal after another, as the code finds them.
+use Rattle.std.specs.Prelude.{Err}
+use Rattle.answer.specs.Answers.{stored_as}
 use Rattle.std.specs.Prelude.{ℕ, ◌+◌, ◌-◌, ◌*◌, ◌/◌, ◌^◌, ◌≤◌, ◌<◌, Bool, true, false, List, ◌++◌, ◌≡◌, refl, ltb, take, drop}
 use Rattle.std.proofs.Math.Nat.{add-sub_cancel_left}
 use Rattle.std.proofs.Math.Decide.{dec_le}
@@ -12,7 +14,6 @@ use Rattle.store.specs.Cells.{patch_none, next_block, filled, cut}
 use Rattle.heap.specs.Constant.{up_to8}
 use Rattle.answer.specs.declared.Refusal.{Refusal}
 use Rattle.answer.specs.declared.Refusal.TheVariants.{BadStore, BadConstant, HeapFull}
-use Rattle.answer.specs.declared.Append.TheVariants.{Stored, Refused}
 use Rattle.rules.specs.Append.{bad_heap, heap_full, constant_bytes, naming, Appending, refuse_append, append_fault, append_constant, heap_after}
 use Rattle.rules.specs.Appended.{room_in, up_to, constant_length}
 use Rattle.append.specs.Answers.{Appends}
@@ -73,30 +74,30 @@ unfolding patch
 laid h n k c e = rw (add-sub_cancel_left, drop-drop, e) (sym (append_assoc (take n h) c (drop (n + length c) h)))
 
 -- a refusal leaves every byte
-refused : (h : List ℕ) (n : ℕ) (r : Refusal) (a : Appending) → a ≡ refuse_append r → Appends h h n (Refused r) a
+refused : (h : List ℕ) (n : ℕ) (r : Refusal) (a : Appending) → a ≡ refuse_append r → Appends h h n (Err r) a
 unfolding heap_after
 refused h n r a e = rw e (record { answer = refl; heap = sym (patch_none h n) })
 
 module _ (h : List ℕ) (n : ℕ) (inline : Bool) (tag w : ℕ) (b : List ℕ) where
-  pub heap_bad : bad_heap n h ≡ true → Appends h h n (Refused BadStore) (append_constant h n inline tag (constant_bytes w b))
+  pub heap_bad : bad_heap n h ≡ true → Appends h h n (Err BadStore) (append_constant h n inline tag (constant_bytes w b))
   unfolding append_constant append_fault
   heap_bad e = refused h n BadStore _ (rw e)
 
   module _ (good : bad_heap n h ≡ false) where
-    pub has_inline : inline ≡ true → Appends h h n (Refused (BadConstant 0)) (append_constant h n inline tag (constant_bytes w b))
+    pub has_inline : inline ≡ true → Appends h h n (Err (BadConstant 0)) (append_constant h n inline tag (constant_bytes w b))
     unfolding append_constant append_fault
     has_inline i = refused h n (BadConstant 0) _ (rw (good, i))
 
     module _ (other : inline ≡ false) where
       pub heap_full_law :
-          heap_full h n (8 + up_to8 (length b)) ≡ true → Appends h h n (Refused HeapFull) (append_constant h n inline tag (constant_bytes w b))
+          heap_full h n (8 + up_to8 (length b)) ≡ true → Appends h h n (Err HeapFull) (append_constant h n inline tag (constant_bytes w b))
       unfolding append_constant append_fault
       heap_full_law f = refused h n HeapFull _ (rw (good, other, constant_length w b, f))
 
       pub is_stored :
           heap_full h n (8 + up_to8 (length b)) ≡ false →
           let k = 8 + (length b + 7) / 8 * 8 in
-          Appends h (take n h ++ (constant_bytes w b ++ drop (n + k - n) (drop n h))) n (Stored (naming tag n) k) (append_constant h n inline tag (constant_bytes w b))
+          Appends h (take n h ++ (constant_bytes w b ++ drop (n + k - n) (drop n h))) n (stored_as (naming tag n) k) (append_constant h n inline tag (constant_bytes w b))
       unfolding append_constant append_fault heap_after up_to8
       is_stored f =
           let e : 8 + (length b + 7) / 8 * 8 ≡ length (constant_bytes w b) = sym (constant_length w b) in

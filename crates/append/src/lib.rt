@@ -7,7 +7,7 @@ ghost use Rattle.heap.specs.Constant.{up_to8};
 ghost use Rattle.rules.specs.Append.{heap_full, constant_bytes, bytes_tag, append_constant, append_word, append_text};
 ghost use Rattle.append.specs.Answers.{Appends};
 
-use answer::{Append, Refusal};
+use answer::{Refusal, Stored};
 use datom::Value;
 
 // The tags of a value that names a constant, 01 and 11 in its two highest bits. The offset has the 62 bits below them.
@@ -53,31 +53,31 @@ fn append_constant(
     tag: u64,
     word: u64,
     bytes: &[u8],
-) -> Append
+) -> Result<Stored, Refusal>
     requires { tag ≤ bytes_tag }
     ensures { Appends heap.old heap.new used result (append_constant heap.old used inline tag (constant_bytes word bytes.now)) }
 {
     if heap::is_bad(heap, used) {
-        return Append::Refused(Refusal::BadStore);
+        return Err(Refusal::BadStore);
     }
     if inline {
-        return Append::Refused(Refusal::BadConstant(0));
+        return Err(Refusal::BadConstant(0));
     }
     if is_full(heap, used, bytes.len()) {
-        return Append::Refused(Refusal::HeapFull);
+        return Err(Refusal::HeapFull);
     }
     let at = used as usize;
     let need = 8 + (bytes.len() + 7) / 8 * 8;
     put_constant(&mut heap[at..at + need], word, bytes);
     let name = tag + used;
-    Append::Stored {
+    Ok(Stored {
         value: Value(name),
         bytes: need as u64,
-    }
+    })
 }
 
 // An integer as one word.
-pub fn append_u64(heap: &mut [u8], used: u64, value: u64) -> Append
+pub fn append_u64(heap: &mut [u8], used: u64, value: u64) -> Result<Stored, Refusal>
     ensures { Appends heap.old heap.new used result (append_word heap.old used value) }
 {
     let inline = value < heap::LEAST_INTEGER;
@@ -85,7 +85,7 @@ pub fn append_u64(heap: &mut [u8], used: u64, value: u64) -> Append
 }
 
 // A byte string as its length word, its bytes, and zeros to a multiple of 8.
-pub fn append_bytes(heap: &mut [u8], used: u64, bytes: &[u8]) -> Append
+pub fn append_bytes(heap: &mut [u8], used: u64, bytes: &[u8]) -> Result<Stored, Refusal>
     ensures { Appends heap.old heap.new used result (append_text heap.old used bytes.now) }
 {
     let n = bytes.len() as u64;

@@ -1,4 +1,7 @@
 -- Where a C program goes on by what a call left is where the history goes on. Rests on Area and on what is proved beyond demand 3.
+use Rattle.std.specs.Prelude.{Ok}
+use Rattle.std.specs.Prelude.{Err}
+use Rattle.answer.specs.Answers.{Answer, Append, done_with, stored_as}
 use Rattle.std.specs.Prelude.{ℕ, ◌+◌, ◌^◌, ◌≤◌, ◌<◌, Bool, true, false, cond, List, ◌∷◌, ◌≡◌, refl, eqb, ltb, length}
 use Rattle.std.proofs.Common.{add-zero, mul-le-mul_left, arith, inl, ◌∙◌, ap, eq-eqb, ne_eqb, eqb-true, ltb-true}
 use Rattle.store.specs.declared.PageId.{PageId}
@@ -10,12 +13,7 @@ use Rattle.store.specs.Page.{is_none}
 use Rattle.store.specs.Laws.{apart}
 use Rattle.answer.specs.declared.Refusal.{Refusal}
 use Rattle.answer.specs.declared.Refusal.TheVariants.{BadStore, TooMany, BadDatom, OutOfOrder, NoPage, Repeated, Damaged, TooTall, NoRoom, BadBound, BadConstant, HeapFull, BadOrder, NotHeld}
-use Rattle.answer.specs.declared.Answer.{Answer}
-use Rattle.answer.specs.declared.Answer.TheVariants.{Done, Refused}
 use Rattle.datom.specs.declared.Value.{Value}
-use Rattle.answer.specs.declared.Append.{Append}
-use Rattle.answer.specs.declared.Append.TheVariants.{Stored}
-use Rattle.answer.specs.declared.Append.TheVariants as append
 use Rattle.answer.specs.Names.{fault_in}
 use Rattle.answer.specs.Named.{unnamed_words}
 use Rattle.answer.specs.Table.{number_of, answer_words, named_answer, append_words}
@@ -65,8 +63,8 @@ writes m (initialises b scratch) =
 
 -- the number of the fault that an answer names, 0 where it names none
 abbrev pub fault_of : Answer → ℕ
-fault_of (Done root n) = 0
-fault_of (Refused r) = fault_in r
+fault_of (Ok d) = 0
+fault_of (Err r) = fault_in r
 
 -- by the answer's own words; where it names a fault, the third may tell it
 pub record AnswerLeft (m : Moment) (c : Call) (r : ℕ) (s a₁ : List ℕ) : Type 0 where
@@ -76,12 +74,12 @@ pub record AnswerLeft (m : Moment) (c : Call) (r : ℕ) (s a₁ : List ℕ) : Ty
 
 -- both tellings of an answer: one number, and the same words where no fault is named
 named_number : (root : PageId) (a : Answer) → (named_answer root a).number ≡ (answer_words root a).number
-named_number root (Done r n) = refl
-named_number root (Refused r) = refl
+named_number root (Ok d) = refl
+named_number root (Err r) = refl
 
 named_words_law : (root : PageId) (a : Answer) → fault_of a ≡ 0 → named_answer root a ≡ answer_words root a
-named_words_law root (Done r n) e = refl
-named_words_law root (Refused r) e = unnamed_words root.0 r e
+named_words_law root (Ok d) e = refl
+named_words_law root (Err r) e = unnamed_words root.0 r e
 
 pub left_by : (m : Moment) (q : List ℕ) → Lends m q → (c : Call) (r : ℕ) (s a a₁ : List ℕ) → length a ≡ 32 → Wrote m q r s a a₁ c → AnswerLeft m c r s a₁
 unfolding reply_in insert_named_reply
@@ -137,7 +135,7 @@ module _ (m : Moment) (c : Constant) (short : length m.heap < 2 ^ 64) where
   gives = (appending m c).answer
 
   -- 64 bits hold the bytes that were appended
-  stored_small : (v : Value) (k : ℕ) → gives ≡ Stored v k → k < 2 ^ 64
+  stored_small : (v : Value) (k : ℕ) → gives ≡ stored_as v k → k < 2 ^ 64
   stored_small v k e =
       let K = append_keeps m c in
       omega (arith, K.slice, (heap_in (m.recorded.heap + k) (heap_after m.heap m.recorded.heap (appending m c)) (K.good v k e)).0)
@@ -151,14 +149,16 @@ module _ (m : Moment) (c : Constant) (short : length m.heap < 2 ^ 64) where
       side :
           (w : Append) → gives ≡ w → h ≡ heap_after m.heap m.recorded.heap (appending m c) → r ≡ (append_words gives).number →
           a₁ ≡ word_bytes (append_words gives) → grows_on m r h a₁ ≡ appended m c
-      side (Stored v k) q z number area =
+      side (Ok s) q z number area =
+          let v = s.value in
+          let k = s.bytes in
           let zero : r ≡ 0 = rw q at number in
-          let words = append_words (Stored v k) in
+          let words = append_words (stored_as v k) in
           let told : a₁ ≡ word_bytes words = rw q at area in
           let bytes : word_at a₁ 16 ≡ k = rw told (pages_word words (stored_small v k q)) in
           let grows : cond (eqb r 0) (word_at a₁ 16) 0 ≡ k = rw (zero, bytes) in
           rw q (heap_same (ap (λ (x : ℕ). m.recorded.heap + x) grows) z)
-      side (append.Refused f) q z number area =
+      side (Err f) q z number area =
           let told : r ≡ number_of f = rw q at number in
           let other : eqb r 0 ≡ false = rw (told, ne_eqb (number_of f) 0 (refused_number f)) in
           let stays : cond (eqb r 0) (word_at a₁ 16) 0 ≡ 0 = rw other in
@@ -173,7 +173,7 @@ module _ (size : ℕ) (known : In size sizes) where
     answer = (outcome_of m c).answer
 
     -- 64 bits hold what Done says
-    done_small : (root : PageId) (n : ℕ) → answer ≡ Done root n → (root.0 < 2 ^ 64) × (n < 2 ^ 64)
+    done_small : (root : PageId) (n : ℕ) → answer ≡ done_with root n → (root.0 < 2 ^ 64) × (n < 2 ^ 64)
     done_small root n e =
         let S = ready m h in
         let pos : 0 < m.recorded.size = omega (arith, S.known.fits) in
@@ -191,16 +191,18 @@ module _ (size : ℕ) (known : In size sizes) where
     goes_on r s a L = side answer refl
       where
         side : (w : Answer) → answer ≡ w → going_on m c r s a ≡ after m c
-        side (Done root n) e =
+        side (Ok d) e =
+            let root = d.root in
+            let n = d.pages in
             let small = done_small root n e in
-            let words = answer_words (given_root c).root (Done root n) in
+            let words = answer_words (given_root c).root (done_with root n) in
             let number : r ≡ 0 = rw e at L.returns in
             let area : a ≡ word_bytes words = (rw e at L.area) refl in
             let top : word_at a 8 ≡ root.0 = rw area (root_word words small.0) in
             let pages : word_at a 16 ≡ n = rw area (pages_word words small.1) in
             let grows : cond (eqb r 0) (word_at a 16) 0 ≡ n = rw (number, pages) in
             rw e (moment_same (ap (λ (k : ℕ). m.recorded.count + k) grows) L.store (rw (number, top)))
-        side (Refused q) e =
+        side (Err q) e =
             let number : r ≡ number_of q = rw e at L.returns in
             let other : eqb r 0 ≡ false = rw (number, ne_eqb (number_of q) 0 (refused_number q)) in
             let stays : cond (eqb r 0) (word_at a 16) 0 ≡ 0 = rw other in

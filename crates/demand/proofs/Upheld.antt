@@ -1,4 +1,6 @@
 -- Demand 3 of the code as a C program meets it, proved: Caller's CallerDemand3. Rests on Called, Listed and Code.
+use Rattle.std.specs.Prelude.{Err, Ok}
+use Rattle.answer.specs.Answers.{Answer, Held, done_with, has_begun}
 use Rattle.std.specs.Prelude.{ℕ, ◌≤◌, ◌<◌, true, false, List, ◌∷◌, ◌⊎◌, ◌↔◌, ◌≡◌, refl, length}
 use Rattle.std.proofs.Common.{arith, inl, inr, sym, ◌∙◌, ap, length-append}
 use mathlib.Core.Logic.Iff as Iff
@@ -13,12 +15,7 @@ use Rattle.datom.specs.declared.Datom.{Datom}
 use Rattle.datom.specs.Datom.{datom_at, datoms_bytes, WordSized}
 use Rattle.answer.specs.declared.Refusal.{Refusal}
 use Rattle.answer.specs.declared.Refusal.TheVariants.{BadStore, TooMany, BadDatom, OutOfOrder, NoPage, Repeated, Damaged, TooTall, NoRoom, BadBound, BadConstant, HeapFull, BadOrder, NotHeld}
-use Rattle.answer.specs.declared.Answer.{Answer}
-use Rattle.answer.specs.declared.Answer.TheVariants.{Done, Refused}
-use Rattle.answer.specs.declared.Held.{Held}
-use Rattle.answer.specs.declared.Held.TheVariants as held
 use Rattle.answer.specs.declared.Started.{Started}
-use Rattle.answer.specs.declared.Start.TheVariants.{Begun}
 use Rattle.answer.specs.Table.{answer_words, held_words}
 use Rattle.rules.specs.Store.{bad_store, bad_scratch}
 use Rattle.rules.specs.Insert.{batch_of}
@@ -46,7 +43,7 @@ use Rattle.demand.proofs.Called.{AnswerLeft, left_by, writes, runs_on}
 use Rattle.demand.specs.Listed.{following, following_steps, heard}
 
 -- 6 is Repeated and nothing else
-six_refused : (r : Refusal) → (answer_words (record { 0 = 0 }) (Refused r)).number ≡ 6 → (i : ℕ) × (r ≡ Repeated i)
+six_refused : (r : Refusal) → (answer_words (record { 0 = 0 }) (Err r)).number ≡ 6 → (i : ℕ) × (r ≡ Repeated i)
 six_refused BadStore e = absurd (omega arith)
 six_refused TooMany e = absurd (omega arith)
 six_refused (BadDatom i) e = absurd (omega arith)
@@ -62,10 +59,10 @@ six_refused HeapFull e = absurd (omega arith)
 six_refused BadOrder e = absurd (omega arith)
 six_refused (NotHeld i) e = absurd (omega arith)
 
-six : (root : PageId) (a : Answer) → ((answer_words root a).number ≡ 6) ↔ ((i : ℕ) × (a ≡ Refused (Repeated i)))
-six root (Done r n) = (λ e. absurd (omega arith), λ w. absurd (apart (cc w.1)))
-six root (Refused r) = (
-  λ e. let w = six_refused r e in (w.0, ap Refused w.1),
+six : (root : PageId) (a : Answer) → ((answer_words root a).number ≡ 6) ↔ ((i : ℕ) × (a ≡ Err (Repeated i)))
+six root (Ok d) = (λ e. absurd (omega arith), λ w. absurd (apart (cc w.1)))
+six root (Err r) = (
+  λ e. let w = six_refused r e in (w.0, ap Err w.1),
   λ w. let k : r ≡ Repeated w.0 = cc w.1 in rw k,
 )
 
@@ -85,7 +82,7 @@ module _
     start_is =
         rw (lends, eq-eqb (length c) 264 room, whole, in_good_order, known) (sym (bounds_given m.recorded m.store m.heap root lower upper l u))
 
-    module _ (begun : ruled.answer ≡ Begun) where
+    module _ (begun : ruled.answer ≡ has_begun) where
       started_zero : r ≡ 0
       started_zero = rw (eq-eqb (length a) 32 answers, start_is, begun) at B.answer.returns
 
@@ -127,7 +124,7 @@ module _
     first_named r L e =
         let z = (six k.root (outcome_of m (inserts k b scratch)).answer).0 (sym L.returns ∙ e) in
         let F = ((base_beyond size i m h k j).answered b lent w scratch enough).first z.0 z.1 in
-        let words = answer_words k.root (Refused (Repeated z.0)) in
+        let words = answer_words k.root (Err (Repeated z.0)) in
         let short : z.0 < 128 = omega (arith, F.index, length-append F.before (F.datom ∷ F.rest), ap length F.batch, w.few) in
         let area : a ≡ word_bytes words = (rw z.1 at L.area) refl in (
           rw (area, detail_word words (omega arith)) F,
@@ -139,17 +136,17 @@ module _ (Among : Datom → Type 0) (root : PageId) (b : List ℕ) (few : length
   abbrev AskedTold : Type 0
   AskedTold = ((r ≡ 0) ↔ ((d : Datom) → In d (batch_of b) → Among d)) × ((r ≡ 0) ⊎ ((r ≡ 16) × FirstNot Among (batch_of b) (word_at a 24)))
 
-  not_held_told : (i : ℕ) → r ≡ 16 → a ≡ word_bytes (held_words root (held.Refused (NotHeld i))) → FirstNot Among (batch_of b) i → AskedTold
+  not_held_told : (i : ℕ) → r ≡ 16 → a ≡ word_bytes (held_words root (Err (NotHeld i))) → FirstNot Among (batch_of b) i → AskedTold
   not_held_told i number area F =
-      let words = held_words root (held.Refused (NotHeld i)) in
+      let words = held_words root (Err (NotHeld i)) in
       let short : i < 128 = omega (arith, F.index, length-append F.before (F.datom ∷ F.rest), ap length F.batch, few) in (
         (λ z. absurd (omega arith), λ q. absurd (F.not (q F.datom (not_in F)))),
         inr (number, rw (area, detail_word words (omega arith)) F),
       )
 
   asked_told : (h : Held) → Asked Among (batch_of b) h → r ≡ (held_words root h).number → a ≡ word_bytes (held_words root h) → AskedTold
-  asked_told held.All A number area = ((λ z. A.exactly.0 refl, λ q. number), inl number)
-  asked_told (held.Refused q) A number area = elim A.otherwise [
+  asked_told (Ok u) A number area = ((λ z. A.exactly.0 refl, λ q. number), inl number)
+  asked_told (Err q) A number area = elim A.otherwise [
     | inl e ↦ absurd (apart (cc e))
     | inr w ↦
         let k : q ≡ NotHeld w.0 = cc w.1 in

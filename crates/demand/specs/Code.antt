@@ -1,5 +1,7 @@
 -- Demand 3 of the code, for a caller in Rattle: calls that are known by their promises alone are calls of a history, so what Statement
 -- says of a history holds of what the code did.
+use Rattle.std.specs.Prelude.{Err, Ok}
+use Rattle.answer.specs.Answers.{Answer, Append, Check, Held, has_begun, is_sound}
 use Rattle.std.specs.Prelude.{ℕ, ◌<◌, true, false, List, ◌↔◌, ◌≡◌, refl, length}
 use Rattle.std.proofs.Common.{arith, sym, ◌∙◌}
 use Rattle.store.specs.declared.PageId.{PageId}
@@ -12,14 +14,7 @@ use Rattle.datom.specs.Datom.{datoms_bytes, WordSized}
 use Rattle.datom.specs.Content.{names}
 use Rattle.answer.specs.declared.Refusal.{Refusal}
 use Rattle.answer.specs.declared.Refusal.TheVariants.{Repeated}
-use Rattle.answer.specs.declared.Answer.{Answer}
-use Rattle.answer.specs.declared.Answer.TheVariants.{Refused}
-use Rattle.answer.specs.declared.Append.{Append}
-use Rattle.answer.specs.declared.Held.{Held}
-use Rattle.answer.specs.declared.Check.{Check}
-use Rattle.answer.specs.declared.Check.TheVariants.{Sound}
 use Rattle.answer.specs.declared.Started.{Started}
-use Rattle.answer.specs.declared.Start.TheVariants.{Begun}
 use Rattle.answer.specs.declared.Stepped.{Stepped}
 use Rattle.rules.specs.Store.{or_else, bad_scratch, env_of}
 use Rattle.rules.specs.Insert.{Outcome, refuse, batch_of}
@@ -67,7 +62,7 @@ runs_later (then l c) = next (runs_later l) (move_next c)
 abbrev pub CodeHandsOut : Moment → Known → Datom → Datom → List Datom → Type 0
 CodeHandsOut m k lo hi ds =
     (m₁ : Moment) → Runs CodeMove m m₁ → (b : Started) → b ≡ start_call m₁.recorded m₁.store m₁.heap k.root lo hi →
-    (b.answer ≡ Begun)
+    (b.answer ≡ has_begun)
     × ((when : ℕ → Moment) → ((i : ℕ) → Runs CodeMove m₁ (when i)) → (n : ℕ) (r : ℕ → Stepped) → StepsAlong when n b.cursor r → length ds < n →
     handed n r ≡ whole ds)
 
@@ -80,13 +75,13 @@ pub record CodePromise (m : Moment) (k : Known) : Type 0 where
   pub answered :
       (b : List ℕ) → Lent m.store b → WellFormed (at m) b → (scratch : ℕ) → bad_scratch (extent_of m.recorded) scratch ≡ false →
       (a : Answer) (s : List ℕ) → Gave m (inserts k b scratch) a s →
-      ((i : ℕ) × (a ≡ Refused (Repeated i))) ↔ ((d : Datom) × In d (batch_of b) × Shared (at m).cmp (gathered k.batches) d)
+      ((i : ℕ) × (a ≡ Err (Repeated i))) ↔ ((d : Datom) × In d (batch_of b) × Shared (at m).cmp (gathered k.batches) d)
   -- and by `held::held`: held exactly if every datom is equal to one of those that led to the root, and else the first that is not
   pub asked :
       (b : List ℕ) → WellFormed (at m) b → (a : Held) → a ≡ held_call m.recorded m.store m.heap k.root b →
       Asked (Shared (at m).cmp (gathered k.batches)) (batch_of b) a
   -- and by `invariants::check`
-  pub sound : (a : Check) → a ≡ check_call m.recorded m.store m.heap k.root → a ≡ Sound
+  pub sound : (a : Check) → a ≡ check_call m.recorded m.store m.heap k.root → a ≡ is_sound
 
 -- where no value of a batch names a constant, "shares a datom" is meant literally
 module _ (m : Moment) (u : List Datom) (f : (y : Datom) → In y u → (at m).stored y ≡ true) where
@@ -146,21 +141,21 @@ call_writes n q s h scratch o w = side (record_fault q h (bad_room q s scratch))
 -- "1 to 6 and 10 change no byte of the store.", and neither does 11: of `entry::insert` and `entry::initialise`, `records::insert` and
 -- `records::initialise`
 module _ (q : StoreRecord) (s s₁ h : List ℕ) (r : Refusal) (early : Late r → ⊥) (scratch : ℕ) where
-  unchanged : (o : Outcome) → Writes (env_of (ord_of q h) (extent_of q) s).allow o → Replies (extent_of q) s s₁ (Refused r) o → s₁ ≡ s
+  unchanged : (o : Outcome) → Writes (env_of (ord_of q h) (extent_of q) s).allow o → Replies (extent_of q) s s₁ (Err r) o → s₁ ≡ s
   unchanged o w R = R.store ∙ early_unchanged (ord_of q h) (extent_of q) s o w r (sym R.answer) early
 
-  pub insert_unchanged : (root : PageId) (b : List ℕ) → Replies (extent_of q) s s₁ (Refused r) (insert_bytes_call q s h scratch root b) → s₁ ≡ s
+  pub insert_unchanged : (root : PageId) (b : List ℕ) → Replies (extent_of q) s s₁ (Err r) (insert_bytes_call q s h scratch root b) → s₁ ≡ s
   unfolding insert_bytes_call
   insert_unchanged root b = unchanged _ (call_writes _ q s h scratch _ (insert_bytes_writes (ord_of q h) (extent_of q) s scratch root b))
 
-  pub initialise_unchanged : (b : List ℕ) → Replies (extent_of q) s s₁ (Refused r) (initialise_bytes_call q s h scratch b) → s₁ ≡ s
+  pub initialise_unchanged : (b : List ℕ) → Replies (extent_of q) s s₁ (Err r) (initialise_bytes_call q s h scratch b) → s₁ ≡ s
   unfolding initialise_bytes_call
   initialise_unchanged b = unchanged _ (call_writes _ q s h scratch _ (initialise_bytes_writes (ord_of q h) (extent_of q) s scratch b))
 
-  pub insert_records_unchanged : (root : PageId) (ds : List Datom) → Replies (extent_of q) s s₁ (Refused r) (insert_call q s h scratch root ds) → s₁ ≡ s
+  pub insert_records_unchanged : (root : PageId) (ds : List Datom) → Replies (extent_of q) s s₁ (Err r) (insert_call q s h scratch root ds) → s₁ ≡ s
   unfolding insert_call
   insert_records_unchanged root ds = unchanged _ (call_writes _ q s h scratch _ (insert_writes (ord_of q h) (extent_of q) s scratch root ds))
 
-  pub initialise_records_unchanged : (ds : List Datom) → Replies (extent_of q) s s₁ (Refused r) (initialise_call q s h scratch ds) → s₁ ≡ s
+  pub initialise_records_unchanged : (ds : List Datom) → Replies (extent_of q) s s₁ (Err r) (initialise_call q s h scratch ds) → s₁ ≡ s
   unfolding initialise_call
   initialise_records_unchanged ds = unchanged _ (call_writes _ q s h scratch _ (initialise_writes (ord_of q h) (extent_of q) s scratch ds))

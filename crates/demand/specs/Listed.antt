@@ -1,4 +1,7 @@
 -- The steps that a C program takes from the bytes of a cursor hand out what the rules' steps hand out. Rests on Called.
+use Rattle.std.specs.Prelude.{Ok, Some, None}
+use Rattle.std.specs.Prelude.{Err}
+use Rattle.answer.specs.Answers.{Step as StepAnswer, ended_step, yielding}
 use Rattle.std.specs.Prelude.{ℕ, zero, suc, List, [], ◌∷◌, ◌≡◌, refl, length}
 use Rattle.std.proofs.Common.{sym}
 use borrow.Author.Tests.{eq-eqb}
@@ -6,8 +9,6 @@ use Rattle.store.specs.Laws.{apart}
 use Rattle.datom.specs.declared.Datom.{Datom}
 use Rattle.datom.specs.Datom.{datom_bytes}
 use Rattle.answer.specs.declared.Cursor.{Cursor}
-use Rattle.answer.specs.declared.Step.{Step as StepAnswer}
-use Rattle.answer.specs.declared.Step.TheVariants.{Yields, Ended, Refused}
 use Rattle.answer.specs.declared.Stepped.{Stepped}
 use Rattle.answer.specs.Table.{step_words}
 use Rattle.answer.specs.Fit.{CursorFits}
@@ -51,7 +52,7 @@ module _ (m : Moment) (c : Cursor) (F : CursorFits c) (s : StepBytes) (T : StepT
   number_is : s.number ≡ (step_words ruled.answer).number
   number_is = rw (eq-eqb (length T.area) 32 T.answers) at by_bytes.answer.returns
 
-  module _ (d : Datom) (e : ruled.answer ≡ Yields d) where
+  module _ (d : Datom) (e : ruled.answer ≡ yielding d) where
     cursor_is : s.cursor ≡ cursor_bytes ruled.cursor
     unfolding cursor_stepped
     cursor_is = rw (eq-eqb (length T.area) 32 T.answers, e) at by_bytes.cursor
@@ -73,7 +74,7 @@ heard (suc n) at c F A ds e w T =
         ((ds : List Datom) → handed n (λ i. following at c (suc i)) ≡ whole ds → (v : ℕ → StepBytes) →
         StepsTaken (λ j. at (suc j)) n (cursor_bytes (following at c 0).cursor) v → Heard ds v) →
         Heard ds w
-    side (Yields d) q ih =
+    side (Ok (Some d)) q ih =
         let k : also d (handed n (λ i. following at c (suc i))) ≡ whole ds = rw (q, handed) at e in
         let z = also_whole d (handed n (λ i. following at c (suc i))) ds k in
         rw z.2 (
@@ -81,8 +82,8 @@ heard (suc n) at c F A ds e w T =
           datom_is (at 0) c F (w 0) T.0 d q,
           ih z.0 z.1 (λ i. w (suc i)) (rw (cursor_is (at 0) c F (w 0) T.0 d q) at T.1),
         )
-    side Ended q ih =
+    side (Ok None) q ih =
         let k : whole [] ≡ whole ds = rw (q, handed) at e in
         let z : ds ≡ [] = sym (cc) in
         rw z (rw q at (number_is (at 0) c F (w 0) T.0))
-    side (Refused r) q ih = let k : cut r [] ≡ whole ds = rw (q, handed) at e in absurd (apart (cc))
+    side (Err r) q ih = let k : cut r [] ≡ whole ds = rw (q, handed) at e in absurd (apart (cc))

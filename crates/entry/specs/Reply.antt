@@ -1,12 +1,11 @@
 -- What an entry answers and leaves, against the outcome of the rules.
+use Rattle.answer.specs.Answers.{Answer, done_with}
 use Rattle.std.specs.Prelude.{ℕ, ◌*◌, List, [], ◌≡◌, refl, length, Result, Ok, Err}
 use Rattle.std.proofs.Common.{add-zero, zero-add, sym, ◌∙◌, ap}
 use Rattle.store.specs.declared.PageId.{PageId}
 use Rattle.store.specs.declared.Extent.{Extent}
 use Rattle.store.specs.Words.{spread, patch}
 use Rattle.answer.specs.declared.Refusal.{Refusal}
-use Rattle.answer.specs.declared.Answer.{Answer}
-use Rattle.answer.specs.declared.Answer.TheVariants.{Done, Refused}
 use Rattle.rules.specs.Page.{Node}
 use Rattle.rules.specs.Tree.{Stage}
 use Rattle.rules.specs.Store.{store_after}
@@ -28,11 +27,11 @@ replies_same x s s₁ s₂ r₁ r₂ o A B = (A.answer ∙ sym B.answer, A.store
 
 -- the answer to what was written
 unfoldable pub answer_of : Result Rooted Failed → Answer
-answer_of (Ok r) = Done r.root r.written
-answer_of (Err f) = Refused f.refusal
+answer_of (Ok r) = done_with r.root r.written
+answer_of (Err f) = Err f.refusal
 
 -- a refusal before anything is written leaves every byte
-pub replies_refused : (x : Extent) (s : List ℕ) (r : Refusal) (o : Outcome) → o ≡ refuse r → Replies x s s (Refused r) o
+pub replies_refused : (x : Extent) (s : List ℕ) (r : Refusal) (o : Outcome) → o ≡ refuse r → Replies x s s (Err r) o
 unfolding store_after spread
 replies_refused x s r o e = rw e (record { answer = refl; store = sym (patch_none s (x.count * x.size)) })
 
@@ -43,5 +42,5 @@ after_none x s s₁ new W = W.bytes ∙ ap (λ (k : ℕ). patch s (k * x.size) (
 
 pub replies : (x : Extent) (s s₁ : List ℕ) (r : Result Rooted Failed) (t : Stage PageId) → RootTold x s s₁ [] r t → Replies x s s₁ (answer_of r) (outcome t)
 unfolding answer_of outcome
-replies x s s₁ r t (root_at {id = id} new W) = record { answer = ap (Done id) (zero-add (length new)); store = after_none x s s₁ new W }
+replies x s s₁ r t (root_at {id = id} new W) = record { answer = ap (done_with id) (zero-add (length new)); store = after_none x s s₁ new W }
 replies x s s₁ r t (root_not new W) = record { answer = refl; store = after_none x s s₁ new W }

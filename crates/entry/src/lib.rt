@@ -14,25 +14,24 @@ ghost use Rattle.rules.specs.Calls.{extent_of, insert_bytes_call, initialise_byt
 ghost use Rattle.entry.specs.Reply.{Replies, answer_of};
 ghost use Rattle.entry.specs.Checks.{Passed};
 
-use answer::{Answer, Refusal};
+use answer::{Done, Refusal};
 use batch::{Count, Finding};
 use htree::place::Failed;
 use htree::root::Rooted;
 use index::Index;
 use memory_store::reader::Header;
-use ordered::Ordered;
 use store::{Extent, PageId, StoreRecord};
 
 // The answer, of what was written.
-fn answer_of(r: Result<Rooted, Failed>) -> Answer
+fn answer_of(r: Result<Rooted, Failed>) -> Result<Done, Refusal>
     ensures { result ≡ answer_of r }
 {
     match r {
-        Ok(rooted) => Answer::Done {
+        Ok(rooted) => Ok(Done {
             root: rooted.root,
             pages: rooted.written,
-        },
-        Err(failed) => Answer::Refused(failed.refusal),
+        }),
+        Err(failed) => Err(failed.refusal),
     }
 }
 
@@ -48,15 +47,15 @@ fn insert_at(
     s: &mut [u8],
     by: Index,
     heap: &[u8],
-) -> Answer
+) -> Result<Done, Refusal>
     requires { Passed extent store.old c b.now n (length s.old) × (rising (order_in by heap.now).cmp (datoms_of n b.now) ≡ true) }
     ensures { Replies extent store.old store.new result (insert_at (env_of (order_in by heap.now) extent store.old) root (datoms_of n b.now) (fetch_page (order_in by heap.now) extent store.old root)) }
 {
     match memory_store::found::node_at(store, extent, c, root, by, heap) {
-        Err(fault) => Answer::Refused(Refusal::Damaged(root, fault)),
+        Err(fault) => Err(Refusal::Damaged(root, fault)),
         Ok(Header { level, count }) => {
             match lookup::lookup_all(store, extent, c, root, level, count, b, n, by, heap) {
-                Finding::Found(refusal) => Answer::Refused(refusal),
+                Finding::Found(refusal) => Err(refusal),
                 Finding::Clear => {
                     answer_of(write::under(store, extent, c, root, level, count, b, n, s, by, heap))
                 }
@@ -76,15 +75,15 @@ fn insert_counted(
     s: &mut [u8],
     by: Index,
     heap: &[u8],
-) -> Answer
+) -> Result<Done, Refusal>
     requires { Passed extent store.old c b.now n (length s.old) }
     ensures { Replies extent store.old store.new result (insert_counted (order_in by heap.now) extent store.old root (datoms_of n b.now)) }
 {
     match check::insert_fault(b, n, by, heap) {
-        Finding::Found(refusal) => Answer::Refused(refusal),
+        Finding::Found(refusal) => Err(refusal),
         Finding::Clear => {
             if memory_store::is_bad_root(extent, root) {
-                return Answer::Refused(Refusal::NoPage);
+                return Err(Refusal::NoPage);
             }
             if root.is_none() {
                 return answer_of(write::fresh(store, extent, c, b, n, s));
@@ -103,11 +102,11 @@ pub fn insert_in(
     s: &mut [u8],
     by: Index,
     heap: &[u8],
-) -> Answer
+) -> Result<Done, Refusal>
     ensures { Replies extent store.old store.new result (insert_bytes (order_in by heap.now) extent store.old (length s.old) root b.now) }
 {
     match check::count_of(store, extent, b, s.len()) {
-        Count::Refused(refusal) => Answer::Refused(refusal),
+        Count::Refused(refusal) => Err(refusal),
         Count::Datoms(n) => {
             let c = store::capacity_of(extent.size);
             insert_counted(store, extent, c, root, b, n, s, by, heap)
@@ -125,12 +124,12 @@ fn initialise_counted(
     s: &mut [u8],
     by: Index,
     heap: &[u8],
-) -> Answer
+) -> Result<Done, Refusal>
     requires { Passed extent store.old c b.now n (length s.old) }
     ensures { Replies extent store.old store.new result (initialise_counted (order_in by heap.now) extent store.old (datoms_of n b.now)) }
 {
     match check::initialise_fault(b, n, by, heap) {
-        Finding::Found(refusal) => Answer::Refused(refusal),
+        Finding::Found(refusal) => Err(refusal),
         Finding::Clear => answer_of(write::sorted(store, extent, c, b, n, s, by, heap)),
     }
 }
@@ -143,11 +142,11 @@ pub fn initialise_in(
     s: &mut [u8],
     by: Index,
     heap: &[u8],
-) -> Answer
+) -> Result<Done, Refusal>
     ensures { Replies extent store.old store.new result (initialise_bytes (order_in by heap.now) extent store.old (length s.old) b.now) }
 {
     match check::count_of(store, extent, b, s.len()) {
-        Count::Refused(refusal) => Answer::Refused(refusal),
+        Count::Refused(refusal) => Err(refusal),
         Count::Datoms(n) => {
             let c = store::capacity_of(extent.size);
             initialise_counted(store, extent, c, b, n, s, by, heap)
@@ -163,18 +162,14 @@ pub fn insert(
     b: &[u8],
     s: &mut [u8],
     heap: &[u8],
-) -> Answer
+) -> Result<Done, Refusal>
     ensures { Replies (extent_of recorded) store.old store.new result (insert_bytes_call recorded store.old heap.now (length s.old) root b.now) }
 {
     let extent = recorded.extent();
     let bad = check::is_bad(store, extent, s.len());
-    match ordered::order_in(recorded, bad, heap) {
-        Ordered::Refused(refusal) => Answer::Refused(refusal),
-        Ordered::By(by) => {
-            let used = heap::used_of(heap, recorded.heap);
-            insert_in(store, extent, root, b, s, by, used)
-        }
-    }
+    let by = ordered::order_in(recorded, bad, heap)?;
+    let used = heap::used_of(heap, recorded.heap);
+    insert_in(store, extent, root, b, s, by, used)
 }
 
 // Makes a new tree of a batch in any order. It reads no page.
@@ -184,16 +179,12 @@ pub fn initialise(
     b: &[u8],
     s: &mut [u8],
     heap: &[u8],
-) -> Answer
+) -> Result<Done, Refusal>
     ensures { Replies (extent_of recorded) store.old store.new result (initialise_bytes_call recorded store.old heap.now (length s.old) b.now) }
 {
     let extent = recorded.extent();
     let bad = check::is_bad(store, extent, s.len());
-    match ordered::order_in(recorded, bad, heap) {
-        Ordered::Refused(refusal) => Answer::Refused(refusal),
-        Ordered::By(by) => {
-            let used = heap::used_of(heap, recorded.heap);
-            initialise_in(store, extent, b, s, by, used)
-        }
-    }
+    let by = ordered::order_in(recorded, bad, heap)?;
+    let used = heap::used_of(heap, recorded.heap);
+    initialise_in(store, extent, b, s, by, used)
 }

@@ -1,7 +1,7 @@
 // Batches of fills: fill k is entity k with attribute 1, the order text of k, asserted in transaction 2 k.
 ghost use Rattle.std.specs.Prelude.{◌≤◌};
 
-use answer::Append;
+use answer::Stored;
 
 // The word of a text for which the heap has no room: no batch may have it.
 const NO_NAME: u64 = 0xffff_ffff_ffff_ffff;
@@ -33,8 +33,8 @@ fn put_one(batch: &mut [u8; 256], heap: &mut [u8], used: u64, i: usize, k: u64) 
 {
     let number = k % 1000000;
     let (name, bytes) = match append::append_bytes(heap, used, &text_of(number)) {
-        Append::Stored { value, bytes } => (value.0, bytes),
-        Append::Refused(_) => (NO_NAME, 0),
+        Ok(Stored { value, bytes }) => (value.0, bytes),
+        Err(_) => (NO_NAME, 0),
     };
     put_words(batch, i, number, name);
     used.wrapping_add(bytes)

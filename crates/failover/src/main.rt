@@ -7,7 +7,7 @@ pub mod say;
 
 ghost use Rattle.std.specs.Prelude.{◌≤◌};
 
-use answer::{Answer, Step};
+use answer::Done;
 use datom::{Aid, Datom, Eid, TidOp, Value};
 use std::io;
 use store::{PageId, StoreRecord};
@@ -74,13 +74,13 @@ impl Replicator<'_> {
             &mut *self.heap,
         );
         match answer {
-            Answer::Done { root, pages } => {
+            Ok(Done { root, pages }) => {
                 let count = stored.count.wrapping_add(pages);
                 let stored = StoreRecord { count, ..stored };
                 self.stand = Stand { stored, root };
                 say::done(rt, root, pages)
             }
-            Answer::Refused(refusal) => say::refused(rt, refusal),
+            Err(refusal) => say::refused(rt, refusal),
         }
     }
 
@@ -110,7 +110,7 @@ impl Replicator<'_> {
         say::listing(rt, root)?;
         for _ in 0..1000 {
             let stepped = listing::step::step(self.store, stored, cursor, self.heap);
-            let Step::Yields(fill) = stepped.answer else {
+            let Ok(Some(fill)) = stepped.answer else {
                 break;
             };
             say::fill(rt, fill)?;

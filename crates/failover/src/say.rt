@@ -1,5 +1,5 @@
 // What the story says, on standard output.
-use answer::{Check, Refusal};
+use answer::{Flaw, Refusal};
 use datom::Datom;
 use std::io;
 use store::PageId;
@@ -58,16 +58,16 @@ pub fn older(rt: &impl Print) -> io::Result<()> {
     println!(rt; "\nAn older root lists what it listed, and the check finds no fault.")
 }
 
-pub fn checked(rt: &impl Print, check: Check) -> io::Result<()> {
+pub fn checked(rt: &impl Print, check: Result<(), Flaw>) -> io::Result<()> {
     match check {
-        Check::Sound => println!(rt; "  the check: Sound"),
-        Check::Unsound(page, fault) => {
+        Ok(()) => println!(rt; "  the check: Sound"),
+        Err(Flaw::Unsound(page, fault)) => {
             println!(rt;
                 "  the check: Unsound, page {}, fault {}",
                 page.0,
                 fault.number()
             )
         }
-        Check::Refused(refusal) => refused(rt, refusal),
+        Err(Flaw::Refused(refusal)) => refused(rt, refusal),
     }
 }

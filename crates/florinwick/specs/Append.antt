@@ -1,7 +1,7 @@
 -- What an append returns and leaves: the answer's words, and every byte of the heap's slice.
+use Rattle.answer.specs.Answers.{Append}
 use Rattle.std.specs.Prelude.{ℕ, List, ◌≡◌, length}
 use Rattle.std.proofs.Common.{sym, ◌∙◌, eq-eqb, ne_eqb}
-use Rattle.answer.specs.declared.Append.{Append}
 use Rattle.answer.specs.Table.{append_words}
 use Rattle.rules.specs.Append.{Appending, heap_after}
 use Rattle.append.specs.Answers.{Appends}

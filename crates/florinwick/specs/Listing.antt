@@ -1,4 +1,7 @@
 -- What the entries of a listing return and leave: the answer's words, the cursor's bytes, and the datom that a step yields.
+use Rattle.std.specs.Prelude.{Ok, Some, None}
+use Rattle.std.specs.Prelude.{Err, Ok}
+use Rattle.answer.specs.Answers.{ended_step, has_begun, yielding}
 use Rattle.std.specs.Prelude.{ℕ, false, ◌&&◌, not, cond, List, ◌≡◌, eqb, length}
 use Rattle.std.proofs.Common.{append-nil, sym, ◌∙◌}
 use borrow.Author.Tests.{eq-eqb, ne_eqb}
@@ -9,9 +12,7 @@ use Rattle.datom.specs.declared.Datom.{Datom}
 use Rattle.datom.specs.Datom.{datom_at, datom_bytes}
 use Rattle.answer.specs.declared.Refusal.TheVariants.{BadStore, BadBound}
 use Rattle.answer.specs.declared.Started.{Started}
-use Rattle.answer.specs.declared.Start.TheVariants as start
 use Rattle.answer.specs.declared.Stepped.{Stepped}
-use Rattle.answer.specs.declared.Step.TheVariants as step
 use Rattle.answer.specs.Table.{start_words, step_words, refused_words}
 use Rattle.rules.specs.Store.{refuse_if, or_else}
 use Rattle.rules.specs.Entry.{word_bytes}
@@ -35,7 +36,7 @@ start_in q s h root lower upper c = cond (eqb (length c) 264) (start_bytes q s h
 
 -- the cursor area after a start: one that is refused leaves it as it was
 unfoldable pub cursor_started : List ℕ → Started → List ℕ
-cursor_started c b = elim b.answer [ start.Begun ↦ cursor_bytes b.cursor | start.Refused r ↦ c ]
+cursor_started c b = elim b.answer [ Ok u ↦ cursor_bytes b.cursor | Err r ↦ c ]
 
 -- a cursor area of a length other than 264, or a datom area of a length other than 32, is 1
 unfoldable pub step_in : StoreRecord → List ℕ → List ℕ → List ℕ → List ℕ → Stepped
@@ -44,10 +45,10 @@ step_in q s h c d =
 
 -- "An ended or refused step returns its cursor unchanged", and no datom
 unfoldable pub cursor_stepped : List ℕ → Stepped → List ℕ
-cursor_stepped c k = elim k.answer [ step.Yields d ↦ cursor_bytes k.cursor | step.Ended ↦ c | step.Refused r ↦ c ]
+cursor_stepped c k = elim k.answer [ Ok (Some d) ↦ cursor_bytes k.cursor | Ok None ↦ c | Err r ↦ c ]
 
 unfoldable pub datom_stepped : List ℕ → Stepped → List ℕ
-datom_stepped e k = elim k.answer [ step.Yields d ↦ datom_bytes d | step.Ended ↦ e | step.Refused r ↦ e ]
+datom_stepped e k = elim k.answer [ Ok (Some d) ↦ datom_bytes d | Ok None ↦ e | Err r ↦ e ]
 
 -- without an area for its answer a call changes nothing
 abbrev pub when_answered : List ℕ → List ℕ → List ℕ → List ℕ

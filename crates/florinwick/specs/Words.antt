@@ -1,10 +1,10 @@
 -- The answer's four words in their area, and the reply of a call.
+use Rattle.answer.specs.Answers.{Answer}
 use Rattle.std.specs.Prelude.{ℕ, cond, List, ◌≡◌, refl, eqb, length}
 use Rattle.std.proofs.Common.{arith, append-nil, sym, ◌∙◌, ap, eq-eqb, ne_eqb}
 use Rattle.store.specs.declared.Extent.{Extent}
 use Rattle.store.specs.Words.{bytes_of, spread, patch}
 use Rattle.store.specs.Size.{capacity, scratch_need}
-use Rattle.answer.specs.declared.Answer.{Answer}
 use Rattle.answer.specs.Table.{Words}
 use Rattle.rules.specs.Insert.{Outcome}
 use Rattle.rules.specs.Entry.{word_bytes, Reply, reply_in}

@@ -20,7 +20,7 @@ ghost use Rattle.rules.specs.Calls.{check_call, held_call};
 ghost use Rattle.florinwick.specs.Record.{record_in};
 ghost use Rattle.florinwick.specs.Words.{Replied, AreaReplied, need_of};
 
-use answer::{Check, Fetch, Held};
+use answer::Flaw;
 use store::PageId;
 
 // The number of a check that finds a fault.
@@ -85,8 +85,8 @@ pub fn florinwick_fetch(store: &[u8], recorded: &[u8], id: u64, area: &mut [u8])
     }
     let stored = recorded::record_in(recorded);
     match memory_store::fetch_refusal(store, stored.extent(), PageId(id)) {
-        Fetch::Given => words::plain(area, 0),
-        Fetch::Refused(refusal) => words::refuse(area, 0, refusal),
+        Ok(()) => words::plain(area, 0),
+        Err(refusal) => words::refuse(area, 0, refusal),
     }
 }
 
@@ -105,12 +105,12 @@ pub fn florinwick_check(
     }
     let stored = recorded::record_in(recorded);
     match invariants::check(store, stored, PageId(root), heap) {
-        Check::Sound => words::plain(area, 0),
-        Check::Unsound(page, fault) => {
+        Ok(()) => words::plain(area, 0),
+        Err(Flaw::Unsound(page, fault)) => {
             words::put_words(area, UNSOUND, 0, fault.number(), page.0);
             UNSOUND
         }
-        Check::Refused(refusal) => words::refuse(area, root, refusal),
+        Err(Flaw::Refused(refusal)) => words::refuse(area, root, refusal),
     }
 }
 
@@ -130,7 +130,7 @@ pub fn florinwick_held(
     }
     let stored = recorded::record_in(recorded);
     match held::held(store, stored, PageId(root), batch, heap) {
-        Held::All => words::plain(area, 0),
-        Held::Refused(refusal) => words::refuse_named(area, root, refusal),
+        Ok(()) => words::plain(area, 0),
+        Err(refusal) => words::refuse_named(area, root, refusal),
     }
 }

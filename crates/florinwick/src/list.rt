@@ -7,8 +7,7 @@ ghost use Rattle.florinwick.specs.Words.{WordsIn};
 ghost use Rattle.florinwick.specs.Listing.{start_bounded, start_bytes, start_in, cursor_started, step_in, cursor_stepped, datom_stepped, Begins, Steps};
 
 use crate::{cursor, recorded, words};
-use answer::{Refusal, Start, Started, Step, Stepped};
-use ordered::Ordered;
+use answer::{Refusal, Started, Stepped};
 use store::{PageId, StoreRecord};
 
 // A bound that is not 32 bytes long is none.
@@ -46,8 +45,8 @@ fn start_between(
 {
     let bad = memory_store::is_bad(store, stored.extent());
     match ordered::order_in(stored, bad, heap) {
-        Ordered::Refused(refusal) => listing::begin::refused(refusal),
-        Ordered::By(_) => start_bounded(store, stored, root, lower, upper, heap),
+        Err(refusal) => listing::begin::refused(refusal),
+        Ok(_) => start_bounded(store, stored, root, lower, upper, heap),
     }
 }
 
@@ -59,11 +58,11 @@ fn keep_start(cursor: &mut [u8], area: &mut [u8], root: u64, started: Started) -
     let answer = started.answer;
     let begun = started.cursor;
     match answer {
-        Start::Begun => {
+        Ok(()) => {
             cursor::put_cursor(cursor, begun);
             words::plain(area, 0)
         }
-        Start::Refused(refusal) => words::refuse_named(area, root, refusal),
+        Err(refusal) => words::refuse_named(area, root, refusal),
     }
 }
 
@@ -99,7 +98,7 @@ fn keep_step(cursor: &mut [u8], datom: &mut [u8], area: &mut [u8], stepped: Step
     let answer = stepped.answer;
     let next = stepped.cursor;
     match answer {
-        Step::Yields(d) => {
+        Ok(Some(d)) => {
             cursor::put_cursor(cursor, next);
             words::put_words(
                 datom,
@@ -110,8 +109,8 @@ fn keep_step(cursor: &mut [u8], datom: &mut [u8], area: &mut [u8], stepped: Step
             );
             words::plain(area, 0)
         }
-        Step::Ended => words::plain(area, 32),
-        Step::Refused(refusal) => words::refuse_named(area, 0, refusal),
+        Ok(None) => words::plain(area, 32),
+        Err(refusal) => words::refuse_named(area, 0, refusal),
     }
 }
 

@@ -3,7 +3,7 @@ ghost use Rattle.std.specs.Prelude.{◌≡◌, length};
 ghost use Rattle.answer.specs.Table.{answer_words, refused_words, named_answer, named_words, append_words, plain};
 ghost use Rattle.florinwick.specs.Words.{WordsIn, words};
 
-use answer::{Answer, Append, Refusal};
+use answer::{Done, Refusal, Stored};
 use store::PageId;
 
 // How many bytes four words have.
@@ -50,43 +50,43 @@ pub fn refuse_named(area: &mut [u8], root: u64, refusal: Refusal) -> u64
 }
 
 // An answer goes to the area, and its number back to the caller. A refused call's root is the one it was given.
-pub fn tell(area: &mut [u8], root: PageId, a: Answer) -> u64
+pub fn tell(area: &mut [u8], root: PageId, a: Result<Done, Refusal>) -> u64
     requires { length area.old ≡ 32 }
     ensures { (result ≡ (answer_words root a).number) × WordsIn (answer_words root a) area.new }
 {
     match a {
-        Answer::Done { root: new, pages } => {
-            put_words(area, 0, new.0, pages, 0);
+        Ok(done) => {
+            put_words(area, 0, done.root.0, done.pages, 0);
             0
         }
-        Answer::Refused(refusal) => refuse(area, root.0, refusal),
+        Err(refusal) => refuse(area, root.0, refusal),
     }
 }
 
 // The same, with the number of the fault that a refusal names.
-pub fn tell_named(area: &mut [u8], root: PageId, a: Answer) -> u64
+pub fn tell_named(area: &mut [u8], root: PageId, a: Result<Done, Refusal>) -> u64
     requires { length area.old ≡ 32 }
     ensures { (result ≡ (named_answer root a).number) × WordsIn (named_answer root a) area.new }
 {
     match a {
-        Answer::Done { root: new, pages } => {
-            put_words(area, 0, new.0, pages, 0);
+        Ok(done) => {
+            put_words(area, 0, done.root.0, done.pages, 0);
             0
         }
-        Answer::Refused(refusal) => refuse_named(area, root.0, refusal),
+        Err(refusal) => refuse_named(area, root.0, refusal),
     }
 }
 
 // An append's answer: the value that names the constant where a root would stand, and bytes in place of pages.
-pub fn tell_append(area: &mut [u8], a: Append) -> u64
+pub fn tell_append(area: &mut [u8], a: Result<Stored, Refusal>) -> u64
     requires { length area.old ≡ 32 }
     ensures { (result ≡ (append_words a).number) × WordsIn (append_words a) area.new }
 {
     match a {
-        Append::Stored { value, bytes } => {
-            put_words(area, 0, value.0, bytes, 0);
+        Ok(stored) => {
+            put_words(area, 0, stored.value.0, stored.bytes, 0);
             0
         }
-        Append::Refused(refusal) => refuse(area, 0, refusal),
+        Err(refusal) => refuse(area, 0, refusal),
     }
 }

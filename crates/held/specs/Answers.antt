@@ -1,4 +1,6 @@
 -- What the call may answer: that all is held, or a refusal of number 1 to 5, 7, 11, 13 or 16.
+use Rattle.std.specs.Prelude.{Err, Ok}
+use Rattle.answer.specs.Answers.{Held, all_held}
 use Prim.Native.Nat.{ℕ, suc, ◌%◌, Ordering}
 use Rattle.std.specs.Prelude.{Bool, ◌||◌, not, ◌≡◌, ltb, eqb, length}
 use Rattle.std.proofs.Math.Bool.{true, false}
@@ -13,8 +15,6 @@ use Rattle.datom.specs.declared.Datom.{Datom}
 use Rattle.index.specs.Order.{DatomOrd, is_less, index_of}
 use Rattle.answer.specs.declared.Refusal.{Refusal}
 use Rattle.answer.specs.declared.Refusal.TheVariants.{BadStore, TooMany, BadDatom, BadConstant, NoPage}
-use Rattle.answer.specs.declared.Held.{Held}
-use Rattle.answer.specs.declared.Held.TheVariants.{All, Refused}
 use Rattle.answer.specs.Table.{number_of}
 use Rattle.rules.specs.Tree.{Fetched, faulty, fine, Env}
 use Rattle.rules.specs.Lookup.{Look, met, absent, lost, lookup, Finding, clear, found}
@@ -29,8 +29,8 @@ abbrev pub is_given : Refusal → Bool
 is_given r = ltb (number_of r) 6 || (eqb (number_of r) 7 || (eqb (number_of r) 11 || (eqb (number_of r) 13 || eqb (number_of r) 16)))
 
 unfoldable pub is_answer : Held → Bool
-is_answer All = true
-is_answer (Refused r) = is_given r
+is_answer (Ok u) = true
+is_answer (Err r) = is_given r
 
 data Fits : Finding → Type 0 where
   nothing : Fits clear
@@ -114,7 +114,7 @@ module _ (t : DatomOrd) (x : Extent) (s : List ℕ) (root : PageId) where
   unfolding held_bytes is_answer
   held_answers b = side (fits_fault b)
     where
-      side : {f : Finding} → Fits f → is_answer (or_else Refused f All) ≡ true
+      side : {f : Finding} → Fits f → is_answer (or_else Err f all_held) ≡ true
       side nothing = refl
       side (given h) = h
 

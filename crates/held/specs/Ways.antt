@@ -1,4 +1,6 @@
 -- The ways through the call, one refusal after another, as the code finds them.
+use Rattle.std.specs.Prelude.{Err, Ok}
+use Rattle.answer.specs.Answers.{Held, all_held}
 use Prim.Native.Nat.{ℕ, zero, suc}
 use Rattle.std.specs.Prelude.{true, false, List, ◌≡◌, refl}
 use Rattle.std.proofs.Math.Logic.{inl, inr}
@@ -13,8 +15,6 @@ use Rattle.index.specs.Order.{DatomOrd}
 use Rattle.answer.specs.declared.Fault.{Fault}
 use Rattle.answer.specs.declared.Refusal.{Refusal}
 use Rattle.answer.specs.declared.Refusal.TheVariants.{BadStore, NoPage, Damaged, NotHeld}
-use Rattle.answer.specs.declared.Held.{Held}
-use Rattle.answer.specs.declared.Held.TheVariants.{All, Refused}
 use Rattle.rules.specs.Page.{node_of}
 use Rattle.rules.specs.Tree.{faulty, fine}
 use Rattle.rules.specs.Lookup as rules
@@ -31,10 +31,10 @@ use Rattle.entry.specs.Checks.{insert_fault, both}
 
 -- the answer to what was found
 unfoldable pub held_of : Finding → Held
-held_of Clear = All
-held_of (Found r) = Refused r
+held_of Clear = all_held
+held_of (Found r) = Err r
 
-pub held_of_law : (f : Finding) (g : rules.Finding) → finding_of f ≡ g → held_of f ≡ or_else Refused g All
+pub held_of_law : (f : Finding) (g : rules.Finding) → finding_of f ≡ g → held_of f ≡ or_else Err g all_held
 unfolding held_of
 held_of_law Clear g e = rw (← e)
 held_of_law (Found r) g e = rw (← e)
@@ -42,17 +42,17 @@ held_of_law (Found r) g e = rw (← e)
 module _ (t : DatomOrd) (x : Extent) (s : List ℕ) (root : PageId) where
   -- 1 and 2
   module _ (b : List ℕ) where
-    pub bytes_bad : bad_store x s ≡ true → Refused BadStore ≡ held_bytes t x s root b
+    pub bytes_bad : bad_store x s ≡ true → Err BadStore ≡ held_bytes t x s root b
     unfolding held_bytes held_fault
     bytes_bad h = rw h
 
     module _ (good : bad_store x s ≡ false) where
-      pub bytes_refused : (r : Refusal) → counted b ≡ count.Refused r → Refused r ≡ held_bytes t x s root b
+      pub bytes_refused : (r : Refusal) → counted b ≡ count.Refused r → Err r ≡ held_bytes t x s root b
       unfolding held_bytes held_fault
       bytes_refused r e = elim (refused_count b r e) [ inl h ↦ rw (good, h) | inr h ↦ rw (good, h.0, h.1) ]
 
       pub bytes_counted :
-          (n : ℕ) → counted b ≡ count.Datoms n → or_else Refused (held_counted t x s root (datoms_of n b)) All ≡ held_bytes t x s root b
+          (n : ℕ) → counted b ≡ count.Datoms n → or_else Err (held_counted t x s root (datoms_of n b)) all_held ≡ held_bytes t x s root b
       unfolding held_bytes held_fault
       bytes_counted n e = let G = given_count b n e in rw (good, G.bytes, G.count, ← G.is)
 

@@ -12,20 +12,19 @@ ghost use Rattle.rules.specs.Calls.{held_call};
 ghost use Rattle.batch.specs.Finding.{finding_of};
 ghost use Rattle.held.specs.Ways.{held_of};
 
-use answer::{Held, Refusal};
+use answer::Refusal;
 use batch::{Count, Finding};
 use index::Index;
 use memory_store::reader::Header;
-use ordered::Ordered;
 use store::{Extent, PageId, StoreRecord};
 
 // The answer, of what was found.
-fn answer_of(f: Finding) -> Held
+fn answer_of(f: Finding) -> Result<(), Refusal>
     ensures { result ≡ held_of f }
 {
     match f {
-        Finding::Found(refusal) => Held::Refused(refusal),
-        Finding::Clear => Held::All,
+        Finding::Found(refusal) => Err(refusal),
+        Finding::Clear => Ok(()),
     }
 }
 
@@ -100,29 +99,25 @@ fn held_counted(
 
 // Whether the tree under a root holds all datoms of a batch, or why not: the first that it does not hold, or what a call is refused for.
 // Nothing is written, so it takes no scratch.
-pub fn held_in(store: &[u8], extent: Extent, root: PageId, b: &[u8], by: Index, heap: &[u8]) -> Held
+pub fn held_in(store: &[u8], extent: Extent, root: PageId, b: &[u8], by: Index, heap: &[u8]) -> Result<(), Refusal>
     ensures { result ≡ held_bytes (order_in by heap.now) extent store.now root b.now }
 {
     if memory_store::is_bad(store, extent) {
-        return Held::Refused(Refusal::BadStore);
+        return Err(Refusal::BadStore);
     }
     match batch::count_of(b) {
-        Count::Refused(refusal) => Held::Refused(refusal),
+        Count::Refused(refusal) => Err(refusal),
         Count::Datoms(n) => answer_of(held_counted(store, extent, root, b, n, by, heap)),
     }
 }
 
 // Whether the tree under a root holds every datom of a batch.
-pub fn held(store: &[u8], recorded: StoreRecord, root: PageId, b: &[u8], heap: &[u8]) -> Held
+pub fn held(store: &[u8], recorded: StoreRecord, root: PageId, b: &[u8], heap: &[u8]) -> Result<(), Refusal>
     ensures { result ≡ held_call recorded store.now heap.now root b.now }
 {
     let extent = recorded.extent();
     let bad = memory_store::is_bad(store, extent);
-    match ordered::order_in(recorded, bad, heap) {
-        Ordered::Refused(refusal) => Held::Refused(refusal),
-        Ordered::By(by) => {
-            let used = heap::used_of(heap, recorded.heap);
-            held_in(store, extent, root, b, by, used)
-        }
-    }
+    let by = ordered::order_in(recorded, bad, heap)?;
+    let used = heap::used_of(heap, recorded.heap);
+    held_in(store, extent, root, b, by, used)
 }

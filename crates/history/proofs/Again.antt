@@ -1,4 +1,5 @@
 -- A batch that is sent again. Rests on Demand.
+use Rattle.answer.specs.Answers.{done_with}
 use Prim.Native.Nat.{ℕ, ◌/◌, ◌%◌, ◌<◌, Ordering}
 use Rattle.std.proofs.Common.{arith, inl, inr, sym, ◌∙◌, ap}
 use Rattle.std.specs.Prelude.{false, List, [], ◌∷◌, ◌≡◌, refl, length}
@@ -11,7 +12,6 @@ use Rattle.datom.specs.Datom.{datom_of}
 use Rattle.index.specs.Order.{DatomOrd}
 use Rattle.index.proofs.Laws.{Preorder}
 use Rattle.answer.specs.declared.Refusal.TheVariants.{Repeated}
-use Rattle.answer.specs.declared.Answer.TheVariants.{Done}
 use Rattle.rules.specs.Store.{bad_scratch}
 use Rattle.rules.specs.Insert.{Outcome, refuse, batch_of}
 use Rattle.rules.specs.Calls.{extent_of}
@@ -44,7 +44,7 @@ first_zero cmp u b i a F = side F.before refl
         absurd (F.first d (rw e (inl refl)) (a d (rw F.batch (in_left d F.before (F.datom ∷ F.rest) (rw e (inl refl))))))
 
 module _ (t : DatomOrd) (L : Preorder t.cmp) (x : Extent) (s : List ℕ) (scratch : ℕ) (u : List Datom) (b : List ℕ) where
-  accepted_well_formed : {o : Outcome} {root : PageId} {n : ℕ} → Inserted t x s scratch u b o → o.answer ≡ Done root n → WellFormed t b
+  accepted_well_formed : {o : Outcome} {root : PageId} {n : ℕ} → Inserted t x s scratch u b o → o.answer ≡ done_with root n → WellFormed t b
   accepted_well_formed (badly y) e = absurd (apart (cc))
   accepted_well_formed (early y n) e = absurd (apart (cc))
   accepted_well_formed (met F) e = absurd (apart (cc))

@@ -1,4 +1,6 @@
 -- A batch that is asked for at a root whose pages hold a good tree: it is held, or the first datom that is not. Rests on Look and Calls.
+use Rattle.std.specs.Prelude.{Err, Ok}
+use Rattle.answer.specs.Answers.{Held, all_held}
 use Rattle.std.specs.Prelude.{ℕ, suc, ◌+◌, ◌*◌, ◌≤◌, ◌↔◌, ◌≡◌, refl, length}
 use Rattle.std.proofs.Common.{arith, inl, inr, ap}
 use mathlib.Core.List.{List, [], ◌∷◌}
@@ -10,8 +12,6 @@ use Rattle.datom.specs.declared.Datom.{Datom}
 use Rattle.index.specs.Order.{DatomOrd}
 use Rattle.index.proofs.Laws.{Preorder}
 use Rattle.answer.specs.declared.Refusal.TheVariants.{NotHeld}
-use Rattle.answer.specs.declared.Held.{Held}
-use Rattle.answer.specs.declared.Held.TheVariants.{All, Refused}
 use Rattle.rules.specs.Page.{Node}
 use Rattle.rules.specs.Tree.{fine, Env}
 use Rattle.rules.specs.Lookup.{Look, lookup, Finding, clear, found}
@@ -117,7 +117,7 @@ module _ (t : DatomOrd) (L : Preorder t.cmp) (x : Extent) (s : List ℕ) (u : Li
       (asks_told tr ex (asks_ok (env_of t x s) L n.level root n tr g (rw (level_is l (fetch_page t x s root) n q) h) 0 (d ∷ b)))
 
   -- the answer
-  asks_answer : {b : List Datom} {f : Finding} → Asks Here 0 b f → Asked Here b (or_else Refused f All)
+  asks_answer : {b : List Datom} {f : Finding} → Asks Here 0 b f → Asked Here b (or_else Err f all_held)
   asks_answer (all a) = record { exactly = (λ e. a, λ q. refl); otherwise = inl refl; first = λ i e. absurd (apart (cc)) }
   asks_answer (not_all {j} {k} F e) =
       record {

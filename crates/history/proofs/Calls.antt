@@ -1,4 +1,6 @@
 -- What insert and initialise answer at a root whose pages hold a good tree, and what they leave. Rests on Checks, Look and Grow.
+use Rattle.std.specs.Prelude.{Err}
+use Rattle.answer.specs.Answers.{done_with}
 use Rattle.std.specs.Prelude.{ℕ, suc, ◌*◌, ◌≤◌, ◌<◌, Bool, ◌⊎◌, ◌↔◌, ◌≡◌, length, get_or, replicate}
 use Rattle.std.proofs.Common.{arith, lt-ltb}
 use Rattle.std.proofs.Math.Bool.{true, false}
@@ -14,7 +16,6 @@ use Rattle.index.specs.Order.{DatomOrd}
 use Rattle.index.proofs.Laws.{Preorder}
 use Rattle.answer.specs.declared.Refusal.{Refusal}
 use Rattle.answer.specs.declared.Refusal.TheVariants.{BadStore, Repeated}
-use Rattle.answer.specs.declared.Answer.TheVariants.{Done, Refused}
 use Rattle.rules.specs.Page.{Node}
 use Rattle.rules.specs.Tree.{Fetched, fine, Env, Stage, insert_tree}
 use Rattle.rules.specs.Lookup.{Finding}
@@ -50,18 +51,18 @@ pub data Inserted (t : DatomOrd) (x : Extent) (s : List ℕ) (scratch : ℕ) (u 
   met : {i : ℕ} → FirstShared t.cmp u (batch_of b) i → Inserted t x s scratch u b (refuse (Repeated i))
   stays :
       {r : Refusal} {o : List Node} → Excused r → Fresh t.cmp (batch_of b) u →
-      Inserted t x s scratch u b (record { answer = Refused r; pages = o })
+      Inserted t x s scratch u b (record { answer = Err r; pages = o })
   done :
       {root : PageId} {o : List Node} → WellFormed t b → Fresh t.cmp (batch_of b) u →
       Rooted t (env_of t x s) (λ y. In y u ⊎ In y (batch_of b)) [] root o →
-      Inserted t x s scratch u b (record { answer = Done root (length o); pages = o })
+      Inserted t x s scratch u b (record { answer = done_with root (length o); pages = o })
 
 -- what any call leaves: a refusal, or a root that holds the datoms that it held and the batch
 pub data Called (t : DatomOrd) (x : Extent) (s : List ℕ) (u b : List Datom) : Outcome → Type 0 where
-  refuses : {r : Refusal} {o : List Node} → Called t x s u b (record { answer = Refused r; pages = o })
+  refuses : {r : Refusal} {o : List Node} → Called t x s u b (record { answer = Err r; pages = o })
   accepts :
       {root : PageId} {o : List Node} → Distinct t.cmp b → ((y : Datom) → In y b → Storable t y) → Fresh t.cmp b u →
-      Rooted t (env_of t x s) (λ y. In y u ⊎ In y b) [] root o → Called t x s u b (record { answer = Done root (length o); pages = o })
+      Rooted t (env_of t x s) (λ y. In y u ⊎ In y b) [] root o → Called t x s u b (record { answer = done_with root (length o); pages = o })
 
 -- the datoms of a batch may be stored
 may :

@@ -1,5 +1,8 @@
 -- Demand 3, proved: what Statement says of a history holds, for any known page size; and what More says of a root. Rests on Listing,
 -- Invariant and Roots.
+use Rattle.std.specs.Prelude.{Ok}
+use Rattle.std.specs.Prelude.{Err}
+use Rattle.answer.specs.Answers.{Answer, done_with}
 use Prim.Native.Nat.{ℕ, Ordering}
 use Rattle.std.specs.Prelude.{true, false, List, ◌∷◌, ◌⊎◌, ◌↔◌, ◌≡◌, refl, length}
 use Rattle.std.proofs.Common.{inl, inr, ◌∙◌, ap}
@@ -13,8 +16,6 @@ use Rattle.index.specs.Order.{DatomOrd}
 use Rattle.index.proofs.Laws.{Preorder}
 use Rattle.answer.specs.declared.Refusal.{Refusal}
 use Rattle.answer.specs.declared.Refusal.TheVariants.{Repeated, TooTall, NoRoom}
-use Rattle.answer.specs.declared.Answer.{Answer}
-use Rattle.answer.specs.declared.Answer.TheVariants.{Done, Refused}
 use Rattle.rules.specs.Store.{bad_scratch}
 use Rattle.rules.specs.Insert.{Outcome, sort, batch_of}
 use Rattle.rules.specs.Calls.{extent_of, start_call}
@@ -37,8 +38,8 @@ use Rattle.history.proofs.Listing.{later_history, ready, later_goes, ListsFrom, 
 
 -- a root stays known
 one_more : (j k : Known) (b : List ℕ) (a : Answer) (ks : List Known) → In j ks → In j (roots_after k b a ks)
-one_more j k b (Done r n) ks i = inr i
-one_more j k b (Refused r) ks i = i
+one_more j k b (Ok d) ks i = inr i
+one_more j k b (Err r) ks i = i
 
 pub later_known : {m m₁ : Moment} → Later m m₁ → (j : Known) → In j m.roots → In j m₁.roots
 later_known now j i = i
@@ -63,20 +64,20 @@ module _ (t : DatomOrd) (L : Preorder t.cmp) (x : Extent) (s : List ℕ) (scratc
 
   -- Repeated exactly if it shares a datom, and what More says of it
   record BatchAnswered (a : Answer) : Type 0 where
-    pub repeated : ((i : ℕ) × (a ≡ Refused (Repeated i))) ↔ Shares
+    pub repeated : ((i : ℕ) × (a ≡ Err (Repeated i))) ↔ Shares
     pub more : Answered t.cmp u (batch_of b) a
 
   -- a batch that shares nothing, and is not answered Repeated
   fresh_told :
-      (a : Answer) → Fresh t.cmp (batch_of b) u → ((i : ℕ) → a ≡ Refused (Repeated i) → ⊥) →
-      ((root : PageId) × (n : ℕ) × (a ≡ Done root n)) ⊎ ((a ≡ Refused TooTall) ⊎ (a ≡ Refused NoRoom)) → BatchAnswered a
+      (a : Answer) → Fresh t.cmp (batch_of b) u → ((i : ℕ) → a ≡ Err (Repeated i) → ⊥) →
+      ((root : PageId) × (n : ℕ) × (a ≡ done_with root n)) ⊎ ((a ≡ Err TooTall) ⊎ (a ≡ Err NoRoom)) → BatchAnswered a
   fresh_told a f n o =
       record {
         repeated = (λ r. absurd (n r.0 r.1), λ q. absurd (f q.0 q.2.0 q.1 q.2.1 (turned t.cmp L q.2.2)));
         more = record { first = λ i e. absurd (n i e); otherwise = λ q. o };
       }
 
-  not_repeated : (r : Refusal) → Excused r → (i : ℕ) → Refused r ≡ Refused (Repeated i) → ⊥
+  not_repeated : (r : Refusal) → Excused r → (i : ℕ) → ◌≡◌ {A = Answer} (Err r) (Err (Repeated i)) → ⊥
   not_repeated r (inl e) i q = apart (cc)
   not_repeated r (inr e) i q = apart (cc)
 
@@ -92,8 +93,8 @@ module _ (t : DatomOrd) (L : Preorder t.cmp) (x : Extent) (s : List ℕ) (scratc
           otherwise = λ n. absurd (n shared.0 shared.1 shared.2);
         };
       }
-  told (stays {r} y f) w e = fresh_told (Refused r) f (not_repeated r y) (inr (elim y [ inl q ↦ inl (rw q) | inr q ↦ inr (rw q) ]))
-  told (done {root} {o} v f R) w e = fresh_told (Done root (length o)) f (λ i q. apart (cc)) (inl (root, length o, refl))
+  told (stays {r} y f) w e = fresh_told (Err r) f (not_repeated r y) (inr (elim y [ inl q ↦ inl (rw q) | inr q ↦ inr (rw q) ]))
+  told (done {root} {o} v f R) w e = fresh_told (done_with root (length o)) f (λ i q. apart (cc)) (inl (root, length o, refl))
 
 -- what led to a root, in the order of a moment
 abbrev pub ordered : Moment → Known → List Datom

@@ -1,5 +1,6 @@
 -- A history that is one: examples c, e, f and g of document 01 as calls over bytes, then a batch that finds no room, and a slice that
 -- somebody else makes longer. So the theorem speaks of something. Rests on Base and on the rules, computed.
+use Rattle.std.specs.Prelude.{Err}
 use Prim.Native.Nat.{Ordering}
 use Rattle.std.specs.Prelude.{ℕ, ◌*◌, ◌%◌, ◌≤◌, true, false, List, [], ◌∷◌, ◌++◌, ◌≡◌, refl, length, take}
 use Rattle.std.proofs.Common.{arith, inl, inr, take_at, length-take-le}
@@ -12,7 +13,6 @@ use Rattle.datom.specs.Datom.{datoms_bytes}
 use Rattle.index.specs.declared.Index.TheVariants.{Eavt}
 use Rattle.index.specs.Order.{DatomOrd}
 use Rattle.answer.specs.declared.Refusal.TheVariants.{Repeated, NoRoom}
-use Rattle.answer.specs.declared.Answer.TheVariants.{Refused}
 use Rattle.rules.specs.Insert.{batch_of, sort}
 use Rattle.rules.specs.Store.{bad_scratch}
 use Rattle.rules.specs.Append.{bad_heap}
@@ -123,7 +123,7 @@ unfolding rules start after_c after_e after_f after_g after_h longer
 at_longer = record { recorded = refl; heap = refl; roots = refl; long = refl }
 
 -- the batch found no room
-pub no_room : (outcome_of after_g (inserting root_f (run 13 5))).answer ≡ Refused NoRoom
+pub no_room : (outcome_of after_g (inserting root_f (run 13 5))).answer ≡ Err NoRoom
 unfolding rules start after_c after_e after_f after_g
 no_room = refl
 
@@ -198,12 +198,12 @@ pub shared_again :
     {size : ℕ} (i : In size sizes) {m : Moment} → History size m → (k : Known) → In k m.roots → (t : DatomOrd) → at m ≡ t → (b : List ℕ) (x y : Datom)
     (scratch : ℕ) →
     Lent m.store b → WellFormed t b → bad_scratch (extent_of m.recorded) scratch ≡ false → In x (batch_of b) → In y (gathered k.batches) →
-    t.cmp y x ≡ Ordering.eq → (j : ℕ) × ((outcome_of m (inserts k b scratch)).answer ≡ Refused (Repeated j))
+    t.cmp y x ≡ Ordering.eq → (j : ℕ) × ((outcome_of m (inserts k b scratch)).answer ≡ Err (Repeated j))
 shared_again {size} i {m} h k j t z b x y scratch lent w s p q e =
     ((base size i m h k j).answered b lent (rw z w) scratch s).1 (x, p, (y, q, rw z e))
 
 -- the batch that is sent again shares a datom
-pub repeated : (i : ℕ) × ((outcome_of after_f (inserting root_f (run 12 1))).answer ≡ Refused (Repeated i))
+pub repeated : (i : ℕ) × ((outcome_of after_f (inserting root_f (run 12 1))).answer ≡ Err (Repeated i))
 unfolding rules start
 repeated =
     shared_again (inl refl) (no_heap (zeros 2048), to_f) root_f (rw at_f.roots (inl refl)) eavt (order_at at_f) (datoms_bytes (run 12 1)) (d 12) (d 12) 65536

@@ -1,5 +1,8 @@
 -- The record and the heap along a history: the order that the record names stays, no byte of the heap in use changes, it stays in order, and
 -- the order of a later moment agrees with that of an earlier one. Rests on After and on the laws of appends.
+use Rattle.std.specs.Prelude.{Ok}
+use Rattle.std.specs.Prelude.{Err}
+use Rattle.answer.specs.Answers.{Answer, Append, done_with, stored_as}
 use Rattle.std.specs.Prelude.{ℕ, ◌≤◌, false, List, ◌≡◌, refl, take, drop}
 use Rattle.std.proofs.Common.{arith, ◌∙◌, take-add}
 use Rattle.store.specs.declared.StoreRecord.{StoreRecord}
@@ -7,10 +10,6 @@ use Rattle.index.specs.Order.{DatomOrd}
 use Rattle.index.proofs.Laws.{Preorder, order_preorder}
 use Rattle.index.specs.Form.{order_may}
 use Rattle.index.proofs.Agree.{Agrees, order_grows}
-use Rattle.answer.specs.declared.Answer.{Answer}
-use Rattle.answer.specs.declared.Answer.TheVariants.{Done, Refused}
-use Rattle.answer.specs.declared.Append.{Append}
-use Rattle.answer.specs.declared.Append.TheVariants as append
 use Rattle.rules.specs.Append.{bad_heap, Appending, heap_after}
 use Rattle.rules.specs.Appended.{heap_in, heap_good, Keeps, word_keeps, text_keeps}
 use Rattle.rules.specs.Calls.{used_heap, order_for, ord_of, record_after, record_grown}
@@ -44,14 +43,14 @@ pub record Handed (r r₁ : StoreRecord) : Type 0 where
   pub order : r₁.order ≡ r.order
 
 pub record_after_law : (r : StoreRecord) (a : Answer) → Handed r (record_after r a)
-record_after_law r (Done root n) = record { size = refl; count = omega arith; heap = refl; order = refl }
-record_after_law r (Refused f) = record { size = refl; count = omega arith; heap = refl; order = refl }
+record_after_law r (Ok d) = record { size = refl; count = omega arith; heap = refl; order = refl }
+record_after_law r (Err f) = record { size = refl; count = omega arith; heap = refl; order = refl }
 
 -- an append keeps what the record says of pages, and the order
 pub record_grown_law :
     (r : StoreRecord) (a : Append) → ((record_grown r a).size ≡ r.size) × ((record_grown r a).count ≡ r.count) × ((record_grown r a).order ≡ r.order)
-record_grown_law r (append.Stored v k) = (refl, refl, refl)
-record_grown_law r (append.Refused f) = (refl, refl, refl)
+record_grown_law r (Ok s) = (refl, refl, refl)
+record_grown_law r (Err f) = (refl, refl, refl)
 
 -- an append keeps the heap in use, and adds to it
 pub append_keeps : (m : Moment) (c : Constant) → Keeps m.heap m.recorded.heap (appending m c)
@@ -60,14 +59,15 @@ append_keeps m (text b) = text_keeps m.heap m.recorded.heap b
 
 module _ (r : StoreRecord) (h : List ℕ) (a : Appending) (K : Keeps h r.heap a) where
   grown_agrees : (o : Append) → Agrees (ord_of r h) (ord_of (record_grown r o) (heap_after h r.heap a))
-  grown_agrees (append.Stored v k) =
+  grown_agrees (Ok s) =
+      let k = s.bytes in
       let g = heap_after h r.heap a in
       rw (take-add r.heap k g, K.below) (order_grows (order_for r) (take r.heap h) (take k (drop r.heap g)))
-  grown_agrees (append.Refused f) = rw K.below (agrees_self r h)
+  grown_agrees (Err f) = rw K.below (agrees_self r h)
 
   grown_good : bad_heap r.heap h ≡ false → (o : Append) → a.answer ≡ o → bad_heap (record_grown r o).heap (heap_after h r.heap a) ≡ false
-  grown_good b (append.Stored v k) e = K.good v k e
-  grown_good b (append.Refused f) e = rw (K.refused f e) b
+  grown_good b (Ok s) e = K.good s.value s.bytes e
+  grown_good b (Err f) e = rw (K.refused f e) b
 
 pub next_agrees : {m m₁ : Moment} → Next m m₁ → Agrees (at m) (at m₁)
 next_agrees {m} (calls c F) =

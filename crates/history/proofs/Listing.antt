@@ -1,6 +1,8 @@
 -- A listing at a known root, begun at one moment, each step taken at a moment of its own: it hands out the datoms from the lower bound up
 -- to but not including the upper, each once, ascending, and ends. Store and heap may have grown before each step. Rests on Lists and
 -- Invariant.
+use Rattle.std.specs.Prelude.{Ok}
+use Rattle.answer.specs.Answers.{ended_step, has_begun, yielding}
 use Prim.Native.Nat.{ℕ, zero, suc, ◌≤◌, ◌<◌, Ordering}
 use Rattle.std.proofs.Common.{arith, inl, sym, ◌∙◌, ap, ap₂}
 use Rattle.std.specs.Prelude.{Bool, ◌&&◌, cond, ◌≡◌, length}
@@ -18,10 +20,8 @@ use Rattle.index.proofs.Laws.{Preorder}
 use Rattle.index.proofs.Agree.{Agrees}
 use Rattle.answer.specs.declared.Cursor.{Cursor}
 use Rattle.answer.specs.declared.Started.{Started}
-use Rattle.answer.specs.declared.Start.TheVariants.{Begun}
 use Rattle.answer.specs.declared.Stepped.{Stepped}
 use Rattle.answer.specs.Fit.{CursorFits}
-use Rattle.answer.specs.declared.Step.TheVariants as step
 use Rattle.rules.specs.Page.{Node, node_of}
 use Rattle.rules.specs.Node.{below}
 use Rattle.rules.specs.Tree.{Fetched, fine, at_level}
@@ -98,17 +98,17 @@ opens_same {f} {g} x p (suc l) q n t h =
 
 -- what the first of some steps hands out
 module _ (n : ℕ) (r : ℕ → Stepped) where
-  handed_end : (r 0).answer ≡ step.Ended → handed (suc n) r ≡ whole []
+  handed_end : (r 0).answer ≡ ended_step → handed (suc n) r ≡ whole []
   unfolding handed
   handed_end e = rw (e, handed)
 
-  handed_on : (d : Datom) → (r 0).answer ≡ step.Yields d → handed (suc n) r ≡ also d (handed n (λ i. r (suc i)))
+  handed_on : (d : Datom) → (r 0).answer ≡ yielding d → handed (suc n) r ≡ also d (handed n (λ i. r (suc i)))
   unfolding handed
   handed_on d e = rw (e, handed)
 
 -- a cursor of height 0 has ended
 module _ (t : DatomOrd) (f : PageId → Fetched) where
-  still_there : (m : Moment) → GoesOn t f m → step_call m.recorded m.store m.heap (cursor_of [] []) ≡ staying (cursor_of [] []) step.Ended
+  still_there : (m : Moment) → GoesOn t f m → step_call m.recorded m.store m.heap (cursor_of [] []) ≡ staying (cursor_of [] []) ended_step
   unfolding step_list cursor_of frames_from same_indices
   still_there m G = step_call_law m.recorded m.store m.heap G.heap G.order (cursor_of [] []) ∙ rw G.store
 
@@ -122,7 +122,7 @@ module _ (t : DatomOrd) (f : PageId → Fetched) where
       (n : ℕ) (when : ℕ → Moment) → ((i : ℕ) → GoesOn t f (when i)) → (r : ℕ → Stepped) → StepsAlong when n (cursor_of [] []) r → AllFit n r
   still_fit zero when o r w = tt
   still_fit (suc n) when o r w =
-      let z : r 0 ≡ staying (cursor_of [] []) step.Ended = w.0 ∙ still_there (when 0) (o 0) in (
+      let z : r 0 ≡ staying (cursor_of [] []) ended_step = w.0 ∙ still_there (when 0) (o 0) in (
         rw z (cursor_fits [] [] (omega arith) (omega arith) tt tt),
         still_fit n (λ i. when (suc i)) (λ i. o (suc i)) (λ i. r (suc i)) (rw z at w.1),
       )
@@ -201,7 +201,7 @@ module _
       cursor_same P e =
           ap₂ cursor_of (frames_same P e) (frames_same (λ cmp. below cmp hi) (upper_same (at m) G.agrees))
 
-      ends : (P : Test) → Stands P [] → step_call m.recorded m.store m.heap (there P) ≡ staying (there P) step.Ended
+      ends : (P : Test) → Stands P [] → step_call m.recorded m.store m.heap (there P) ≡ staying (there P) ended_step
       ends P S =
           step_call_law m.recorded m.store m.heap G.heap G.order (there P)
           ∙ (rw (cursor_same P (S.same (at m) G.agrees)) at
@@ -210,7 +210,7 @@ module _
 
       goes :
           (P : Test) (d : Datom) (rest : List Datom) → Stands P (d ∷ rest) →
-          step_call m.recorded m.store m.heap (there P) ≡ record { answer = step.Yields d; cursor = there (λ cmp. up_to cmp d) }
+          step_call m.recorded m.store m.heap (there P) ≡ record { answer = yielding d; cursor = there (λ cmp. up_to cmp d) }
       goes P d rest S =
           step_call_law m.recorded m.store m.heap G.heap G.order (there P)
           ∙ (rw (cursor_same P (S.same (at m) G.agrees), cursor_same (λ cmp. up_to cmp d) ((stands_next P d rest S).same (at m) G.agrees)) at
@@ -224,7 +224,7 @@ module _
     hands_out zero when o r P rest S w b = absurd (omega arith)
     hands_out (suc k) when o r P [] S w b = handed_end k r (rw (w.0, ends (when 0) (o 0) P S))
     hands_out (suc k) when o r P (d ∷ rest) S w b =
-        let z : r 0 ≡ record { answer = step.Yields d; cursor = there (λ cmp. up_to cmp d) } = w.0 ∙ goes (when 0) (o 0) P d rest S in
+        let z : r 0 ≡ record { answer = yielding d; cursor = there (λ cmp. up_to cmp d) } = w.0 ∙ goes (when 0) (o 0) P d rest S in
         handed_on k r d (rw z)
         ∙ ap (also d)
         (hands_out k (λ i. when (suc i)) (λ i. o (suc i)) (λ i. r (suc i)) (λ cmp. up_to cmp d) rest (stands_next P d rest S) (rw z at w.1) (omega arith))
@@ -245,12 +245,12 @@ module _
           StepsAlong when k (there P) r → AllFit k r
       fit_along zero when o r P rest S w = tt
       fit_along (suc k) when o r P [] S w =
-          let z : r 0 ≡ staying (there P) step.Ended = w.0 ∙ ends (when 0) (o 0) P S in (
+          let z : r 0 ≡ staying (there P) ended_step = w.0 ∙ ends (when 0) (o 0) P S in (
             rw z (there_fits P),
             fit_along k (λ i. when (suc i)) (λ i. o (suc i)) (λ i. r (suc i)) P [] S (rw z at w.1),
           )
       fit_along (suc k) when o r P (d ∷ rest) S w =
-          let z : r 0 ≡ record { answer = step.Yields d; cursor = there (λ cmp. up_to cmp d) } = w.0 ∙ goes (when 0) (o 0) P d rest S in (
+          let z : r 0 ≡ record { answer = yielding d; cursor = there (λ cmp. up_to cmp d) } = w.0 ∙ goes (when 0) (o 0) P d rest S in (
             rw z (there_fits (λ cmp. up_to cmp d)),
             fit_along k (λ i. when (suc i)) (λ i. o (suc i)) (λ i. r (suc i)) (λ cmp. up_to cmp d) rest (stands_next P d rest S) (rw z at w.1),
           )
@@ -273,7 +273,7 @@ module _
 
     -- the start was answered, and its steps hand out the datoms between
     pub record ListsFrom (s : Started) : Type 0 where
-      pub begun : s.answer ≡ Begun
+      pub begun : s.answer ≡ has_begun
       pub hands :
           (when : ℕ → Moment) → ((i : ℕ) → GoesOn t f (when i)) → (n : ℕ) (r : ℕ → Stepped) → StepsAlong when n s.cursor r → length ds < n →
           handed n r ≡ whole ds
@@ -281,7 +281,7 @@ module _
           ReadSmall f → CursorFits s.cursor
           × ((when : ℕ → Moment) → ((i : ℕ) → GoesOn t f (when i)) → (n : ℕ) (r : ℕ → Stepped) → StepsAlong when n s.cursor r → AllFit n r)
 
-    nothing_left : ds ≡ [] → ListsFrom (record { answer = Begun; cursor = cursor_of [] [] })
+    nothing_left : ds ≡ [] → ListsFrom (record { answer = has_begun; cursor = cursor_of [] [] })
     nothing_left z =
         record {
           begun = refl;
@@ -348,7 +348,7 @@ module _
             {l : ℕ} {tr : Tree} (v : Bool) → is_less (t.cmp lo hi) ≡ v → Holds f (child l root) tr → Good t.cmp tr →
             Exactly (λ y. In y u) tr →
             ListsFrom
-            (cond (is_less (t.cmp lo hi) && not (is_none root)) (start_at t.cmp f root lo hi (f root)) (record { answer = Begun; cursor = cursor_of [] [] }))
+            (cond (is_less (t.cmp lo hi) && not (is_none root)) (start_at t.cmp f root lo hi (f root)) (record { answer = has_begun; cursor = cursor_of [] [] }))
         side false q h g ex = rw q (nothing_left (within_none t.cmp (at_laws m) lo hi q u))
         side true q (no_page z) g ex = rw (q, z) (nothing_left (none_in u λ y j. (ex y).1 j))
         side true q (a_page {l} {n = nd} {t = tr} e z h) g ex =

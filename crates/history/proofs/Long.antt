@@ -1,6 +1,7 @@
 -- A history with a long value (document 02, Two): nine bytes are appended to the heap, and a datom that names them is inserted; the same
 -- bytes are appended once more, and a datom that names the other offset is Repeated(0); the heap's slice gets shorter, and an append finds
 -- no room. The root lists the word that was inserted. Rests on Example and on the rules, computed.
+use Rattle.std.specs.Prelude.{Err}
 use Rattle.std.specs.Prelude.{ℕ, false, List, [], ◌∷◌, ◌++◌, ◌≡◌, refl, take}
 use Rattle.std.proofs.Common.{arith, inl}
 use Rattle.store.specs.declared.StoreRecord.{StoreRecord}
@@ -10,8 +11,6 @@ use Rattle.datom.specs.Datom.{datoms_bytes}
 use Rattle.index.specs.declared.Index.TheVariants.{Eavt}
 use Rattle.index.specs.Order.{DatomOrd, order_in}
 use Rattle.answer.specs.declared.Refusal.TheVariants.{Repeated, HeapFull}
-use Rattle.answer.specs.declared.Answer.TheVariants.{Refused}
-use Rattle.answer.specs.declared.Append.TheVariants as append
 use Rattle.rules.specs.Append.{bad_heap, bytes_tag, naming}
 use Rattle.rules.specs.Table.{d}
 use Rattle.rules.specs.Recorded.{order_known_law}
@@ -114,18 +113,18 @@ example = (unused, to_five)
 abbrev order : DatomOrd
 order = order_in Eavt (constant ++ constant)
 
-pub repeated : (i : ℕ) × ((outcome_of after_three (inserting root (long 24 ∷ []))).answer ≡ Refused (Repeated i))
+pub repeated : (i : ℕ) × ((outcome_of after_three (inserting root (long 24 ∷ []))).answer ≡ Err (Repeated i))
 unfolding rules start
 repeated =
     shared_again (inl refl) (unused, to_three) root (rw at_three.roots (inl refl)) order (order_at at_three) (datoms_bytes (long 24 ∷ [])) (long 24)
     (long 0) 65536 (lent at_three (omega arith) (long 24 ∷ [])) (one_formed order _ (long 24) refl refl refl refl) (rw at_three.recorded) (inl refl)
     (inl refl) refl
 
-pub repeated_first : (outcome_of after_three (inserting root (long 24 ∷ []))).answer ≡ Refused (Repeated 0)
+pub repeated_first : (outcome_of after_three (inserting root (long 24 ∷ []))).answer ≡ Err (Repeated 0)
 unfolding rules start after_one after_two after_three
 repeated_first = refl
 
-pub heap_full_law : (appending shorter nine).answer ≡ append.Refused HeapFull
+pub heap_full_law : (appending shorter nine).answer ≡ Err HeapFull
 unfolding rules start after_one after_two after_three after_four shorter
 heap_full_law = refl
 

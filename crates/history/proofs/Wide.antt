@@ -1,12 +1,12 @@
 -- A history in pages of 8192 bytes (document 02, Thirteen): d(0) to d(127) initialised, d(128) to d(204) inserted at the root that this gives. So
 -- demand 3 speaks of something at this size, too. Rests on Example and on the rules, computed.
+use Rattle.std.specs.Prelude.{Err}
 use Rattle.std.specs.Prelude.{ℕ, [], ◌∷◌, ◌≡◌, refl}
 use Rattle.std.proofs.Common.{arith, inl, inr}
 use Rattle.store.specs.Words.{zeros}
 use Rattle.store.specs.Size.{sizes}
 use Rattle.datom.specs.Datom.{datoms_bytes}
 use Rattle.answer.specs.declared.Refusal.TheVariants.{Repeated}
-use Rattle.answer.specs.declared.Answer.TheVariants.{Refused}
 use Rattle.rules.specs.Lists.{In}
 use Rattle.rules.specs.Table.{d, eavt, run}
 use Rattle.rules.specs.Open.{rules}
@@ -70,7 +70,7 @@ unfolding rules within
 lists_one = lists wide example root_one (rw at_two.roots (inr (inl refl))) eavt (order_at at_two) (d 0) (d 205) (run 0 128) refl refl refl
 
 -- a datom of it that is sent again is Repeated
-pub repeated : (i : ℕ) × ((outcome_of after_two (inserts root_two (datoms_bytes (run 128 1)) 619584)).answer ≡ Refused (Repeated i))
+pub repeated : (i : ℕ) × ((outcome_of after_two (inserts root_two (datoms_bytes (run 128 1)) 619584)).answer ≡ Err (Repeated i))
 unfolding rules
 repeated =
     shared_again wide example root_two (rw at_two.roots (inl refl)) eavt (order_at at_two) (datoms_bytes (run 128 1)) (d 128) (d 128) 619584

@@ -1,5 +1,6 @@
 -- One step of a listing over a good tree: it hands out the smallest datom that is left, or finds the end.
 -- Rests on Step and Cursor.
+use Rattle.answer.specs.Answers.{ended_step, yielding}
 use Prim.Native.Nat.{ℕ, zero, suc, ◌≤◌, Ordering}
 use Rattle.std.proofs.Common.{arith, inl, inr, ◌∙◌}
 use Rattle.std.specs.Prelude.{Bool, List, [], ◌∷◌, map, ◌⊎◌, ◌≡◌, refl, ltb, length}
@@ -14,7 +15,6 @@ use Rattle.datom.specs.declared.Datom.{Datom}
 use Rattle.index.specs.Order.{DatomOrd, is_less}
 use Rattle.index.proofs.Laws.{Preorder}
 use Rattle.answer.specs.declared.Cursor.{Cursor}
-use Rattle.answer.specs.declared.Step.TheVariants as step
 use Rattle.rules.specs.Page.{Node}
 use Rattle.rules.specs.Node.{rank_by, below}
 use Rattle.rules.specs.Tree.{Fetched, fine, at_level}
@@ -144,7 +144,7 @@ module _
     unfolding cursor_of
     short p = le-ltb 8 (length (frames p)) (omega (arith, long p))
 
-    pub at_end : (p : Datom → Bool) → Left t.cmp tr hi p [] → step_list t x s (cursor p) ≡ staying (cursor p) step.Ended
+    pub at_end : (p : Datom → Bool) → Left t.cmp tr hi p [] → step_list t x s (cursor p) ≡ staying (cursor p) ended_step
     unfolding step_list
     at_end p c =
         rw (
@@ -168,7 +168,7 @@ module _
 
     pub goes_on :
         (p : Datom → Bool) (d : Datom) (rest : List Datom) → Left t.cmp tr hi p (d ∷ rest) →
-        step_list t x s (cursor p) ≡ record { answer = step.Yields d; cursor = cursor (up_to t.cmp d) }
+        step_list t x s (cursor p) ≡ record { answer = yielding d; cursor = cursor (up_to t.cmp d) }
     unfolding step_list onward moved
     goes_on p d rest c =
         rw (in_good_order, short p, begins p, ends p, not_end p d rest c, (along (fetch_page t x s) p l q n tr h).opens read)
@@ -176,7 +176,7 @@ module _
       where
         side :
             (b : Least) → LeastOk t.cmp (fetch_page t x s) p l q n tr b →
-            moved (cursor p) b ≡ record { answer = step.Yields d; cursor = cursor (up_to t.cmp d) }
+            moved (cursor p) b ≡ record { answer = yielding d; cursor = cursor (up_to t.cmp d) }
         side b (is_nothing a) = absurd (clash (c.only d (inl refl)).1 (a d (c.only d (inl refl)).0))
         side b (is_least e i k a) =
             let o = c.only d (inl refl) in

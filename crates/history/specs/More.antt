@@ -2,18 +2,15 @@
 -- cursor, that the check finds no fault and every page can be read, when a batch is held, and what becomes of one that is sent again,
 -- after the heap has grown too.
 -- Rests on Statement; Demand, Asked and Again prove it.
+use Rattle.std.specs.Prelude.{Err, Ok}
+use Rattle.answer.specs.Answers.{Answer, Held, all_held, done_with, is_sound}
 use Prim.Native.Nat.{ℕ, zero, suc, ◌^◌, ◌<◌, Ordering}
 use Rattle.std.specs.Prelude.{true, false, List, ◌∷◌, ◌++◌, ◌⊎◌, ◌↔◌, ◌≡◌, length}
 use Rattle.store.specs.declared.PageId.{PageId}
 use Rattle.datom.specs.declared.Datom.{Datom}
 use Rattle.answer.specs.declared.Refusal.TheVariants.{Repeated, TooTall, NoRoom, NotHeld}
-use Rattle.answer.specs.declared.Answer.{Answer}
-use Rattle.answer.specs.declared.Answer.TheVariants.{Done, Refused}
-use Rattle.answer.specs.declared.Held.{Held}
-use Rattle.answer.specs.declared.Held.TheVariants as held
 use Rattle.answer.specs.declared.Started.{Started}
 use Rattle.answer.specs.declared.Stepped.{Stepped}
-use Rattle.answer.specs.declared.Check.TheVariants.{Sound}
 use Rattle.answer.specs.Fit.{CursorFits}
 use Rattle.rules.specs.Page.{Node}
 use Rattle.rules.specs.Tree.{fine}
@@ -38,10 +35,10 @@ pub record FirstShared (cmp : Datom → Datom → Ordering) (u b : List Datom) (
 -- a well-formed batch b, answered a at a root that the datoms u led to: Repeated names the first that is shared, and else the answer is
 -- Done, TooTall or NoRoom, so never Damaged
 pub record Answered (cmp : Datom → Datom → Ordering) (u b : List Datom) (a : Answer) : Type 0 where
-  pub first : (i : ℕ) → a ≡ Refused (Repeated i) → FirstShared cmp u b i
+  pub first : (i : ℕ) → a ≡ Err (Repeated i) → FirstShared cmp u b i
   pub otherwise :
       ((d : Datom) → In d b → Shared cmp u d → ⊥) →
-      ((root : PageId) × (n : ℕ) × (a ≡ Done root n)) ⊎ ((a ≡ Refused TooTall) ⊎ (a ≡ Refused NoRoom))
+      ((root : PageId) × (n : ℕ) × (a ≡ done_with root n)) ⊎ ((a ≡ Err TooTall) ⊎ (a ≡ Err NoRoom))
 
 -- datom i of a batch is the first of it that is not as said
 pub record FirstNot (P : Datom → Type 0) (b : List Datom) (i : ℕ) : Type 0 where
@@ -56,9 +53,9 @@ pub record FirstNot (P : Datom → Type 0) (b : List Datom) (i : ℕ) : Type 0 w
 -- a batch b that was asked for, answered a: held exactly if every datom is among those that led to the root, and else NotHeld names the first
 -- that is not
 pub record Asked (Among : Datom → Type 0) (b : List Datom) (a : Held) : Type 0 where
-  pub exactly : (a ≡ held.All) ↔ ((d : Datom) → In d b → Among d)
-  pub otherwise : (a ≡ held.All) ⊎ ((i : ℕ) × (a ≡ held.Refused (NotHeld i)))
-  pub first : (i : ℕ) → a ≡ held.Refused (NotHeld i) → FirstNot Among b i
+  pub exactly : (a ≡ all_held) ↔ ((d : Datom) → In d b → Among d)
+  pub otherwise : (a ≡ all_held) ⊎ ((i : ℕ) × (a ≡ Err (NotHeld i)))
+  pub first : (i : ℕ) → a ≡ Err (NotHeld i) → FirstNot Among b i
 
 -- every cursor that n steps gave is one that words of 64 bits hold
 abbrev pub AllFit : ℕ → (ℕ → Stepped) → Type 0
@@ -85,7 +82,7 @@ pub record Beyond (m : Moment) (k : Known) : Type 0 where
   pub heap_in_order : bad_heap m.recorded.heap m.heap ≡ false
   pub order_known : is_unknown (index_of m.recorded.order) ≡ false
   pub known : bad_root (extent_of m.recorded) k.root ≡ false
-  pub sound : check_call m.recorded m.store m.heap k.root ≡ Sound
+  pub sound : check_call m.recorded m.store m.heap k.root ≡ is_sound
   pub readable :
       (p : PageId) → p.0 < m.recorded.count → (n : Node) × (fetch_page (at m) (extent_of m.recorded) m.store p ≡ fine n)
 
@@ -105,23 +102,23 @@ GrewFrom k k₁ = (bs : List (List ℕ)) × (k₁.batches ≡ bs ++ k.batches)
 -- again in order.
 abbrev pub SentAgain : ℕ → (Moment → Known → List ℕ → Type 0) → Type 0
 SentAgain size Finds =
-    (m : Moment) → History size m → (c : Call) → Fair m c → (root : PageId) (n : ℕ) → (outcome_of m c).answer ≡ Done root n →
+    (m : Moment) → History size m → (c : Call) → Fair m c → (root : PageId) (n : ℕ) → (outcome_of m c).answer ≡ done_with root n →
     (m₁ : Moment) → Later (after m c) m₁ →
     (k₁ : Known) → In k₁ m₁.roots → GrewFrom (record { root = root; batches = given_batch c ∷ (given_root c).batches }) k₁ →
     (b : List ℕ) → WellFormed (at m₁) b → ((d : Datom) → In d (batch_of b) → Shared (at m₁).cmp (batch_of (given_batch c)) d) → Finds m₁ k₁ b
 
 -- in the operator's words: asked for, it is held
 abbrev pub StaysHeld : ℕ → Type 0
-StaysHeld size = SentAgain size λ m₁ k₁ b. held_call m₁.recorded m₁.store m₁.heap k₁.root b ≡ held.All
+StaysHeld size = SentAgain size λ m₁ k₁ b. held_call m₁.recorded m₁.store m₁.heap k₁.root b ≡ all_held
 
 -- and inserted it is answered Repeated with index 0, and the store is byte for byte as before
 abbrev pub Resending : ℕ → Type 0
 Resending size = SentAgain size λ m₁ k₁ b.
     Lent m₁.store b → 0 < length b → (scratch : ℕ) → bad_scratch (extent_of m₁.recorded) scratch ≡ false →
-    ((outcome_of m₁ (inserts k₁ b scratch)).answer ≡ Refused (Repeated 0)) × ((after m₁ (inserts k₁ b scratch)).store ≡ m₁.store)
+    ((outcome_of m₁ (inserts k₁ b scratch)).answer ≡ Err (Repeated 0)) × ((after m₁ (inserts k₁ b scratch)).store ≡ m₁.store)
 
 -- an accepted insert's batch is well formed, and stays so: it may be sent again as it is
 abbrev pub AcceptedFormed : ℕ → Type 0
 AcceptedFormed size =
     (m : Moment) → History size m → (k : Known) (b : List ℕ) (scratch : ℕ) → Fair m (inserts k b scratch) → (root : PageId) (n : ℕ) →
-    (outcome_of m (inserts k b scratch)).answer ≡ Done root n → WellFormed (at m) b
+    (outcome_of m (inserts k b scratch)).answer ≡ done_with root n → WellFormed (at m) b

@@ -1,5 +1,8 @@
 -- What a history of calls promises: the statement that the desk bought the product for, in the words of demand 3. It ends with the
 -- theorem's type, Demand3; Demand proves it. What is proved beyond it stands in More.
+use Rattle.std.specs.Prelude.{Some, None}
+use Rattle.std.specs.Prelude.{Err, Ok}
+use Rattle.answer.specs.Answers.{Answer, done_with, ended_step, has_begun, yielding}
 use Prim.Native.Nat.{ℕ, zero, suc, ◌*◌, ◌%◌, ◌^◌, ◌≤◌, ◌<◌, Ordering}
 use Rattle.std.specs.Prelude.{true, false, List, [], ◌∷◌, ◌++◌, ◌↔◌, ◌≡◌, length, take}
 use Rattle.store.specs.declared.PageId.{PageId}
@@ -9,13 +12,9 @@ use Rattle.store.specs.Page.{none}
 use Rattle.datom.specs.declared.Datom.{Datom}
 use Rattle.index.specs.Order.{DatomOrd, index_of}
 use Rattle.answer.specs.declared.Refusal.TheVariants.{Repeated}
-use Rattle.answer.specs.declared.Answer.{Answer}
-use Rattle.answer.specs.declared.Answer.TheVariants.{Done, Refused}
 use Rattle.answer.specs.declared.Cursor.{Cursor}
 use Rattle.answer.specs.declared.Started.{Started}
-use Rattle.answer.specs.declared.Start.TheVariants.{Begun}
 use Rattle.answer.specs.declared.Stepped.{Stepped}
-use Rattle.answer.specs.declared.Step.TheVariants as step
 use Rattle.rules.specs.Node.{below}
 use Rattle.rules.specs.Store.{bad_scratch, store_after}
 use Rattle.rules.specs.Insert.{Outcome, batch_of}
@@ -92,8 +91,8 @@ pub record Fair (m : Moment) (c : Call) : Type 0 where
 
 -- "each call handed the page count the last one left": more pages and one more root after Done, as it was after a refusal
 abbrev pub roots_after : Known → List ℕ → Answer → List Known → List Known
-roots_after k b (Done root n) ks = record { root = root; batches = b ∷ k.batches } ∷ ks
-roots_after k b (Refused r) ks = ks
+roots_after k b (Ok d) ks = record { root = d.root; batches = b ∷ k.batches } ∷ ks
+roots_after k b (Err r) ks = ks
 
 -- where a call leaves things, by its answer and the store's bytes: no call writes into the heap
 abbrev pub left : Moment → Call → Answer → List ℕ → Moment
@@ -168,14 +167,14 @@ StepsAlong when (suc n) c r =
 unfoldable pub handed : ℕ → (ℕ → Stepped) → Listed
 handed zero r = more []
 handed (suc n) r =
-    elim (r 0).answer [ step.Yields d ↦ also d (handed n (λ i. r (suc i))) | step.Ended ↦ whole [] | step.Refused e ↦ cut e [] ]
+    elim (r 0).answer [ Ok (Some d) ↦ also d (handed n (λ i. r (suc i))) | Ok None ↦ whole [] | Err e ↦ cut e [] ]
 
 -- "hands out .., and ends": begun at any later moment, each step taken at any moment later still, within one step more than datoms. Store
 -- and heap may have grown before the start and before each step: the words handed out are the same.
 abbrev pub HandsOut : Moment → Known → Datom → Datom → List Datom → Type 0
 HandsOut m k lo hi ds =
     (m₁ : Moment) → Later m m₁ → (b : Started) → b ≡ start_call m₁.recorded m₁.store m₁.heap k.root lo hi →
-    (b.answer ≡ Begun)
+    (b.answer ≡ has_begun)
     × ((when : ℕ → Moment) → ((i : ℕ) → Later m₁ (when i)) → (n : ℕ) (r : ℕ → Stepped) → StepsAlong when n b.cursor r → length ds < n →
     handed n r ≡ whole ds)
 
@@ -204,7 +203,7 @@ pub record Promise (m : Moment) (k : Known) : Type 0 where
   -- history the store is in order, and so is the heap
   pub answered :
       (b : List ℕ) → Lent m.store b → WellFormed (at m) b → (scratch : ℕ) → bad_scratch (extent_of m.recorded) scratch ≡ false →
-      ((i : ℕ) × ((outcome_of m (inserts k b scratch)).answer ≡ Refused (Repeated i)))
+      ((i : ℕ) × ((outcome_of m (inserts k b scratch)).answer ≡ Err (Repeated i)))
       ↔ ((d : Datom) × In d (batch_of b) × Shared (at m).cmp (gathered k.batches) d)
   -- each of these datoms may be stored: so one that is equal to it has the same entity, attribute, last word and content, and where one of
   -- the two values names no constant it is the very same

@@ -1,4 +1,6 @@
 -- What the code knows on its way along a page: the page was read, and what is left of the walk gives what the whole gives.
+use Rattle.std.specs.Prelude.{Ok}
+use Rattle.answer.specs.Answers.{Check, is_sound, unchecked, unsound_at}
 use Rattle.std.specs.Prelude.{ℕ, ◌+◌, ◌-◌, ◌*◌, ◌<◌, ◌≤◌, true, false, List, ◌≡◌, length, drop}
 use Rattle.std.proofs.Common.{arith, sym, ◌∙◌}
 use Rattle.std.proofs.Math.Option.{Option}
@@ -12,8 +14,6 @@ use Rattle.index.specs.Order.{DatomOrd}
 use Rattle.answer.specs.declared.Fault.{Fault}
 use Rattle.answer.specs.declared.Fault.TheVariants.{OutOfBounds}
 use Rattle.answer.specs.declared.Refusal.{Refusal}
-use Rattle.answer.specs.declared.Check.{Check}
-use Rattle.answer.specs.declared.Check.TheVariants.{Sound, Unsound, Refused}
 use Rattle.rules.specs.Page.{child_at}
 use Rattle.rules.specs.Tree.{fine}
 use Rattle.rules.specs.Store.{bad_store, page_at, fetched, fetch_page}
@@ -64,11 +64,11 @@ module _ {t : DatomOrd} {x : Extent} {s : List ℕ} {c l : ℕ} {p : PageId} {k 
     pub along_few : k ≤ most_datoms
     along_few = omega (arith, page_open.few, (in_order x s A.good).known.few)
 
-    pub along_end : k < i → Sound ≡ check_page t x s l p lower upper
+    pub along_end : k < i → is_sound ≡ check_page t x s l p lower upper
     along_end h = sym (left_end t (under_of t (fetch_page t x s) l) p c k b upper i last midpoint h) ∙ A.whole
 
     module _ (h : i ≤ k) (next : Option Datom) (n : next ≡ bound_at (drop i (datoms_of k b)) upper) where
-      pub along_outside : below_upper t.cmp last next ≡ false → Unsound p OutOfBounds ≡ check_page t x s l p lower upper
+      pub along_outside : below_upper t.cmp last next ≡ false → unsound_at p OutOfBounds ≡ check_page t x s l p lower upper
       along_outside e = sym (left_outside t (under_of t (fetch_page t x s) l) p c k b upper i last midpoint h next n e) ∙ A.whole
 
       module _ (within : below_upper t.cmp last next ≡ true) (child : PageId) (at : child ≡ child_at c b i) where
@@ -91,14 +91,14 @@ module _ {t : DatomOrd} {x : Extent} {s : List ℕ} {c l : ℕ} {p : PageId} {k 
             gave : under_of t (fetch_page t x s) l child midpoint next ≡ a
             gave = sym (e ∙ under_is t (fetch_page t x s) l child midpoint next along_above)
 
-            pub along_sound : a ≡ Sound → Along t x s c l p k b lower upper (i + 1) next next
+            pub along_sound : a ≡ is_sound → Along t x s c l p k b lower upper (i + 1) next next
             along_sound f =
                 goes next (left_sound t (under_of t (fetch_page t x s) l) p c k b upper i last midpoint h next n within child at real (gave ∙ f))
 
-            pub along_unsound : (q : PageId) (f : Fault) → a ≡ Unsound q f → Unsound q f ≡ check_page t x s l p lower upper
+            pub along_unsound : (q : PageId) (f : Fault) → a ≡ unsound_at q f → unsound_at q f ≡ check_page t x s l p lower upper
             along_unsound q f g =
                 sym (left_unsound t (under_of t (fetch_page t x s) l) p c k b upper i last midpoint h next n within child at real q f (gave ∙ g)) ∙ A.whole
 
-            pub along_refused : (r : Refusal) → a ≡ Refused r → Refused r ≡ check_page t x s l p lower upper
+            pub along_refused : (r : Refusal) → a ≡ unchecked r → unchecked r ≡ check_page t x s l p lower upper
             along_refused r f =
                 sym (left_refused t (under_of t (fetch_page t x s) l) p c k b upper i last midpoint h next n within child at real r (gave ∙ f)) ∙ A.whole

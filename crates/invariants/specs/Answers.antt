@@ -1,4 +1,7 @@
 -- What the check may answer: Sound, Unsound, or a refusal of number 1 or 5.
+use Rattle.answer.specs.declared.Flaw.TheVariants.{Unsound, Refused}
+use Rattle.std.specs.Prelude.{Ok, Err}
+use Rattle.answer.specs.Answers.{Check, unchecked, unsound_at}
 use Prim.Native.Nat.{ℕ, zero, suc, Ordering}
 use Rattle.std.specs.Prelude.{Bool, ◌||◌, ◌≡◌, eqb, drop, get_or}
 use Rattle.std.proofs.Math.Bool.{true, false}
@@ -14,8 +17,6 @@ use Rattle.datom.specs.declared.Datom.{Datom}
 use Rattle.index.specs.Order.{DatomOrd}
 use Rattle.answer.specs.declared.Fault.{Fault}
 use Rattle.answer.specs.declared.Refusal.TheVariants.{Damaged}
-use Rattle.answer.specs.declared.Check.{Check}
-use Rattle.answer.specs.declared.Check.TheVariants.{Sound, Unsound, Refused}
 use Rattle.answer.specs.Table.{number_of}
 use Rattle.rules.specs.Tree.{Fetched, faulty, fine, at_level}
 use Rattle.rules.specs.Store.{bad_store, bad_root, fetch_page}
@@ -23,9 +24,9 @@ use Rattle.rules.specs.Check.{above_lower, below_upper, Under, check_child, midp
 
 -- an answer without a refusal
 unfoldable pub is_verdict : Check → Bool
-is_verdict Sound = true
-is_verdict (Unsound p f) = true
-is_verdict (Refused r) = false
+is_verdict (Ok o) = true
+is_verdict (Err (Unsound p f)) = true
+is_verdict (Err (Refused r)) = false
 
 module _ (cmp : Datom → Datom → Ordering) where
   module _ (under : Under) (ok : (c : PageId) (x y : Option Datom) → is_verdict (under c x y) ≡ true) (p : PageId) (upper : Option Datom) where
@@ -53,10 +54,10 @@ module _ (cmp : Datom → Datom → Ordering) where
             is_verdict (walk cmp under p ds (drop 1 cs) (some d) (midpoint_next (get_or cs 0 none) midpoint d) upper) ≡ true →
             is_verdict (walk cmp under p (d ∷ ds) cs last midpoint upper) ≡ true
         side false e r u ih = rw (walk, e)
-        side true e Sound u ih = rw (walk, e, u) ih
-        side true e (Unsound q f) u ih = rw (walk, e, u)
-        side true e (Refused r) u ih =
-            let k : is_verdict (Refused r) ≡ true = ap is_verdict (sym u) ∙ child_verdict (get_or cs 0 none) midpoint (some d) in
+        side true e (Ok o) u ih = rw (walk, e, u) ih
+        side true e (Err (Unsound q f)) u ih = rw (walk, e, u)
+        side true e (Err (Refused r)) u ih =
+            let k : is_verdict (unchecked r) ≡ true = ap is_verdict (sym u) ∙ child_verdict (get_or cs 0 none) midpoint (some d) in
             absurd (apart (cc))
 
   at_verdict :
@@ -76,15 +77,15 @@ module _ (cmp : Datom → Datom → Ordering) where
 
 -- "the check checks 1, 5"
 unfoldable pub is_answer : Check → Bool
-is_answer Sound = true
-is_answer (Unsound p f) = true
-is_answer (Refused r) = eqb (number_of r) 1 || eqb (number_of r) 5
+is_answer (Ok o) = true
+is_answer (Err (Unsound p f)) = true
+is_answer (Err (Refused r)) = eqb (number_of r) 1 || eqb (number_of r) 5
 
 verdict_answers : (a : Check) → is_verdict a ≡ true → is_answer a ≡ true
 unfolding is_verdict is_answer
-verdict_answers Sound e = refl
-verdict_answers (Unsound p f) e = refl
-verdict_answers (Refused r) e = absurd (apart (cc))
+verdict_answers (Ok o) e = refl
+verdict_answers (Err (Unsound p f)) e = refl
+verdict_answers (Err (Refused r)) e = absurd (apart (cc))
 
 module _ (t : DatomOrd) (x : Extent) (s : List ℕ) (root : PageId) where
   pub check_answers : is_answer (check_tree t x s root) ≡ true
@@ -100,6 +101,6 @@ module _ (t : DatomOrd) (x : Extent) (s : List ℕ) (root : PageId) where
       side false u false v false w = rw (u, v, w) (verdict_answers _ (root_verdict t.cmp (fetch_page t x s) root (fetch_page t x s root)))
 
   -- "it never gives 7"
-  pub never_damaged : (p : PageId) (f : Fault) → check_tree t x s root ≡ Refused (Damaged p f) → ⊥
+  pub never_damaged : (p : PageId) (f : Fault) → check_tree t x s root ≡ unchecked (Damaged p f) → ⊥
   unfolding is_answer
-  never_damaged p f e = let k : is_answer (Refused (Damaged p f)) ≡ true = ap is_answer (sym e) ∙ check_answers in apart (cc)
+  never_damaged p f e = let k : is_answer (unchecked (Damaged p f)) ≡ true = ap is_answer (sym e) ∙ check_answers in apart (cc)

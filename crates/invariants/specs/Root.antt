@@ -1,4 +1,5 @@
 -- The checks of the whole, in their order, and the root.
+use Rattle.answer.specs.Answers.{is_sound, unchecked, unsound_at}
 use Rattle.std.specs.Prelude.{ℕ, true, false, List, ◌≡◌, refl, None}
 use borrow.Author.Tests.{eq-eqb}
 use Rattle.store.specs.declared.PageId.{PageId}
@@ -7,7 +8,6 @@ use Rattle.store.specs.Page.{is_none}
 use Rattle.index.specs.Order.{DatomOrd}
 use Rattle.answer.specs.declared.Fault.{Fault}
 use Rattle.answer.specs.declared.Refusal.TheVariants.{BadStore, NoPage}
-use Rattle.answer.specs.declared.Check.TheVariants.{Sound, Unsound, Refused}
 use Rattle.rules.specs.Page.{node_of}
 use Rattle.rules.specs.Tree.{faulty, fine, at_level}
 use Rattle.rules.specs.Store.{bad_store, bad_root, fetch_page}
@@ -17,22 +17,22 @@ use Rattle.invariants.specs.Bounds.{bound_of}
 use Rattle.invariants.specs.Walk.{check_page}
 
 module _ (t : DatomOrd) (x : Extent) (s : List ℕ) (root : PageId) where
-  pub check_bad : bad_store x s ≡ true → Refused BadStore ≡ check_tree t x s root
+  pub check_bad : bad_store x s ≡ true → unchecked BadStore ≡ check_tree t x s root
   unfolding check_tree
   check_bad e = rw e
 
   module _ (ok : bad_store x s ≡ false) where
-    pub check_past : bad_root x root ≡ true → Refused NoPage ≡ check_tree t x s root
+    pub check_past : bad_root x root ≡ true → unchecked NoPage ≡ check_tree t x s root
     unfolding check_tree
     check_past e = rw (ok, e)
 
     module _ (known : bad_root x root ≡ false) where
-      pub check_none : is_none root ≡ true → Sound ≡ check_tree t x s root
+      pub check_none : is_none root ≡ true → is_sound ≡ check_tree t x s root
       unfolding check_tree
       check_none e = rw (ok, known, e)
 
       module _ (real : is_none root ≡ false) where
-        pub check_faulty : (f : Fault) → fetch_page t x s root ≡ faulty f → Unsound root f ≡ check_tree t x s root
+        pub check_faulty : (f : Fault) → fetch_page t x s root ≡ faulty f → unsound_at root f ≡ check_tree t x s root
         unfolding check_tree check_root
         check_faulty f e = rw (ok, known, real, e)
 

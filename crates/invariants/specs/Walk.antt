@@ -1,4 +1,6 @@
 -- The walk along one page, index by index, as the code's loop takes it.
+use Rattle.std.specs.Prelude.{Ok}
+use Rattle.answer.specs.Answers.{Check, is_sound, unchecked, unsound_at}
 use Prim.Native.Nat.{ℕ, zero, suc, ◌+◌, ◌-◌, ◌*◌, ◌<◌, ◌≤◌}
 use Rattle.std.proofs.Math.Decide.{dec_le}
 use Rattle.std.proofs.Common.{arith, ◌∙◌, drop-drop}
@@ -19,8 +21,6 @@ use Rattle.index.specs.Order.{DatomOrd}
 use Rattle.answer.specs.declared.Fault.{Fault}
 use Rattle.answer.specs.declared.Fault.TheVariants.{OutOfBounds}
 use Rattle.answer.specs.declared.Refusal.{Refusal}
-use Rattle.answer.specs.declared.Check.{Check}
-use Rattle.answer.specs.declared.Check.TheVariants.{Sound, Unsound, Refused}
 use Rattle.rules.specs.Page.{child_at, children_of, node_of}
 use Rattle.rules.specs.Tree.{Fetched, faulty, fine, at_level, fetch_at}
 use Rattle.rules.specs.Store.{page_at, fetch_page, env_of}
@@ -31,7 +31,7 @@ use Rattle.invariants.specs.Bounds.{bound_at}
 
 -- the check of a child of a page of level l
 unfoldable pub under_of : DatomOrd → (PageId → Fetched) → ℕ → Under
-under_of t fetch zero c lower upper = Sound
+under_of t fetch zero c lower upper = is_sound
 under_of t fetch (suc l) c lower upper = check_at t.cmp fetch l c lower upper (at_level l (fetch c))
 
 pub under_is :
@@ -49,7 +49,7 @@ module _ (t : DatomOrd) (under : Under) (p : PageId) (cs : List PageId) (last mi
   child = get_or cs 0 none
 
   turn_outside :
-      (ds : List Datom) → below_upper t.cmp last (bound_at ds upper) ≡ false → walk t.cmp under p ds cs last midpoint upper ≡ Unsound p OutOfBounds
+      (ds : List Datom) → below_upper t.cmp last (bound_at ds upper) ≡ false → walk t.cmp under p ds cs last midpoint upper ≡ unsound_at p OutOfBounds
   unfolding walk bound_at below_upper
   turn_outside [] h = rw h
   turn_outside (d ∷ ds) h = rw (walk, h)
@@ -61,37 +61,37 @@ module _ (t : DatomOrd) (under : Under) (p : PageId) (cs : List PageId) (last mi
 
   module _ (d : Datom) (ds : List Datom) (h : below_upper t.cmp last (some d) ≡ true) where
     turn_on :
-        check_child under child midpoint (some d) ≡ Sound →
+        check_child under child midpoint (some d) ≡ is_sound →
         walk t.cmp under p (d ∷ ds) cs last midpoint upper ≡ walk t.cmp under p ds (drop 1 cs) (some d) (midpoint_next child midpoint d) upper
     unfolding walk below_upper
     turn_on e = rw (walk, h, e)
 
     turn_unsound :
-        (q : PageId) (f : Fault) → check_child under child midpoint (some d) ≡ Unsound q f →
-        walk t.cmp under p (d ∷ ds) cs last midpoint upper ≡ Unsound q f
+        (q : PageId) (f : Fault) → check_child under child midpoint (some d) ≡ unsound_at q f →
+        walk t.cmp under p (d ∷ ds) cs last midpoint upper ≡ unsound_at q f
     unfolding walk below_upper
     turn_unsound q f e = rw (walk, h, e)
 
     turn_refused :
-        (r : Refusal) → check_child under child midpoint (some d) ≡ Refused r → walk t.cmp under p (d ∷ ds) cs last midpoint upper ≡ Refused r
+        (r : Refusal) → check_child under child midpoint (some d) ≡ unchecked r → walk t.cmp under p (d ∷ ds) cs last midpoint upper ≡ unchecked r
     unfolding walk below_upper
     turn_refused r e = rw (walk, h, e)
 
 -- what is left of a walk at index i of a page of k datoms, with room for c
 unfoldable pub left_of : DatomOrd → Under → PageId → ℕ → ℕ → List ℕ → Option Datom → ℕ → Option Datom → Option Datom → Check
 left_of t under p c k b upper i last midpoint =
-    cond (leb i k) (walk t.cmp under p (drop i (datoms_of k b)) (drop i (children_of c (suc k) b)) last midpoint upper) Sound
+    cond (leb i k) (walk t.cmp under p (drop i (datoms_of k b)) (drop i (children_of c (suc k) b)) last midpoint upper) is_sound
 
 module _ (t : DatomOrd) (under : Under) (p : PageId) (c k : ℕ) (b : List ℕ) (upper : Option Datom) (i : ℕ) (last midpoint : Option Datom) where
   abbrev left : Check
   left = left_of t under p c k b upper i last midpoint
 
-  pub left_end : k < i → left ≡ Sound
+  pub left_end : k < i → left ≡ is_sound
   unfolding left_of
   left_end h = rw (lt-leb i k h)
 
   module _ (h : i ≤ k) (next : Option Datom) (n : next ≡ bound_at (drop i (datoms_of k b)) upper) where
-    pub left_outside : below_upper t.cmp last next ≡ false → left ≡ Unsound p OutOfBounds
+    pub left_outside : below_upper t.cmp last next ≡ false → left ≡ unsound_at p OutOfBounds
     unfolding left_of
     left_outside e = rw (le-leb i k h) (turn_outside t under p _ last midpoint upper (drop i (datoms_of k b)) (rw (← n) e))
 
@@ -120,7 +120,7 @@ module _ (t : DatomOrd) (under : Under) (p : PageId) (c k : ℕ) (b : List ℕ) 
           rw (le-leb i k h, ends g)
           (turn_last t under p _ last midpoint upper r (rw (← bound_ends g) within) (rw (here, ← bound_ends g) e))
 
-      child_none : is_none ch ≡ true → check_child under ch midpoint next ≡ Sound
+      child_none : is_none ch ≡ true → check_child under ch midpoint next ≡ is_sound
       unfolding check_child
       child_none e = rw e
 
@@ -130,11 +130,11 @@ module _ (t : DatomOrd) (under : Under) (p : PageId) (c k : ℕ) (b : List ℕ) 
 
       -- on to the next index, with m for the midpoint
       left_next :
-          (m : Option Datom) → check_child under ch midpoint next ≡ Sound → ((d : Datom) → next ≡ some d → midpoint_next ch midpoint d ≡ m) →
+          (m : Option Datom) → check_child under ch midpoint next ≡ is_sound → ((d : Datom) → next ≡ some d → midpoint_next ch midpoint d ≡ m) →
           left ≡ left_of t under p c k b upper (i + 1) next m
       unfolding left_of
       left_next m e f = elim (dec_le k i) [
-        | yes g ↦ left_last Sound e g ∙ sym (rw (lt-leb (i + 1) k (omega (arith, g))))
+        | yes g ↦ left_last is_sound e g ∙ sym (rw (lt-leb (i + 1) k (omega (arith, g))))
         | no g ↦
             let lt : i < k = omega (arith, g) in
             let n₁ = bound_goes lt in
@@ -147,14 +147,14 @@ module _ (t : DatomOrd) (under : Under) (p : PageId) (c k : ℕ) (b : List ℕ) 
       left_none e = left_next midpoint (child_none e) (λ d g. rw e)
 
       module _ (real : is_none ch ≡ false) where
-        pub left_sound : under ch midpoint next ≡ Sound → left ≡ left_of t under p c k b upper (i + 1) next next
+        pub left_sound : under ch midpoint next ≡ is_sound → left ≡ left_of t under p c k b upper (i + 1) next next
         unfolding midpoint_next
         left_sound e = left_next next (child_real real ∙ e) (λ d g. rw (real, g))
 
-        pub left_unsound : (q : PageId) (f : Fault) → under ch midpoint next ≡ Unsound q f → left ≡ Unsound q f
+        pub left_unsound : (q : PageId) (f : Fault) → under ch midpoint next ≡ unsound_at q f → left ≡ unsound_at q f
         unfolding left_of
         left_unsound q f e = elim (dec_le k i) [
-          | yes g ↦ left_last (Unsound q f) (child_real real ∙ e) g
+          | yes g ↦ left_last (unsound_at q f) (child_real real ∙ e) g
           | no g ↦
               let lt : i < k = omega (arith, g) in
               let n₁ = bound_goes lt in
@@ -162,10 +162,10 @@ module _ (t : DatomOrd) (under : Under) (p : PageId) (c k : ℕ) (b : List ℕ) 
               (turn_unsound t under p _ last midpoint upper _ _ (rw (← n₁) within) q f (rw (here, ← n₁) (child_real real ∙ e)))
         ]
 
-        pub left_refused : (r : Refusal) → under ch midpoint next ≡ Refused r → left ≡ Refused r
+        pub left_refused : (r : Refusal) → under ch midpoint next ≡ unchecked r → left ≡ unchecked r
         unfolding left_of
         left_refused r e = elim (dec_le k i) [
-          | yes g ↦ left_last (Refused r) (child_real real ∙ e) g
+          | yes g ↦ left_last (unchecked r) (child_real real ∙ e) g
           | no g ↦
               let lt : i < k = omega (arith, g) in
               let n₁ = bound_goes lt in
@@ -178,12 +178,12 @@ module _ (t : DatomOrd) (x : Extent) (s : List ℕ) (l : ℕ) (p : PageId) (lowe
   abbrev pub check_page : Check
   check_page = check_at t.cmp (fetch_page t x s) l p lower upper (at_level l (fetch_page t x s p))
 
-  unsound : (m : ℕ) (f : Fault) → Unsound p f ≡ check_at t.cmp (fetch_page t x s) m p lower upper (faulty f)
+  unsound : (m : ℕ) (f : Fault) → unsound_at p f ≡ check_at t.cmp (fetch_page t x s) m p lower upper (faulty f)
   unfolding check_at
   unsound zero f = refl
   unsound (suc m) f = refl
 
-  pub page_faulty : (f : Fault) → Err f ≡ opened_of (fetch_at (env_of t x s) l p) → Unsound p f ≡ check_page
+  pub page_faulty : (f : Fault) → Err f ≡ opened_of (fetch_at (env_of t x s) l p) → unsound_at p f ≡ check_page
   unfolding fetch_at env_of
   page_faulty f e = rw (opened_faulty f (at_level l (fetch_page t x s p)) e) (unsound l f)
 

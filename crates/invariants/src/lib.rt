@@ -15,11 +15,11 @@ ghost use Rattle.memory_store.specs.Readable.{node_at};
 ghost use Rattle.invariants.specs.Bounds.{bound_of};
 ghost use Rattle.invariants.specs.Verdict.{verdict_of};
 
-use answer::{Check, Damage, Fault, Refusal};
+use answer::{Damage, Fault, Flaw, Refusal};
 use datom::Datom;
 use index::Index;
 use memory_store::found;
-use ordered::Ordered;
+use memory_store::reader::Header;
 use store::{Extent, PageId, StoreRecord};
 
 // Page `page`, which was read and is of this level and of k datoms, and all pages under it. The walk goes along the page's datoms, and
@@ -64,58 +64,40 @@ fn check_at(
     Ok(())
 }
 
-fn verdict(walked: Result<(), Damage>) -> Check
-    ensures { result ≡ verdict_of walked }
-{
-    match walked {
-        Ok(()) => Check::Sound,
-        Err(damage) => Check::Unsound(damage.page, damage.fault),
-    }
-}
-
 // Whether the tree under a root is sound, or the first fault and its page. Document 01: "the check checks 1, 5", "Root "none" is
 // Sound."
-pub fn check_in(store: &[u8], extent: Extent, root: PageId, by: Index, heap: &[u8]) -> Check
+pub fn check_in(store: &[u8], extent: Extent, root: PageId, by: Index, heap: &[u8]) -> Result<(), Flaw>
     ensures { result ≡ check_tree (order_in by heap.now) extent store.now root }
 {
     if memory_store::is_bad(store, extent) {
-        return Check::Refused(Refusal::BadStore);
+        return Err(Flaw::Refused(Refusal::BadStore));
     }
     if memory_store::is_bad_root(extent, root) {
-        return Check::Refused(Refusal::NoPage);
+        return Err(Flaw::Refused(Refusal::NoPage));
     }
     if root.is_none() {
-        return Check::Sound;
+        return Ok(());
     }
     let c = store::capacity_of(extent.size);
     match found::node_at(store, extent, c, root, by, heap) {
-        Err(fault) => Check::Unsound(root, fault),
-        Ok(header) => verdict(check_at(
-            store,
-            extent,
-            c,
-            header.level,
-            root,
-            header.count,
-            None,
-            None,
-            by,
-            heap,
-        )),
+        Err(fault) => Err(Flaw::Unsound(root, fault)),
+        Ok(header) => {
+            let Header { level, count } = header;
+            check_at(
+                store, extent, c, level, root, count, None, None, by, heap,
+            )?;
+            Ok(())
+        }
     }
 }
 
 // Whether the tree under a root is sound, or the first fault and its page.
-pub fn check(store: &[u8], recorded: StoreRecord, root: PageId, heap: &[u8]) -> Check
+pub fn check(store: &[u8], recorded: StoreRecord, root: PageId, heap: &[u8]) -> Result<(), Flaw>
     ensures { result ≡ check_call recorded store.now heap.now root }
 {
     let extent = recorded.extent();
     let bad = memory_store::is_bad(store, extent);
-    match ordered::order_in(recorded, bad, heap) {
-        Ordered::Refused(refusal) => Check::Refused(refusal),
-        Ordered::By(by) => {
-            let used = heap::used_of(heap, recorded.heap);
-            check_in(store, extent, root, by, used)
-        }
-    }
+    let by = ordered::order_in(recorded, bad, heap)?;
+    let used = heap::used_of(heap, recorded.heap);
+    check_in(store, extent, root, by, used)
 }

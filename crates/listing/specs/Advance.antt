@@ -1,4 +1,5 @@
 -- What follows once the datom of a level is taken.
+use Rattle.answer.specs.Answers.{yielding, ended_step}
 use Rattle.std.specs.Prelude.{ℕ, pred, ◌+◌, ◌≤◌, List, ◌≡◌, Option, None, Some, Result, Ok, Err, length, get_or, set}
 use Rattle.store.specs.declared.Extent.{Extent}
 use Rattle.datom.specs.declared.Datom.{Datom}
@@ -7,7 +8,6 @@ use Rattle.answer.specs.declared.Damage.{Damage}
 use Rattle.answer.specs.declared.Refusal.{Refusal}
 use Rattle.answer.specs.Damage.{damaged}
 use Rattle.answer.specs.declared.Cursor.{Cursor}
-use Rattle.answer.specs.declared.Step.TheVariants as step
 use Rattle.answer.specs.declared.Stepped.{Stepped}
 use Rattle.rules.specs.Tree.{Fetched, fine}
 use Rattle.rules.specs.Store.{fetch_page}
@@ -40,15 +40,15 @@ advanced t x s w l = descent_of (pred l) (taken w l) (after_at t x s w l)
 
 unfoldable pub yield_of : Cursor → Datom → Result Way Damage → Stepped
 yield_of c d (Err g) = refuse_step c (damaged g)
-yield_of c d (Ok w) = record { answer = step.Yields d; cursor = cursor_of (frames_of c.height w) (end_frames c) }
+yield_of c d (Ok w) = record { answer = yielding d; cursor = cursor_of (frames_of c.height w) (end_frames c) }
 
 -- a step by what it yields or by its refusal, which leaves the cursor as it was
 abbrev pub yielded_as : Cursor → Result Yielded Refusal → Stepped
-yielded_as c (Ok y) = record { answer = step.Yields y.datom; cursor = y.cursor }
+yielded_as c (Ok y) = record { answer = yielding y.datom; cursor = y.cursor }
 yielded_as c (Err r) = refuse_step c r
 
 -- a step that yields nothing has ended, and leaves the cursor too
 abbrev pub stepped_as : Cursor → Result (Option Yielded) Refusal → Stepped
 stepped_as c (Ok (Some y)) = yielded_as c (Ok y)
-stepped_as c (Ok None) = staying c step.Ended
+stepped_as c (Ok None) = staying c ended_step
 stepped_as c (Err r) = refuse_step c r

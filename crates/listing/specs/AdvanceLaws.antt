@@ -1,4 +1,6 @@
 -- The ways on from a level whose datom is taken, and the answers they give.
+use Rattle.std.specs.Prelude.{Option, Some}
+use Rattle.answer.specs.Answers.{yielding}
 use Prim.Native.Nat.{ℕ, zero, suc, ◌+◌, ◌-◌, ◌≤◌}
 use Rattle.std.proofs.Common.{le_refl, ◌∙◌, get_or-set_other}
 use Rattle.std.proofs.Math.Numerals.{add-one}
@@ -19,11 +21,8 @@ use Rattle.index.specs.Order.{DatomOrd}
 use Rattle.answer.specs.declared.Damage.{Damage}
 use Rattle.answer.specs.declared.Fault.{Fault}
 use Rattle.answer.specs.declared.Fault.TheVariants.{Missing}
-use Rattle.answer.specs.declared.NextMidpoint.{NextMidpoint}
-use Rattle.answer.specs.declared.NextMidpoint.TheVariants.{Child, Nothing}
 use Rattle.answer.specs.declared.Refusal.TheVariants.{Damaged}
 use Rattle.answer.specs.declared.Cursor.{Cursor}
-use Rattle.answer.specs.declared.Step.TheVariants as step
 use Rattle.rules.specs.Page.{children_of, node_of, level_of, count_of}
 use Rattle.rules.specs.Node.{is_midpoint, next_midpoint}
 use Rattle.rules.specs.Tree.{fine}
@@ -92,7 +91,7 @@ module _ (t : DatomOrd) (x : Extent) (s : List ℕ) (w : Way) where
       rw (after, h, same) (ap down (sym (refilled l (taken w (suc l)))))
 
   module _ (l : ℕ) (z : l ≡ 0 → ⊥) (h : is_midpoint (children_at l) (get_or w.indices l 0) ≡ true) where
-    abbrev next : NextMidpoint
+    abbrev next : (Option PageId)
     next = next_midpoint (drop (get_or w.indices l 0 + 1) (children_at l))
 
     adv_next : descent_of (l - 1) (taken w l) (down_of t x s never (l - 1) (child_of next)) ≡ advanced t x s w l
@@ -107,11 +106,11 @@ module _ (t : DatomOrd) (x : Extent) (s : List ℕ) (w : Way) where
             let k : suc m - 1 ≡ m = omega arith in
             rw (k, after, v, opens_count (fetch_page t x s) w.indices w.pages m, ← add-one (get_or w.indices (suc m) 0))
 
-    pub adv_child : (d : PageId) → next ≡ Child d → descent_of (l - 1) (taken w l) (down_of t x s (test_of t None) (l - 1) d) ≡ advanced t x s w l
+    pub adv_child : (d : PageId) → next ≡ Some d → descent_of (l - 1) (taken w l) (down_of t x s (test_of t None) (l - 1) d) ≡ advanced t x s w l
     unfolding test_of
     adv_child d e = rw (ap child_of e) at adv_next
 
-    pub adv_stuck : x.count ≤ none.0 → next ≡ Nothing → lost none Missing ≡ advanced t x s w l
+    pub adv_stuck : x.count ≤ none.0 → next ≡ None → lost none Missing ≡ advanced t x s w l
     adv_stuck c e = none_down t x s never (l - 1) (taken w l) c ∙ (rw (ap child_of e) at adv_next)
 
 module _ (c : Cursor) (d : Datom) (g a : Result Way Damage) (is : g ≡ a) where
@@ -120,6 +119,6 @@ module _ (c : Cursor) (d : Datom) (g a : Result Way Damage) (is : g ≡ a) where
   yield_lost q f h = rw (← is, h)
 
   pub yield_bottom :
-      (w : Way) → g ≡ down w → record { answer = step.Yields d; cursor = cursor_of (frames_of c.height w) (end_frames c) } ≡ yield_of c d a
+      (w : Way) → g ≡ down w → record { answer = yielding d; cursor = cursor_of (frames_of c.height w) (end_frames c) } ≡ yield_of c d a
   unfolding yield_of
   yield_bottom w h = rw (← is, h)

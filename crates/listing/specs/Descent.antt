@@ -15,8 +15,6 @@ use Rattle.index.specs.Order.{DatomOrd}
 use Rattle.answer.specs.declared.Damage.{Damage}
 use Rattle.answer.specs.declared.Fault.{Fault}
 use Rattle.answer.specs.declared.Fault.TheVariants.{Missing}
-use Rattle.answer.specs.declared.NextMidpoint.{NextMidpoint}
-use Rattle.answer.specs.declared.NextMidpoint.TheVariants.{Child, Nothing}
 use Rattle.rules.specs.Page.{children_of, node_of}
 use Rattle.rules.specs.Node.{rank_by, rank, below, next_midpoint}
 use Rattle.rules.specs.Tree.{Fetched, faulty, fine, at_level, fetch_at}
@@ -49,11 +47,11 @@ module _ (t : DatomOrd) (k : Option Datom) (xs : List Datom) where
   index_bound d e = rw e
 
 -- where a way goes on from a page: at level 0 it ends
-unfoldable pub next_from : ℕ → ℕ → List PageId → NextMidpoint
-next_from zero i cs = Nothing
+unfoldable pub next_from : ℕ → ℕ → List PageId → (Option PageId)
+next_from zero i cs = None
 next_from (suc l) i cs = next_midpoint (drop i cs)
 
-pub next_bottom : (l i : ℕ) (cs : List PageId) → l ≡ 0 → Nothing ≡ next_from l i cs
+pub next_bottom : (l i : ℕ) (cs : List PageId) → l ≡ 0 → None ≡ next_from l i cs
 unfolding next_from
 next_bottom l i cs z = rw z
 
@@ -62,10 +60,10 @@ unfolding next_from
 next_up zero i cs up = absurd (up refl)
 next_up (suc l) i cs up = refl
 
-abbrev pub placed : ℕ → NextMidpoint → Result Place Fault
+abbrev pub placed : ℕ → (Option PageId) → Result Place Fault
 placed i c = Ok (record { index = i; next = c })
 
-same_place : (i j : ℕ) (c d : NextMidpoint) → placed i c ≡ placed j d → (i ≡ j) × (c ≡ d)
+same_place : (i j : ℕ) (c d : (Option PageId)) → placed i c ≡ placed j d → (i ≡ j) × (c ≡ d)
 same_place i j c d e =
     let w : record { index = i; next = c } ≡ record { index = j; next = d } = cc in
     (ap (λ (v : Place). v.index) w, ap (λ (v : Place). v.next) w)
@@ -82,7 +80,7 @@ module _ (t : DatomOrd) (x : Extent) (s : List ℕ) (q : PageId) (p : Datom → 
 
   pub place_at :
       (k : ℕ) → fetch_page t x s q ≡ fine (node_at x s q l k) →
-      (b : List ℕ) (c i : ℕ) (n : NextMidpoint) → b ≡ page_at x s q → c ≡ capacity x.size → i ≡ rank_by p (datoms_of k b) →
+      (b : List ℕ) (c i : ℕ) (n : (Option PageId)) → b ≡ page_at x s q → c ≡ capacity x.size → i ≡ rank_by p (datoms_of k b) →
       n ≡ next_from l i (children_of c (suc k) b) → placed i n ≡ placed_of p l (at_level l (fetch_page t x s q))
   unfolding placed_of at_level node_of
   place_at k e b c i n u v y z = rw (e, eq-eqb l l refl, z, y, u, v)
@@ -130,14 +128,14 @@ module _ (fetch : PageId → Fetched) (p : Datom → Bool) (w : Way) (q : PageId
 
   -- level 0
   last_page :
-      (i : ℕ) (c : NextMidpoint) (r : Fetched) → placed i c ≡ placed_of p 0 r → down (put_frame w 0 i q) ≡ descent_of 0 w (path_by fetch p 0 q r)
+      (i : ℕ) (c : (Option PageId)) (r : Fetched) → placed i c ≡ placed_of p 0 r → down (put_frame w 0 i q) ≡ descent_of 0 w (path_by fetch p 0 q r)
   unfolding placed_of descent_of path_by fill
   last_page i c (faulty f) h = absurd (apart (cc))
   last_page i c (fine n) h = rw (same_place i (rank_by p n.datoms) c (next_from 0 (rank_by p n.datoms) n.children) h).0
 
   -- a page above level 0
   upper_page :
-      (l i : ℕ) (c : NextMidpoint) (r : Fetched) → placed i c ≡ placed_of p (suc l) r →
+      (l i : ℕ) (c : (Option PageId)) (r : Fetched) → placed i c ≡ placed_of p (suc l) r →
       descent_of (suc l) w (path_by fetch p (suc l) q r) ≡ descent_of l (put_frame w (suc l) i q) (path_by fetch p l (child_of c) (at_level l (fetch (child_of c))))
   unfolding placed_of path_by next_from
   upper_page l i c (faulty f) h = absurd (apart (cc))
@@ -159,7 +157,7 @@ module _ (t : DatomOrd) (x : Extent) (s : List ℕ) (p : Datom → Bool) (l : �
   pub down_lost : (f : Fault) → Err f ≡ placed_of p l (at_level l (fetch_page t x s q)) → lost q f ≡ descent_of l w (down_of t x s p l q)
   down_lost f h = lost_page (fetch_page t x s) p w q l f (at_level l (fetch_page t x s q)) h
 
-  module _ (i : ℕ) (c : NextMidpoint) (at : placed i c ≡ placed_of p l (at_level l (fetch_page t x s q))) where
+  module _ (i : ℕ) (c : (Option PageId)) (at : placed i c ≡ placed_of p l (at_level l (fetch_page t x s q))) where
     pub down_ends : l ≡ 0 → down (put_frame w l i q) ≡ descent_of l w (down_of t x s p l q)
     down_ends z = ends l z at
       where
@@ -177,10 +175,10 @@ module _ (t : DatomOrd) (x : Extent) (s : List ℕ) (p : Datom → Bool) (l : �
           on zero e h = absurd (e refl)
           on (suc m) e h = rw (suc_sub_one m) (sym (upper_page (fetch_page t x s) p w q m i c (at_level (suc m) (fetch_page t x s q)) h))
 
-      pub down_on : (d : PageId) → c ≡ Child d → descent_of (l - 1) (put_frame w l i q) (down_of t x s p (l - 1) d) ≡ descent_of l w (down_of t x s p l q)
+      pub down_on : (d : PageId) → c ≡ Some d → descent_of (l - 1) (put_frame w l i q) (down_of t x s p (l - 1) d) ≡ descent_of l w (down_of t x s p l q)
       down_on d e = rw (ap child_of e) at on_to
 
-      pub down_stuck : x.count ≤ none.0 → c ≡ Nothing → lost none Missing ≡ descent_of l w (down_of t x s p l q)
+      pub down_stuck : x.count ≤ none.0 → c ≡ None → lost none Missing ≡ descent_of l w (down_of t x s p l q)
       down_stuck h e = none_down t x s p (l - 1) (put_frame w l i q) h ∙ (rw (ap child_of e) at on_to)
 
 -- what is left of a way with n levels to go, the next of them at page q
@@ -208,16 +206,16 @@ module _ (t : DatomOrd) (x : Extent) (s : List ℕ) (p : Datom → Bool) (n : �
   pub left_lost : (f : Fault) → Err f ≡ placed_of p (n - 1) (at_level (n - 1) (fetch_page t x s q)) → lost q f ≡ left_of t x s p n w q
   left_lost f h = down_lost t x s p (n - 1) w q f h ∙ left_here t x s p n w q some
 
-  module _ (i : ℕ) (c : NextMidpoint) (at : placed i c ≡ placed_of p (n - 1) (at_level (n - 1) (fetch_page t x s q))) where
+  module _ (i : ℕ) (c : (Option PageId)) (at : placed i c ≡ placed_of p (n - 1) (at_level (n - 1) (fetch_page t x s q))) where
     -- the last level leaves nothing
     pub left_last : (d : PageId) → n - 1 ≡ 0 → left_of t x s p (n - 1) (put_frame w (n - 1) i q) d ≡ left_of t x s p n w q
     left_last d z = sym (left_none t x s p (n - 1) (put_frame w (n - 1) i q) d z) ∙ down_ends t x s p (n - 1) w q i c at z ∙ left_here t x s p n w q some
 
     module _ (up : n - 1 ≡ 0 → ⊥) where
-      pub left_on : (d : PageId) → c ≡ Child d → left_of t x s p (n - 1) (put_frame w (n - 1) i q) d ≡ left_of t x s p n w q
+      pub left_on : (d : PageId) → c ≡ Some d → left_of t x s p (n - 1) (put_frame w (n - 1) i q) d ≡ left_of t x s p n w q
       left_on d e =
           let more : 0 < n - 1 = omega (arith, up) in
           sym (left_here t x s p (n - 1) (put_frame w (n - 1) i q) d more) ∙ down_on t x s p (n - 1) w q i c at up d e ∙ left_here t x s p n w q some
 
-      pub left_stuck : x.count ≤ none.0 → c ≡ Nothing → lost none Missing ≡ left_of t x s p n w q
+      pub left_stuck : x.count ≤ none.0 → c ≡ None → lost none Missing ≡ left_of t x s p n w q
       left_stuck h e = down_stuck t x s p (n - 1) w q i c at up h e ∙ left_here t x s p n w q some

@@ -1,4 +1,5 @@
 -- The refusals of a start, in their order.
+use Rattle.answer.specs.Answers.{has_begun}
 use Rattle.std.specs.Prelude.{ℕ, true, false, ◌&&◌, not, List, [], ◌≡◌, refl, Some}
 use borrow.Author.Tests.{eq-eqb}
 use Rattle.store.specs.declared.PageId.{PageId}
@@ -8,7 +9,6 @@ use Rattle.datom.specs.declared.Datom.{Datom}
 use Rattle.index.specs.Order.{DatomOrd, is_less}
 use Rattle.answer.specs.declared.Fault.{Fault}
 use Rattle.answer.specs.declared.Refusal.TheVariants.{BadStore, BadBound, NoPage, Damaged}
-use Rattle.answer.specs.declared.Start.TheVariants as start
 use Rattle.rules.specs.Page.{node_of}
 use Rattle.rules.specs.Tree.{faulty, fine, at_level}
 use Rattle.rules.specs.Store.{bad_store, bad_root, fetch_page}
@@ -19,7 +19,7 @@ use Rattle.memory_store.specs.Readable.{node_at}
 module _ (t : DatomOrd) (x : Extent) (s : List ℕ) (root : PageId) (lo hi : Datom) where
   -- nothing between the bounds
   pub under_nothing :
-      (is_less (t.cmp lo hi) && not (is_none root)) ≡ false → record { answer = start.Begun; cursor = cursor_of [] [] } ≡ start_under t x s root lo hi
+      (is_less (t.cmp lo hi) && not (is_none root)) ≡ false → record { answer = has_begun; cursor = cursor_of [] [] } ≡ start_under t x s root lo hi
   unfolding start_under
   under_nothing e = rw e
 

@@ -1,4 +1,5 @@
 -- The ways a start can end.
+use Rattle.answer.specs.Answers.{has_begun}
 use Rattle.std.specs.Prelude.{ℕ, suc, ◌+◌, ◌≤◌, List, [], ◌≡◌, refl, Result, Ok, Err, length}
 use Rattle.std.proofs.Common.{add-one, ◌∙◌}
 use Rattle.std.proofs.Math.Path.{sym}
@@ -9,7 +10,6 @@ use Rattle.answer.specs.declared.Damage.{Damage}
 use Rattle.answer.specs.declared.Fault.{Fault}
 use Rattle.answer.specs.declared.Refusal.{Refusal}
 use Rattle.answer.specs.declared.Refusal.TheVariants.{Damaged}
-use Rattle.answer.specs.declared.Start.TheVariants as start
 use Rattle.answer.specs.declared.Started.{Started}
 use Rattle.rules.specs.Listing.{Frame, Path, lost_at, path, cursor_of, eight, refuse_start, join_paths}
 use Rattle.listing.specs.declared.way.Way.{Way}
@@ -20,7 +20,7 @@ use Rattle.listing.specs.Fill.{filled}
 
 -- a start by the cursor it begins with, or by its refusal
 abbrev pub started_as : Result Cursor Refusal → Started
-started_as (Ok c) = record { answer = start.Begun; cursor = c }
+started_as (Ok c) = record { answer = has_begun; cursor = c }
 started_as (Err r) = refuse_start r
 
 -- a way that was lost, and one that came down
@@ -64,7 +64,7 @@ module _ (l : ℕ) (w v : Way) (d g : Result Way Damage) (b : Way) (o u : Path) 
   pub upper_lost : (q : PageId) (f : Fault) → g ≡ descent_of l v u → g ≡ lost q f → refuse_start (Damaged q f) ≡ join_paths o u
   upper_lost q f i h = rw D.there (lost_second l v g D.frames q f u i h)
 
-  pub both_down : (e : Way) → Down l v g e u → record { answer = start.Begun; cursor = cursor_of (frames_of (l + 1) b) (frames_of (l + 1) e) } ≡ join_paths o u
+  pub both_down : (e : Way) → Down l v g e u → record { answer = has_begun; cursor = cursor_of (frames_of (l + 1) b) (frames_of (l + 1) e) } ≡ join_paths o u
   unfolding join_paths
   both_down e G = rw (add-one, D.there, G.there, D.stand, G.stand)
 

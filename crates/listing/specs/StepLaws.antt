@@ -1,4 +1,5 @@
 -- The checks of a step, in their order.
+use Rattle.answer.specs.Answers.{ended_step}
 use Rattle.std.specs.Prelude.{ℕ, ◌<◌, ◌≤◌, true, false, List, ◌≡◌}
 use borrow.Author.Tests.{le-ltb, lt-ltb}
 use Rattle.store.specs.declared.Extent.{Extent}
@@ -7,7 +8,6 @@ use Rattle.index.specs.Order.{DatomOrd}
 use Rattle.answer.specs.declared.Fault.TheVariants.{TooHigh}
 use Rattle.answer.specs.declared.Refusal.TheVariants.{BadStore, Damaged}
 use Rattle.answer.specs.declared.Cursor.{Cursor}
-use Rattle.answer.specs.declared.Step.TheVariants as step
 use Rattle.rules.specs.Store.{bad_store, fetch_page}
 use Rattle.rules.specs.Listing.{begin_frames, end_frames, open_frames, same_indices, refuse_step, staying, onward, step_list}
 
@@ -22,7 +22,7 @@ module _ (t : DatomOrd) (x : Extent) (s : List ℕ) (c : Cursor) where
     step_tall h = rw (good, lt-ltb 8 c.height h)
 
     module _ (low : c.height ≤ 8) where
-      pub step_ended : same_indices (begin_frames c) (end_frames c) ≡ true → staying c step.Ended ≡ step_list t x s c
+      pub step_ended : same_indices (begin_frames c) (end_frames c) ≡ true → staying c ended_step ≡ step_list t x s c
       unfolding step_list
       step_ended e = rw (good, le-ltb 8 c.height low, e)
 

@@ -12,12 +12,10 @@ ghost use Rattle.listing.specs.Starts.{started_as};
 
 use crate::way::Way;
 use crate::{descent, way};
-use answer::{Cursor, Damage, Refusal, Start, Started};
+use answer::{Cursor, Damage, Refusal, Started};
 use datom::Datom;
 use index::Index;
-use std::cmp::Ordering;
 use memory_store::found;
-use ordered::Ordered;
 use store::{Extent, PageId, StoreRecord};
 
 // The cursor of two ends of this height.
@@ -58,7 +56,7 @@ pub fn refused(refusal: Refusal) -> Started
     ensures { result ≡ refuse_start refusal }
 {
     Started {
-        answer: Start::Refused(refusal),
+        answer: Err(refusal),
         cursor: nothing(),
     }
 }
@@ -69,7 +67,7 @@ fn started(begun: Result<Cursor, Refusal>) -> Started
 {
     match begun {
         Ok(cursor) => Started {
-            answer: Start::Begun,
+            answer: Ok(()),
             cursor,
         },
         Err(refusal) => refused(refusal),
@@ -101,11 +99,7 @@ fn start_at(
 fn is_any_between(root: PageId, lower: Datom, upper: Datom, by: Index, heap: &[u8]) -> bool
     ensures { result ≡ (is_less ((order_in by heap.now).cmp lower upper) && not (is_none root)) }
 {
-    match index::order_of(lower, upper, by, heap) {
-        Ordering::Less => !root.is_none(),
-        Ordering::Equal => false,
-        Ordering::Greater => false,
-    }
+    index::order_of(lower, upper, by, heap).is_lt() && !root.is_none()
 }
 
 // The root is read, and its level is where both ways begin.
@@ -170,13 +164,9 @@ fn begun(
 {
     let extent = recorded.extent();
     let bad = memory_store::is_bad(store, extent);
-    match ordered::order_in(recorded, bad, heap) {
-        Ordered::Refused(refusal) => Err(refusal),
-        Ordered::By(by) => {
-            let used = heap::used_of(heap, recorded.heap);
-            begun_in(store, extent, root, lower, upper, by, used)
-        }
-    }
+    let by = ordered::order_in(recorded, bad, heap)?;
+    let used = heap::used_of(heap, recorded.heap);
+    begun_in(store, extent, root, lower, upper, by, used)
 }
 
 // A cursor to the datoms from the lower bound on and below the upper.

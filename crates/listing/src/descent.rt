@@ -10,7 +10,7 @@ ghost use Rattle.rules.specs.Store.{bad_store, fetch_page};
 ghost use Rattle.listing.specs.Descent.{test_of, next_from, placed_of, descent_of, down_of};
 
 use crate::way::Way;
-use answer::{Damage, Fault, NextMidpoint};
+use answer::{Damage, Fault};
 use datom::Datom;
 use index::Index;
 use memory_store::{access, found};
@@ -20,7 +20,7 @@ use store::{Extent, PageId};
 #[derive(Clone, Copy)]
 struct Place {
     index: usize,
-    next: NextMidpoint,
+    next: Option<PageId>,
 }
 
 // The index in a page of k datoms: that of the first which is not below the bound, or 0 where there is none.
@@ -35,12 +35,12 @@ fn index_in(part: &[u8], k: usize, seek: Option<Datom>, by: Index, heap: &[u8]) 
 }
 
 // The first real child at or after an index. At level 0 a way ends, so the children there are not looked at.
-fn next_from(part: &[u8], level: usize, c: usize, k: usize, index: usize) -> NextMidpoint
+fn next_from(part: &[u8], level: usize, c: usize, k: usize, index: usize) -> Option<PageId>
     requires { (k ≤ c) × (40 * c + 8 ≤ length part.now) }
     ensures { result ≡ next_from level index (children_of c (suc k) part.now) }
 {
     if level == 0 {
-        return NextMidpoint::Nothing;
+        return None;
     }
     access::next_midpoint(part, c, k, index)
 }
@@ -90,7 +90,7 @@ pub fn descend(
         filled.indices[l] = place.index as u64;
         filled.pages[l] = p;
         if 0 < l {
-            let NextMidpoint::Child(child) = place.next else {
+            let Some(child) = place.next else {
                 return Err(Damage {
                     page: PageId::max(),
                     fault: Fault::Missing,

@@ -10,11 +10,10 @@ ghost use Rattle.listing.specs.Advance.{begin_of, advanced, yield_of, yielded_as
 
 use crate::way::Way;
 use crate::{begin, candidate, descent, opening, way};
-use answer::{Cursor, Damage, Fault, NextMidpoint, Refusal, Step, Stepped};
+use answer::{Cursor, Damage, Fault, Refusal, Stepped};
 use datom::Datom;
 use index::Index;
 use memory_store::access;
-use ordered::Ordered;
 use store::{Extent, PageId, StoreRecord};
 
 // The index of a level is taken. Beside a pending datom the levels below stay, behind a midpoint they are filled anew from the next child.
@@ -43,7 +42,7 @@ fn advance(
     if !access::is_midpoint_at(part, c, count, i) {
         return Ok(next);
     }
-    let NextMidpoint::Child(child) = access::next_midpoint(part, c, count, i + 1) else {
+    let Some(child) = access::next_midpoint(part, c, count, i + 1) else {
         return Err(Damage {
             page: PageId::max(),
             fault: Fault::Missing,
@@ -137,13 +136,9 @@ fn next(
 {
     let extent = recorded.extent();
     let bad = memory_store::is_bad(store, extent);
-    match ordered::order_in(recorded, bad, heap) {
-        Ordered::Refused(refusal) => Err(refusal),
-        Ordered::By(by) => {
-            let used = heap::used_of(heap, recorded.heap);
-            next_in(store, extent, cursor, by, used)
-        }
-    }
+    let by = ordered::order_in(recorded, bad, heap)?;
+    let used = heap::used_of(heap, recorded.heap);
+    next_in(store, extent, cursor, by, used)
 }
 
 // An ended or refused step returns its cursor as it was.
@@ -151,9 +146,9 @@ fn stepped(cursor: Cursor, next: Result<Option<Yielded>, Refusal>) -> Stepped
     ensures { result ≡ stepped_as cursor next }
 {
     let (answer, cursor) = match next {
-        Ok(Some(yielded)) => (Step::Yields(yielded.datom), yielded.cursor),
-        Ok(None) => (Step::Ended, cursor),
-        Err(refusal) => (Step::Refused(refusal), cursor),
+        Ok(Some(yielded)) => (Ok(Some(yielded.datom)), yielded.cursor),
+        Ok(None) => (Ok(None), cursor),
+        Err(refusal) => (Err(refusal), cursor),
     };
     Stepped { answer, cursor }
 }

@@ -1,4 +1,5 @@
 -- The gap that a datom's path leaves: the datoms above it whose paths run through the same pages.
+use Rattle.std.specs.Prelude.{Some}
 use Prim.Native.Nat.{ℕ, zero, suc, ◌+◌, ◌-◌, ◌*◌, ◌<◌, ◌≤◌, Ordering}
 use Rattle.std.proofs.Math.Nat.{add-zero}
 use native.Mathlib.Omega.{arith}
@@ -17,7 +18,6 @@ use Rattle.datom.specs.Laws.{datoms_from}
 use Rattle.index.specs.Order.{DatomOrd, is_less, is_same}
 use Rattle.index.proofs.Laws.{Preorder}
 use Rattle.answer.specs.declared.Fault.{Fault}
-use Rattle.answer.specs.declared.NextMidpoint.TheVariants.{Child}
 use Rattle.rules.specs.Page.{rising}
 use Rattle.rules.specs.Node.{rank_by, rank, head_same}
 use Rattle.rules.specs.Lists.{In, Rising, less, turned, rising_in, rank_most}
@@ -147,7 +147,7 @@ module _ {t : DatomOrd} (L : Preorder t.cmp) {x : Extent} {s : List ℕ} {d : Da
     free_at z = record { absent = λ y up i. way_absent t x s y p l k read (met_not y up i) z ∙ ap look_of (A.same y up (wider y up i)) }
 
     pub alike_down :
-        (l ≡ 0 → ⊥) → (c : PageId) → next_in t x s d p k ≡ Child c → (n : ℕ) → fetch_page t x s c ≡ fine (node_at x s c (l - 1) n) →
+        (l ≡ 0 → ⊥) → (c : PageId) → next_in t x s d p k ≡ Some c → (n : ℕ) → fetch_page t x s c ≡ fine (node_at x s c (l - 1) n) →
         Alike t x s d h top (gap_in t x s d g p k) (l - 1) c
     alike_down high c next n e =
         record {

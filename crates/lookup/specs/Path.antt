@@ -1,4 +1,5 @@
 -- What was read on the last path stays known, and a path on its way.
+use Rattle.std.specs.Prelude.{None, Option, Some}
 use Rattle.std.specs.Prelude.{ℕ, suc, ◌-◌, ◌<◌, ◌≤◌, Bool, true, false, List, ◌≡◌, refl, eqb, length, drop, get_or, set, replicate, Ok, Err}
 use Rattle.std.proofs.Common.{arith, sym, ap, ◌∙◌, eqb-true, length-set, get_or-set_same, get_or-set_other}
 use Rattle.std.proofs.lemmas.Bool.{eqb-false}
@@ -14,8 +15,6 @@ use Rattle.index.specs.Order.{DatomOrd}
 use Rattle.index.proofs.Laws.{Preorder}
 use Rattle.answer.specs.declared.Fault.{Fault}
 use Rattle.answer.specs.declared.Fault.TheVariants.{Missing}
-use Rattle.answer.specs.declared.NextMidpoint.{NextMidpoint}
-use Rattle.answer.specs.declared.NextMidpoint.TheVariants.{Child, Nothing}
 use Rattle.rules.specs.Page.{children_of}
 use Rattle.rules.specs.Node.{rank, head_same, next_midpoint}
 use Rattle.rules.specs.Tree.{fine, fetch_at}
@@ -108,7 +107,7 @@ module _ {t : DatomOrd} {x : Extent} {s : List ℕ} {d : Datom} {h : ℕ} {top :
     met_is e f u v = rw (← e, ← f) (sym u ∙ v)
 
     pub next_is :
-        {part : List ℕ} {i c : ℕ} {r b : NextMidpoint} → part ≡ page_at x s p → i ≡ rank t.cmp d (datoms_of k part) → c ≡ capacity x.size →
+        {part : List ℕ} {i c : ℕ} {r b : (Option PageId)} → part ≡ page_at x s p → i ≡ rank t.cmp d (datoms_of k part) → c ≡ capacity x.size →
         r ≡ next_midpoint (drop i (children_of c (suc k) part)) → r ≡ b → next_in t x s d p k ≡ b
     next_is e f cap u v = rw (← e, ← f, ← cap) (sym u ∙ v)
 
@@ -123,10 +122,10 @@ module _ {t : DatomOrd} {x : Extent} {s : List ℕ} {d : Datom} {h : ℕ} {top :
       going_free L z = free_at L g.alike k g.read z
 
       module _ (up : l ≡ 0 → ⊥) where
-        pub going_stuck : x.count ≤ none.0 → next_in t x s d p k ≡ Nothing → Lost none Missing ≡ look_of (path_of t x s d h top)
+        pub going_stuck : x.count ≤ none.0 → next_in t x s d p k ≡ None → Lost none Missing ≡ look_of (path_of t x s d h top)
         going_stuck few next = way_stuck t x s d p l k g.read other up few next ∙ ap look_of g.rest
 
-        module _ {c : PageId} (next : next_in t x s d p k ≡ Child c) where
+        module _ {c : PageId} (next : next_in t x s d p k ≡ Some c) where
           pub going_lost : {f : Fault} → Err f ≡ opened_of (fetch_at (env_of t x s) (l - 1) c) → Lost c f ≡ look_of (path_of t x s d h top)
           going_lost {f} e = way_lost t x s d p l k g.read other up c next f e ∙ ap look_of g.rest
 

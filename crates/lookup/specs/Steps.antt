@@ -1,4 +1,5 @@
 -- One page of a datom's path, and one datom of a batch.
+use Rattle.std.specs.Prelude.{None, Option, Some}
 use Prim.Native.Nat.{ℕ, zero, suc, ◌+◌, ◌-◌, ◌*◌, ◌<◌, ◌≤◌, Ordering}
 use Rattle.std.proofs.Common.{add-one, arith, sym, ap, ◌∙◌}
 use Rattle.std.specs.Prelude.{Bool, true, false, List, [], ◌∷◌, ◌≡◌, drop, Err}
@@ -16,8 +17,6 @@ use Rattle.index.specs.Order.{DatomOrd, is_same}
 use Rattle.answer.specs.declared.Fault.{Fault}
 use Rattle.answer.specs.declared.Fault.TheVariants.{Missing}
 use Rattle.answer.specs.declared.Refusal.TheVariants.{Repeated, Damaged}
-use Rattle.answer.specs.declared.NextMidpoint.{NextMidpoint}
-use Rattle.answer.specs.declared.NextMidpoint.TheVariants.{Child, Nothing}
 use Rattle.rules.specs.Page.{children_of, node_of}
 use Rattle.rules.specs.Node.{rank, head_same, next_midpoint}
 use Rattle.rules.specs.Tree.{Fetched, faulty, fine, Env, at_level, fetch_at}
@@ -62,7 +61,7 @@ seek_in t x s d p k = rank t.cmp d (datoms_of k (page_at x s p))
 abbrev pub met_in : DatomOrd → Extent → List ℕ → Datom → PageId → ℕ → Bool
 met_in t x s d p k = head_same t.cmp d (drop (seek_in t x s d p k) (datoms_of k (page_at x s p)))
 
-abbrev pub next_in : DatomOrd → Extent → List ℕ → Datom → PageId → ℕ → NextMidpoint
+abbrev pub next_in : DatomOrd → Extent → List ℕ → Datom → PageId → ℕ → (Option PageId)
 next_in t x s d p k = next_midpoint (drop (seek_in t x s d p k) (children_of (capacity x.size) (suc k) (page_at x s p)))
 
 -- the ways of a path through a page that was read
@@ -99,10 +98,10 @@ module _ (t : DatomOrd) (x : Extent) (s : List ℕ) (d : Datom) (p : PageId) (l 
           let e : l ≡ suc (l - 1) = omega arith in
           rw read (ap (λ (m : ℕ). lookup (env_of t x s) d m p (fine (node_at x s p l k))) e ∙ down_at c next (l - 1))
 
-      pub way_stuck : x.count ≤ none.0 → next_in t x s d p k ≡ Nothing → Lost none Missing ≡ look_of (path_of t x s d l p)
+      pub way_stuck : x.count ≤ none.0 → next_in t x s d p k ≡ None → Lost none Missing ≡ look_of (path_of t x s d l p)
       way_stuck h next = rw (down none (ap rules.child_of next)) (sym (lost_at_law _ d (l - 1) none Missing _ (none_lost t x s (l - 1) h)))
 
-      module _ (c : PageId) (next : next_in t x s d p k ≡ Child c) where
+      module _ (c : PageId) (next : next_in t x s d p k ≡ Some c) where
         pub way_lost : (f : Fault) → Err f ≡ opened_of (fetch_at (env_of t x s) (l - 1) c) → Lost c f ≡ look_of (path_of t x s d l p)
         way_lost f h = rw (down c (ap rules.child_of next)) (sym (lost_at_law _ d (l - 1) c f _ h))
 
@@ -110,14 +109,14 @@ module _ (t : DatomOrd) (x : Extent) (s : List ℕ) (d : Datom) (p : PageId) (l 
         way_down n h = sym (down c (ap rules.child_of next) ∙ ap (lookup (env_of t x s) d (l - 1) c) (at_its_level t x s c (l - 1) n h))
 
 -- a next midpoint is real
-pub next_real : (cs : List PageId) (c : PageId) → next_midpoint cs ≡ Child c → is_none c ≡ false
+pub next_real : (cs : List PageId) (c : PageId) → next_midpoint cs ≡ Some c → is_none c ≡ false
 unfolding next_midpoint
 next_real [] c e = absurd (apart (cc))
 next_real (y ∷ ys) c e = side (is_none y) refl (next_real ys c)
   where
-    side : (b : Bool) → is_none y ≡ b → (next_midpoint ys ≡ Child c → is_none c ≡ false) → is_none c ≡ false
+    side : (b : Bool) → is_none y ≡ b → (next_midpoint ys ≡ Some c → is_none c ≡ false) → is_none c ≡ false
     side true u ih = ih (rw (next_midpoint, u) at e)
-    side false u ih = let k : Child y ≡ Child c = rw (next_midpoint, u) at e in let same : y ≡ c = cc in rw (← same) u
+    side false u ih = let k : Some y ≡ Some c = rw (next_midpoint, u) at e in let same : y ≡ c = cc in rw (← same) u
 
 -- what follows a path
 module _ (i : ℕ) (q : rules.Finding) where

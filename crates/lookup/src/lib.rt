@@ -23,7 +23,7 @@ ghost use Rattle.lookup.specs.Path.{unread, Kept};
 ghost use Rattle.lookup.specs.Gap.{Leaves};
 
 use crate::gap::Gap;
-use answer::{Fault, NextMidpoint, Refusal};
+use answer::{Fault, Refusal};
 use batch::Finding;
 use datom::Datom;
 use index::Index;
@@ -143,7 +143,7 @@ fn lookup_one(
                 gap,
             };
         }
-        let NextMidpoint::Child(child) = access::next_midpoint(part, c, k, i) else {
+        let Some(child) = access::next_midpoint(part, c, k, i) else {
             return Looked {
                 look: Look::Lost(PageId::max(), Fault::Missing),
                 path,

@@ -1,4 +1,5 @@
 -- What the store's tests say, and where a page that is given lies.
+use Rattle.answer.specs.Answers.{page_given}
 use Rattle.std.specs.Prelude.{◌≡◌, ℕ, ◌+◌, ◌*◌, ◌/◌, ◌<◌, ◌≤◌, Bool, true, false, List, [], length, drop, ◌==◌, nat_lt, Ok, Err}
 use Rattle.std.proofs.Math.Decide.{dec_le}
 use Rattle.std.proofs.Common.{mul-le-mul_right, add-mul, one-mul, le-div_iff_mul-le, div-lt_iff_lt-mul, arith, sym, ◌∙◌, length-drop, length-take-le}
@@ -11,7 +12,6 @@ use Rattle.store.specs.Size.{capacity}
 use Rattle.store.specs.Laws.{apart, Known, known_size}
 use Rattle.answer.specs.declared.Refusal.{Refusal}
 use Rattle.answer.specs.declared.Refusal.TheVariants.{BadStore, NoPage}
-use Rattle.answer.specs.declared.Fetch.TheVariants.{Given, Refused}
 use Rattle.answer.specs.declared.Rule.{Rule}
 use Rattle.answer.specs.declared.Fault.TheVariants.{Missing, Breaks}
 use Rattle.index.specs.Order.{DatomOrd}
@@ -73,38 +73,38 @@ module _ (x : Extent) (root : PageId) where
 
 module _ (x : Extent) (s : List ℕ) (p : PageId) where
   -- the tests, in their order
-  pub fetch_bad : bad_store x s ≡ true → fetch_answer x s p ≡ Refused BadStore
+  pub fetch_bad : bad_store x s ≡ true → fetch_answer x s p ≡ Err BadStore
   unfolding fetch_answer fetch_fault
   fetch_bad h = rw h
 
-  pub fetch_past : bad_store x s ≡ false → x.count ≤ p.0 → fetch_answer x s p ≡ Refused NoPage
+  pub fetch_past : bad_store x s ≡ false → x.count ≤ p.0 → fetch_answer x s p ≡ Err NoPage
   unfolding fetch_answer fetch_fault
   fetch_past h k = rw (h, le-ltb p.0 x.count k)
 
-  pub fetch_given : bad_store x s ≡ false → p.0 < x.count → fetch_answer x s p ≡ Given
+  pub fetch_given : bad_store x s ≡ false → p.0 < x.count → fetch_answer x s p ≡ page_given
   unfolding fetch_answer fetch_fault
   fetch_given h k = rw (h, lt-ltb p.0 x.count k)
 
-  pub given : fetch_answer x s p ≡ Given → (bad_store x s ≡ false) × (p.0 < x.count)
+  pub given : fetch_answer x s p ≡ page_given → (bad_store x s ≡ false) × (p.0 < x.count)
   unfolding fetch_answer fetch_fault
   given e = side (bad_store x s) refl (nat_lt p.0 x.count) refl
     where
       side : (a : Bool) → bad_store x s ≡ a → (b : Bool) → nat_lt p.0 x.count ≡ b → (bad_store x s ≡ false) × (p.0 < x.count)
-      side true u b v = let k : Refused BadStore ≡ Given = rw u at e in absurd (apart (cc))
+      side true u b v = let k : Err BadStore ≡ page_given = rw u at e in absurd (apart (cc))
       side false u true v = (u, ltb-true p.0 x.count v)
-      side false u false v = let k : Refused NoPage ≡ Given = rw (u, v) at e in absurd (apart (cc))
+      side false u false v = let k : Err NoPage ≡ page_given = rw (u, v) at e in absurd (apart (cc))
 
-  pub given_fetched : fetch_answer x s p ≡ Given → fetched x s p ≡ page_at x s p
+  pub given_fetched : fetch_answer x s p ≡ page_given → fetched x s p ≡ page_at x s p
   unfolding fetched fetch_fault
   given_fetched e = let w = given e in rw (w.0, lt-ltb p.0 x.count w.1)
 
-  pub refused_fetched : (r : Refusal) → fetch_answer x s p ≡ Refused r → fetched x s p ≡ []
+  pub refused_fetched : (r : Refusal) → fetch_answer x s p ≡ Err r → fetched x s p ≡ []
   unfolding fetch_answer fetched fetch_fault
   refused_fetched r e = side (bad_store x s) refl (nat_lt p.0 x.count) refl
     where
       side : (a : Bool) → bad_store x s ≡ a → (b : Bool) → nat_lt p.0 x.count ≡ b → fetched x s p ≡ []
       side true u b v = rw u
-      side false u true v = let k : Given ≡ Refused r = rw (u, v) at e in absurd (apart (cc))
+      side false u true v = let k : page_given ≡ Err r = rw (u, v) at e in absurd (apart (cc))
       side false u false v = rw (u, v)
 
 -- "none" is no page, whatever the number of pages, which is a word

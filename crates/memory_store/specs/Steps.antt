@@ -1,4 +1,5 @@
 -- One step of each test along a list, as the reader's loops take it.
+use Rattle.std.specs.Prelude.{None, Some}
 use Rattle.std.specs.Prelude.{◌≡◌, ℕ, ◌+◌, ◌*◌, ◌%◌, ◌^◌, ◌<◌, ◌≤◌, Bool, true, false, ◌||◌, List, [], ◌∷◌, drop, ◌==◌, ◌≢◌, nat_le, nat_lt, refl, zero, suc, ◌-◌, ◌&&◌}
 use Prim.Native.Nat.{zero-le, Ordering}
 use Rattle.std.proofs.Math.Decide.{dec_le}
@@ -16,7 +17,6 @@ use Rattle.datom.specs.Value.{stored_value}
 use Rattle.datom.specs.Datom.{datom_at, datom_of, datoms_of, stored_datom}
 use Rattle.datom.specs.Laws.{datoms_from}
 use Rattle.index.specs.Order.{is_less}
-use Rattle.answer.specs.declared.NextMidpoint.TheVariants.{Child, Nothing}
 use Rattle.rules.specs.Page.{all, above, rising, older}
 use Rattle.rules.specs.Node.{next_midpoint}
 
@@ -121,10 +121,10 @@ pub next_on : {l : List PageId} {x : PageId} {r : List PageId} → l ≡ x ∷ r
 unfolding next_midpoint
 next_on e h = rw (e, next_midpoint, h)
 
-pub next_stop : {l : List PageId} {x : PageId} {r : List PageId} → l ≡ x ∷ r → is_none x ≡ false → next_midpoint l ≡ Child x
+pub next_stop : {l : List PageId} {x : PageId} {r : List PageId} → l ≡ x ∷ r → is_none x ≡ false → next_midpoint l ≡ Some x
 unfolding next_midpoint
 next_stop e h = rw (e, next_midpoint, h)
 
-pub next_end : (n i at : ℕ) (s : List ℕ) → n ≤ i → next_midpoint (drop i (cells page_of 8 n (drop at s))) ≡ Nothing
+pub next_end : (n i at : ℕ) (s : List ℕ) → n ≤ i → next_midpoint (drop i (cells page_of 8 n (drop at s))) ≡ None
 unfolding next_midpoint
 next_end n i at s h = rw (cells_end page_of 8 n i (drop at s) h)

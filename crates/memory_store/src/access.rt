@@ -6,10 +6,10 @@ ghost use Rattle.index.specs.Order.{order_in};
 ghost use Rattle.rules.specs.Page.{level_of, count_of, children_of, rising};
 ghost use Rattle.rules.specs.Node.{is_midpoint, next_midpoint, rank};
 
-use answer::NextMidpoint;
 use datom::Datom;
 use index::Index;
 use std::cmp::Ordering;
+use store::PageId;
 
 // The level that the header of a page with room for c datoms tells.
 pub fn level_of(s: &[u8], c: usize) -> usize
@@ -36,17 +36,17 @@ pub fn is_midpoint_at(s: &[u8], m: usize, n: usize, i: usize) -> bool
 }
 
 // The first real child at or after an index.
-pub fn next_midpoint(s: &[u8], m: usize, n: usize, from: usize) -> NextMidpoint
+pub fn next_midpoint(s: &[u8], m: usize, n: usize, from: usize) -> Option<PageId>
     requires { (n ≤ m) × (40 * m + 8 ≤ length s.now) }
     ensures { result ≡ next_midpoint (drop from (children_of m (suc n) s.now)) }
 {
     for i in from..n + 1 {
         let child = store::child_at(s, m, i);
         if !child.is_none() {
-            return NextMidpoint::Child(child);
+            return Some(child);
         }
     }
-    NextMidpoint::Nothing
+    None
 }
 
 // The index of the first of k rising datoms that is not below d, by halving. By hand, since `partition_point` is a method of a slice of

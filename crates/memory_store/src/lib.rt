@@ -10,7 +10,7 @@ pub mod writer;
 ghost use Rattle.std.specs.Prelude.{◌≡◌, ◌<◌, false};
 ghost use Rattle.rules.specs.Store.{bad_store, bad_root, fetch_answer, page_at, fetched};
 
-use answer::{Fetch, Refusal};
+use answer::Refusal;
 use store::{Extent, PageId};
 
 // Whether the page size is unknown or the pages in use exceed the slice. The slice's length is divided, so nothing can wrap.
@@ -33,16 +33,16 @@ pub fn is_bad_root(extent: Extent, root: PageId) -> bool
 }
 
 // Whether a fetch is refused, and why.
-pub fn fetch_refusal(store: &[u8], extent: Extent, page: PageId) -> Fetch
+pub fn fetch_refusal(store: &[u8], extent: Extent, page: PageId) -> Result<(), Refusal>
     ensures { result ≡ fetch_answer extent store.now page }
 {
     if is_bad(store, extent) {
-        return Fetch::Refused(Refusal::BadStore);
+        return Err(Refusal::BadStore);
     }
     if extent.count <= page.0 {
-        return Fetch::Refused(Refusal::NoPage);
+        return Err(Refusal::NoPage);
     }
-    Fetch::Given
+    Ok(())
 }
 
 // The page's own part of a store in order.
@@ -59,7 +59,7 @@ pub fn part_of(store: &[u8], extent: Extent, page: PageId) -> &[u8]
 pub fn fetch(store: &[u8], extent: Extent, page: PageId) -> &[u8]
     ensures { result.now ≡ fetched extent store.now page }
 {
-    let Fetch::Given = fetch_refusal(store, extent, page) else {
+    let Ok(()) = fetch_refusal(store, extent, page) else {
         return &store[0..0];
     };
     part_of(store, extent, page)

@@ -8,26 +8,16 @@ use answer::Refusal;
 use index::Index;
 use store::StoreRecord;
 
-// The order to go by, or why the call is refused.
-#[derive(Clone, Copy)]
-pub enum Ordered {
-    By(Index),
-    Refused(Refusal),
-}
-
-// The first of the record's own refusals, or its order: 1 where the heap is not as the record says, or where the caller found its pages or
+// The order to go by, or the first of the record's own refusals: 1 where the heap is not as the record says, or where the caller found its pages or
 // its scratch bad, and 13 straight after it.
-pub fn order_in(recorded: StoreRecord, bad: bool, heap: &[u8]) -> Ordered
+pub fn order_in(recorded: StoreRecord, bad: bool, heap: &[u8]) -> Result<Index, Refusal>
     ensures { result ≡ ordered recorded heap.now bad }
 {
     if heap::is_bad(heap, recorded.heap) {
-        return Ordered::Refused(Refusal::BadStore);
+        return Err(Refusal::BadStore);
     }
     if bad {
-        return Ordered::Refused(Refusal::BadStore);
+        return Err(Refusal::BadStore);
     }
-    match index::index_of(recorded.order) {
-        Some(by) => Ordered::By(by),
-        None => Ordered::Refused(Refusal::BadOrder),
-    }
+    index::index_of(recorded.order).ok_or(Refusal::BadOrder)
 }

@@ -8,7 +8,6 @@ ghost use Rattle.answer.specs.Table.{fetch_words};
 ghost use Rattle.rules.specs.Store.{fetch_answer};
 ghost use Rattle.probe.specs.Seen.{nothing, in_good_order, seen, shown, rule_of, level_of, count_of, word_of, child_of, next_of, first_of, order_of, wrote_of, rewritten};
 
-use answer::{Fetch, NextMidpoint};
 use index::Index;
 use memory_store::reader::Header;
 use std::cmp::Ordering;
@@ -92,8 +91,8 @@ fn next_in(bytes: &[u8], id: u64, from: usize, by: Index, heap: &[u8]) -> u64
     };
     let c = store::capacity_of(bytes.len() as u64);
     match memory_store::access::next_midpoint(bytes, c, header.count, from) {
-        NextMidpoint::Child(child) => child.0,
-        NextMidpoint::Nothing => NOTHING,
+        Some(child) => child.0,
+        None => NOTHING,
     }
 }
 
@@ -136,8 +135,8 @@ pub fn probe_fetch(store: &[u8], size: u64, count: u64, page: u64) -> u64
     ensures { result ≡ (fetch_words (fetch_answer (record { size = size; count = count }) store.now (record { 0 = page }))).number }
 {
     match memory_store::fetch_refusal(store, Extent { size, count }, PageId(page)) {
-        Fetch::Given => 0,
-        Fetch::Refused(refusal) => refusal.number(),
+        Ok(()) => 0,
+        Err(refusal) => refusal.number(),
     }
 }
 

@@ -9,7 +9,7 @@ ghost use Rattle.entry.specs.Reply.{Replies};
 ghost use Rattle.records.specs.Laid.{laid_count, Laid, first_of};
 ghost use Rattle.records.specs.Handed.{handed_length, handed_in, handed_bytes};
 
-use answer::Answer;
+use answer::{Done, Refusal};
 use datom::Datom;
 use store::{PageId, StoreRecord};
 
@@ -81,7 +81,7 @@ pub fn insert_laid(
     n: usize,
     s: &mut [u8],
     heap: &[u8],
-) -> Answer
+) -> Result<Done, Refusal>
     ensures { Replies (extent_of recorded) store.old store.new result (insert_bytes_call recorded store.old heap.now (length s.old) root (handed_bytes n s.old)) }
 {
     let mut b = [0u8; HANDED];
@@ -98,7 +98,7 @@ pub fn insert(
     batch: &[Datom],
     s: &mut [u8],
     heap: &[u8],
-) -> Answer
+) -> Result<Done, Refusal>
     ensures { Replies (extent_of recorded) store.old store.new result (insert_call recorded store.old heap.now (length s.old) root batch.now) }
 {
     lay(batch, s);
@@ -112,7 +112,7 @@ fn initialise_laid(
     n: usize,
     s: &mut [u8],
     heap: &[u8],
-) -> Answer
+) -> Result<Done, Refusal>
     ensures { Replies (extent_of recorded) store.old store.new result (initialise_bytes_call recorded store.old heap.now (length s.old) (handed_bytes n s.old)) }
 {
     let mut b = [0u8; HANDED];
@@ -128,7 +128,7 @@ pub fn initialise(
     batch: &[Datom],
     s: &mut [u8],
     heap: &[u8],
-) -> Answer
+) -> Result<Done, Refusal>
     ensures { Replies (extent_of recorded) store.old store.new result (initialise_call recorded store.old heap.now (length s.old) batch.now) }
 {
     lay(batch, s);
@@ -156,7 +156,7 @@ pub fn insert_array(
     n: usize,
     s: &mut [u8],
     heap: &[u8],
-) -> Answer
+) -> Result<Done, Refusal>
     ensures { Replies (extent_of recorded) store.old store.new result (insert_call recorded store.old heap.now (length s.old) root (first_of n batch)) }
 {
     lay_array(batch, n, s);

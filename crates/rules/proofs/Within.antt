@@ -1,7 +1,10 @@
 -- How much a call writes, on every input: no more pages than it may, all of them where it is NoRoom, and none where its refusal is one
 -- that comes before writing.
+use Rattle.answer.specs.Answers.{same_done}
+use Rattle.std.specs.Prelude.{Err}
+use Rattle.answer.specs.Answers.{done_with}
 use Prim.Native.Nat.{ℕ, zero, suc, ◌+◌, ◌*◌, ◌/◌, ◌≤◌, ◌<◌}
-use Rattle.std.proofs.Common.{le-div_iff_mul-le, length-append}
+use Rattle.std.proofs.Common.{sym, le-div_iff_mul-le, length-append}
 use native.Mathlib.Omega.{arith}
 use Rattle.std.specs.Prelude.{Bool, ◌&&◌, ◌≡◌}
 use Rattle.std.proofs.Math.Bool.{true, false}
@@ -22,7 +25,6 @@ use Rattle.answer.specs.declared.Fault.{Fault}
 use Rattle.answer.specs.declared.Fault.TheVariants.{EqualDatoms}
 use Rattle.answer.specs.declared.Refusal.{Refusal}
 use Rattle.answer.specs.declared.Refusal.TheVariants.{Damaged, NoRoom}
-use Rattle.answer.specs.declared.Answer.TheVariants.{Done, Refused}
 use Rattle.answer.specs.Table.{number_of}
 use Rattle.rules.specs.Page.{Node}
 use Rattle.rules.specs.Node.{meets, any_pending, split_parts}
@@ -136,9 +138,9 @@ module _ (e : Env) where
 pub record Writes (a : ℕ) (o : Outcome) : Type 0 where
   pub fits : length o.pages ≤ a
   -- "Done carries the root and the number of pages written."
-  pub counted : (root : PageId) (n : ℕ) → o.answer ≡ Done root n → n ≡ length o.pages
+  pub counted : (root : PageId) (n : ℕ) → o.answer ≡ done_with root n → n ≡ length o.pages
   -- what is refused before anything is written
-  pub early : (r : Refusal) → o.answer ≡ Refused r → (Late r → ⊥) → o.pages ≡ []
+  pub early : (r : Refusal) → o.answer ≡ Err r → (Late r → ⊥) → o.pages ≡ []
 
 refuse_writes : (a : ℕ) (r : Refusal) → Writes a (refuse r)
 refuse_writes a r = record { fits = omega arith; counted = λ root n e. absurd (apart (cc)); early = λ q e l. refl }
@@ -149,7 +151,7 @@ check_writes a (found r) rest w = refuse_writes a r
 
 stage_writes : (a : ℕ) (st : Stage PageId) → Within a st → Writes a (outcome st)
 unfolding outcome
-stage_writes a (go root o) w = record { fits = w; counted = λ r n e. cc; early = λ r e l. absurd (apart (cc)) }
+stage_writes a (go root o) w = record { fits = w; counted = λ r n e. sym (same_done e).1; early = λ r e l. absurd (apart (cc)) }
 stage_writes a (stop r o) w =
     record {
       fits = w.0;
@@ -217,7 +219,7 @@ module _ (t : DatomOrd) (x : Extent) (s : List ℕ) where
 
   module _ (o : Outcome) (w : Writes allowed o) where
     -- "1 to 6 and 10 change no byte of the store."
-    pub early_unchanged : (r : Refusal) → o.answer ≡ Refused r → (Late r → ⊥) → store_after x s o.pages ≡ s
+    pub early_unchanged : (r : Refusal) → o.answer ≡ Err r → (Late r → ⊥) → store_after x s o.pages ≡ s
     unfolding store_after spread
     early_unchanged r e l = rw (w.early r e l) (patch_none s (x.count * x.size))
 

@@ -1,4 +1,6 @@
 -- Document 02, Two: appends to the constant heap, "a lent slice growing by 8-byte words". What one answers, and what it stores.
+use Rattle.std.specs.Prelude.{Err}
+use Rattle.answer.specs.Answers.{Append, stored_as}
 use Rattle.std.specs.Prelude.{ℕ, ◌+◌, ◌^◌, Bool, ◌||◌, List, [], ◌++◌, leb, ltb, length}
 use Rattle.store.specs.Words.{bytes_of, pad, patch}
 unfoldable pub use Rattle.heap.specs.Constant.{bad_heap}
@@ -6,8 +8,6 @@ use Rattle.heap.specs.Constant.{up_to8}
 use Rattle.datom.specs.declared.Value.{Value}
 use Rattle.answer.specs.declared.Refusal.{Refusal}
 use Rattle.answer.specs.declared.Refusal.TheVariants.{BadStore, BadConstant, HeapFull}
-use Rattle.answer.specs.declared.Append.{Append}
-use Rattle.answer.specs.declared.Append.TheVariants.{Stored, Refused}
 use Rattle.rules.specs.Lookup.{Finding, found}
 use Rattle.rules.specs.Store.{refuse_if, or_else}
 
@@ -36,7 +36,7 @@ pub record Appending : Type 0 where
 
 -- "both write nothing"
 abbrev pub refuse_append : Refusal → Appending
-refuse_append r = record { answer = Refused r; bytes = [] }
+refuse_append r = record { answer = Err r; bytes = [] }
 
 -- a constant of bytes c behind the heap length: refusals 1, 11 ("with index 0 for an append of content that has an inline form"), 12
 unfoldable pub append_fault : List ℕ → ℕ → Bool → List ℕ → Finding
@@ -47,7 +47,7 @@ append_fault h n inline c =
 
 unfoldable pub append_constant : List ℕ → ℕ → Bool → ℕ → List ℕ → Appending
 append_constant h n inline tag c =
-    or_else refuse_append (append_fault h n inline c) (record { answer = Stored (naming tag n) (length c); bytes = c })
+    or_else refuse_append (append_fault h n inline c) (record { answer = stored_as (naming tag n) (length c); bytes = c })
 
 -- "Heap integers are 2^62 or more, heap strings 8 bytes or more, so content never has both an inline and a heap form."
 unfoldable pub append_word : List ℕ → ℕ → ℕ → Appending

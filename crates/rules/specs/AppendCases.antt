@@ -1,9 +1,9 @@
 -- Appends that the rules compute, one for each sentence of document 02, Two, that speaks of them.
+use Rattle.answer.specs.Answers.{stored_as}
 use Rattle.std.specs.Prelude.{ℕ, ◌+◌, ◌-◌, ◌^◌, List, [], ◌∷◌, ◌++◌, ◌≡◌, refl, replicate, take}
 use Rattle.store.specs.Words.{zeros}
 use Rattle.heap.specs.Constant.{bytes_at}
 use Rattle.answer.specs.declared.Refusal.TheVariants.{BadStore, BadConstant, HeapFull}
-use Rattle.answer.specs.declared.Append.TheVariants.{Stored}
 use Rattle.answer.specs.Table.{append_words}
 use Rattle.rules.specs.Append.{naming, bytes_tag, refuse_append, append_word, append_text, heap_after}
 use Rattle.rules.specs.Open.{rules}
@@ -63,7 +63,7 @@ unfolding rules
 inline_bytes = refl
 
 -- "12 HeapFull for an append that does not fit": the last that fits, and the first that does not
-fits_exactly : (append_text slice 8 (ones 24)).answer ≡ Stored (naming bytes_tag 8) 32
+fits_exactly : (append_text slice 8 (ones 24)).answer ≡ stored_as (naming bytes_tag 8) 32
 unfolding rules
 fits_exactly = refl
 

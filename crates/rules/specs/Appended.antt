@@ -1,4 +1,7 @@
 -- What an append leaves: "The heap only grows", and the constant stands where the value says.
+use Rattle.answer.specs.Answers.{same_stored}
+use Rattle.std.specs.Prelude.{Err}
+use Rattle.answer.specs.Answers.{stored_as}
 use Rattle.std.specs.Prelude.{ℕ, zero, suc, ◌+◌, ◌-◌, ◌%◌, ◌^◌, ◌≤◌, ◌<◌, Bool, ◌||◌, ◌≡◌, leb, ltb, take}
 use Rattle.std.proofs.Common.{arith, ◌∙◌, length-append, drop-drop}
 use Rattle.std.proofs.Math.Bool.{true, false}
@@ -16,7 +19,6 @@ use Rattle.heap.specs.Constant.{up_to8, all_zero, word_there, bytes_there, integ
 use Rattle.datom.specs.declared.Value.{Value}
 use Rattle.answer.specs.declared.Refusal.{Refusal}
 use Rattle.answer.specs.declared.Refusal.TheVariants.{BadStore, BadConstant, HeapFull}
-use Rattle.answer.specs.declared.Append.TheVariants.{Stored, Refused}
 use Rattle.rules.specs.Append.{bad_heap, heap_full, constant_bytes, int_tag, bytes_tag, naming, Appending, refuse_append, append_fault, append_constant, append_word, append_text, heap_after}
 
 neither : (a b : Bool) → (a || b) ≡ false → (a ≡ false) × (b ≡ false)
@@ -48,7 +50,7 @@ data Way (h : List ℕ) (n : ℕ) (inline : Bool) (tag : ℕ) (c : List ℕ) : A
   not_stored : (r : Refusal) → Way h n inline tag c (refuse_append r)
   is_stored :
       bad_heap n h ≡ false → inline ≡ false → heap_full h n (length c) ≡ false →
-      Way h n inline tag c (record { answer = Stored (naming tag n) (length c); bytes = c })
+      Way h n inline tag c (record { answer = stored_as (naming tag n) (length c); bytes = c })
 
 module _ (h : List ℕ) (n : ℕ) (tag : ℕ) (c : List ℕ) where
   way : (inline : Bool) → Way h n inline tag c (append_constant h n inline tag c)
@@ -78,11 +80,11 @@ pub record Keeps (h : List ℕ) (n : ℕ) (a : Appending) : Type 0 where
   pub below : take n (heap_after h n a) ≡ take n h
   pub past : drop (n + length a.bytes) (heap_after h n a) ≡ drop (n + length a.bytes) h
   pub slice : length (heap_after h n a) ≡ length h
-  pub refused : (r : Refusal) → a.answer ≡ Refused r → heap_after h n a ≡ h
-  pub counted : (v : Value) (k : ℕ) → a.answer ≡ Stored v k → k ≡ length a.bytes
-  pub whole : (v : Value) (k : ℕ) → a.answer ≡ Stored v k → (k % 8 ≡ 0) × (0 < k)
-  pub good : (v : Value) (k : ℕ) → a.answer ≡ Stored v k → bad_heap (n + k) (heap_after h n a) ≡ false
-  pub more : (v : Value) (k : ℕ) → a.answer ≡ Stored v k → take (n + k) (heap_after h n a) ≡ take n h ++ a.bytes
+  pub refused : (r : Refusal) → a.answer ≡ Err r → heap_after h n a ≡ h
+  pub counted : (v : Value) (k : ℕ) → a.answer ≡ stored_as v k → k ≡ length a.bytes
+  pub whole : (v : Value) (k : ℕ) → a.answer ≡ stored_as v k → (k % 8 ≡ 0) × (0 < k)
+  pub good : (v : Value) (k : ℕ) → a.answer ≡ stored_as v k → bad_heap (n + k) (heap_after h n a) ≡ false
+  pub more : (v : Value) (k : ℕ) → a.answer ≡ stored_as v k → take (n + k) (heap_after h n a) ≡ take n h ++ a.bytes
 
 -- what is stored, and the heap that has grown by it
 record Grown (h : List ℕ) (n tag : ℕ) (c : List ℕ) (inline : Bool) (v : Value) (k : ℕ) (a : Appending) : Type 0 where
@@ -124,23 +126,23 @@ module _ (h : List ℕ) (n : ℕ) (inline : Bool) (tag : ℕ) (c : List ℕ) whe
             past = drop_patch_le h n c (n + length c) (omega arith) r.1;
             slice = m;
             refused = λ r e. absurd (apart (cc));
-            counted = λ v k e. cc;
-            whole = λ v k e. let x : k ≡ length c = cc in (rw x z, rw x s);
-            good = λ v k e. let x : k ≡ length c = cc in rw x (heap_good (n + length c) (patch h n c) (omega arith) (omega (arith, l.1)));
-            more = λ v k e. let x : k ≡ length c = cc in rw x (front l.0);
+            counted = λ v k e. sym (same_stored e).1;
+            whole = λ v k e. let x : k ≡ length c = sym (same_stored e).1 in (rw x z, rw x s);
+            good = λ v k e. let x : k ≡ length c = sym (same_stored e).1 in rw x (heap_good (n + length c) (patch h n c) (omega arith) (omega (arith, l.1)));
+            more = λ v k e. let x : k ≡ length c = sym (same_stored e).1 in rw x (front l.0);
           }
 
   module _ (v : Value) (k : ℕ) where
-    grown : (append_constant h n inline tag c).answer ≡ Stored v k → Grown h n tag c inline v k (append_constant h n inline tag c)
+    grown : (append_constant h n inline tag c).answer ≡ stored_as v k → Grown h n tag c inline v k (append_constant h n inline tag c)
     unfolding heap_after
     grown e = side (way h n tag c inline) e
       where
-        side : {a : Appending} → Way h n inline tag c a → a.answer ≡ Stored v k → Grown h n tag c inline v k a
+        side : {a : Appending} → Way h n inline tag c a → a.answer ≡ stored_as v k → Grown h n tag c inline v k a
         side (not_stored q) e = absurd (apart (cc))
         side (is_stored g i f) e =
             let l = heap_in n h g in
-            let m : k ≡ length c = cc in
-            let u : v ≡ naming tag n = cc in
+            let m : k ≡ length c = sym (same_stored e).1 in
+            let u : v ≡ naming tag n = sym (same_stored e).0 in
             record {
               value = u;
               bytes = m;
@@ -247,7 +249,7 @@ module _ (h : List ℕ) (n : ℕ) where
 
   module _ (v : Value) (k : ℕ) where
     pub word_stored :
-        (w : ℕ) → w < 2 ^ 64 → (append_word h n w).answer ≡ Stored v k → WordStored n w v k (take (n + k) (heap_after h n (append_word h n w)))
+        (w : ℕ) → w < 2 ^ 64 → (append_word h n w).answer ≡ stored_as v k → WordStored n w v k (take (n + k) (heap_after h n (append_word h n w)))
     unfolding append_word up_to8
     word_stored w word e =
         let G = grown h n (ltb w (2 ^ 62)) int_tag (constant_bytes w []) v k e in
@@ -262,7 +264,7 @@ module _ (h : List ℕ) (n : ℕ) where
         }
 
     pub text_stored :
-        (b : List ℕ) → length b < 2 ^ 64 → (append_text h n b).answer ≡ Stored v k → TextStored n b v k (take (n + k) (heap_after h n (append_text h n b)))
+        (b : List ℕ) → length b < 2 ^ 64 → (append_text h n b).answer ≡ stored_as v k → TextStored n b v k (take (n + k) (heap_after h n (append_text h n b)))
     unfolding append_text
     text_stored b word e =
         let G = grown h n (ltb (length b) 8) bytes_tag (constant_bytes (length b) b) v k e in

@@ -1,5 +1,8 @@
 -- The calls, of the store's record and what is lent with it: store, then heap. The record's own refusals come first, and the order of the
 -- tree is the one that the record names, by the heap in use.
+use Rattle.std.specs.Prelude.{Ok}
+use Rattle.std.specs.Prelude.{Err}
+use Rattle.answer.specs.Answers.{Answer, Append, Check, Held, done_with, stored_as, unchecked}
 use Rattle.std.specs.Prelude.{ℕ, ◌+◌, Bool, true, false, ◌||◌, List, take}
 use Rattle.store.specs.declared.PageId.{PageId}
 use Rattle.store.specs.declared.StoreRecord.{StoreRecord}
@@ -10,14 +13,6 @@ use Rattle.index.specs.declared.Index.TheVariants.{Eavt}
 use Rattle.std.specs.Prelude.{Option, Some, None}
 use Rattle.index.specs.Order.{DatomOrd, index_of, order_in}
 use Rattle.answer.specs.declared.Refusal.TheVariants.{BadStore, BadOrder}
-use Rattle.answer.specs.declared.Answer.{Answer}
-use Rattle.answer.specs.declared.Answer.TheVariants as answer
-use Rattle.answer.specs.declared.Append.{Append}
-use Rattle.answer.specs.declared.Append.TheVariants as append
-use Rattle.answer.specs.declared.Check.{Check}
-use Rattle.answer.specs.declared.Check.TheVariants as check
-use Rattle.answer.specs.declared.Held.{Held}
-use Rattle.answer.specs.declared.Held.TheVariants as held
 use Rattle.answer.specs.declared.Cursor.{Cursor}
 use Rattle.answer.specs.declared.Started.{Started}
 use Rattle.answer.specs.declared.Stepped.{Stepped}
@@ -64,12 +59,12 @@ bad_room r s scratch = bad_store (extent_of r) s || bad_scratch (extent_of r) sc
 
 -- the record that the next call is handed: more pages after an insert or an initialise, more of the heap after an append
 abbrev pub record_after : StoreRecord → Answer → StoreRecord
-record_after r (answer.Done root n) = record { size = r.size; count = r.count + n; heap = r.heap; order = r.order }
-record_after r (answer.Refused f) = r
+record_after r (Ok d) = record { size = r.size; count = r.count + d.pages; heap = r.heap; order = r.order }
+record_after r (Err f) = r
 
 abbrev pub record_grown : StoreRecord → Append → StoreRecord
-record_grown r (append.Stored v k) = record { size = r.size; count = r.count; heap = r.heap + k; order = r.order }
-record_grown r (append.Refused f) = r
+record_grown r (Ok s) = record { size = r.size; count = r.count; heap = r.heap + s.bytes; order = r.order }
+record_grown r (Err f) = r
 
 -- an insert and an initialise of datoms, and of bytes
 unfoldable pub insert_call : StoreRecord → List ℕ → List ℕ → ℕ → PageId → List Datom → Outcome
@@ -86,7 +81,7 @@ initialise_bytes_call r s h scratch b = or_else refuse (record_fault r h (bad_ro
 
 -- whether a tree holds a batch
 unfoldable pub held_call : StoreRecord → List ℕ → List ℕ → PageId → List ℕ → Held
-held_call r s h root b = or_else held.Refused (record_fault r h (bad_pages r s)) (held_bytes (ord_of r h) (extent_of r) s root b)
+held_call r s h root b = or_else Err (record_fault r h (bad_pages r s)) (held_bytes (ord_of r h) (extent_of r) s root b)
 
 -- a listing, and a step of it
 unfoldable pub start_call : StoreRecord → List ℕ → List ℕ → PageId → Datom → Datom → Started
@@ -97,4 +92,4 @@ step_call r s h c = or_else (refuse_step c) (record_fault r h (bad_pages r s)) (
 
 -- the check of a tree
 unfoldable pub check_call : StoreRecord → List ℕ → List ℕ → PageId → Check
-check_call r s h root = or_else check.Refused (record_fault r h (bad_pages r s)) (check_tree (ord_of r h) (extent_of r) s root)
+check_call r s h root = or_else unchecked (record_fault r h (bad_pages r s)) (check_tree (ord_of r h) (extent_of r) s root)

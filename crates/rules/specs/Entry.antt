@@ -1,11 +1,11 @@
 -- "A second entry is called from the C++ replicator with numbers and byte slices": what it returns, and what it leaves.
+use Rattle.answer.specs.Answers.{Answer}
 use Rattle.std.specs.Prelude.{ℕ, cond, List, [], ◌∷◌, eqb, length}
 use Rattle.store.specs.declared.PageId.{PageId}
 use Rattle.store.specs.declared.Extent.{Extent}
 use Rattle.store.specs.declared.StoreRecord.{StoreRecord}
 use Rattle.store.specs.Words.{bytes_of, spread}
 use Rattle.store.specs.Page.{none}
-use Rattle.answer.specs.declared.Answer.{Answer}
 use Rattle.answer.specs.Table.{Words, answer_words, named_answer}
 use Rattle.rules.specs.Store.{store_after}
 use Rattle.rules.specs.Insert.{Outcome}

@@ -1,5 +1,7 @@
 -- More cases that the rules compute: listings between bounds at new and old roots, the reader's rules one by one, the checks, which page is
 -- not written and why, and the four words. Each stands for a sentence of document 01 that no starred example shows.
+use Rattle.std.specs.Prelude.{Err, Ok}
+use Rattle.answer.specs.Answers.{is_sound, unchecked, unsound_at}
 use Prim.Native.Nat.{Ordering}
 use Rattle.std.specs.Prelude.{ℕ, List, [], ◌∷◌, ◌++◌, ◌≡◌, refl, replicate, set}
 use Rattle.store.specs.declared.PageId.{PageId}
@@ -11,9 +13,6 @@ use Rattle.datom.specs.declared.Datom.{Datom}
 use Rattle.answer.specs.declared.Fault.TheVariants.{Missing, Breaks, OutOfBounds}
 use Rattle.answer.specs.declared.Rule.TheVariants.{Level, Count, Form, Order, LeafChild, LastChild, ChildId}
 use Rattle.answer.specs.declared.Refusal.TheVariants.{BadStore, NoPage, Damaged, TooTall, NoRoom, BadOrder}
-use Rattle.answer.specs.declared.Answer.TheVariants.{Refused}
-use Rattle.answer.specs.declared.Check.TheVariants.{Sound, Unsound}
-use Rattle.answer.specs.declared.Check.TheVariants as check
 use Rattle.rules.specs.Page.{Node, Read, broken, good, read_page, encode_page}
 use Rattle.rules.specs.Tree.{faulty, Env, stop, go, put}
 use Rattle.rules.specs.Insert.{insert, insert_bytes}
@@ -55,15 +54,15 @@ unfolding rules
 refused_root = refl
 
 -- the check at a root, at none, and where a leaf stands outside its bounds: d4, the first above the midpoint d3, gets entity 1
-checks_sound : check_tree eavt e.extent e.store (page 3) ≡ Sound
+checks_sound : check_tree eavt e.extent e.store (page 3) ≡ is_sound
 unfolding rules
 checks_sound = refl
 
-checks_none : check_tree eavt e.extent e.store none ≡ Sound
+checks_none : check_tree eavt e.extent e.store none ≡ is_sound
 unfolding rules
 checks_none = refl
 
-checks_bounds : check_tree eavt e.extent (set e.store 256 1) (page 3) ≡ Unsound (page 1) OutOfBounds
+checks_bounds : check_tree eavt e.extent (set e.store 256 1) (page 3) ≡ unsound_at (page 1) OutOfBounds
 unfolding rules
 checks_bounds = refl
 
@@ -115,7 +114,7 @@ reads_past = refl
 -- an insert names the page and the rule; refused before it writes, it has written none
 damaged :
     insert eavt (record { size = 256; count = 1 }) (set leaf_page 249 7 ++ zeros 256) scratch (page 0) (run 9 1)
-    ≡ record { answer = Refused (Damaged (page 0) (Breaks Count)); pages = [] }
+    ≡ record { answer = Err (Damaged (page 0) (Breaks Count)); pages = [] }
 unfolding rules
 damaged = refl
 
@@ -147,7 +146,7 @@ unfolding put
 tall_first = refl
 
 -- refusals in the table's order: a bad store goes before bytes that are no datoms and a root that is no page
-store_first : insert_bytes eavt (record { size = 257; count = 0 }) [] scratch (page 5) (0 ∷ []) ≡ record { answer = Refused BadStore; pages = [] }
+store_first : insert_bytes eavt (record { size = 257; count = 0 }) [] scratch (page 5) (0 ∷ []) ≡ record { answer = Err BadStore; pages = [] }
 unfolding rules
 store_first = refl
 
@@ -160,19 +159,19 @@ record_of x = record { size = x.size; count = x.count; heap = 0; order = 0 }
 abbrev unordered : ℕ → StoreRecord
 unordered size = record { size = size; count = 0; heap = 0; order = 3 }
 
-bad_size_first : check_call (unordered 257) [] [] (page 5) ≡ check.Refused BadStore
+bad_size_first : check_call (unordered 257) [] [] (page 5) ≡ unchecked BadStore
 unfolding rules
 bad_size_first = refl
 
-scratch_first : insert_bytes_call (unordered 256) [] [] 7 (page 5) (0 ∷ []) ≡ record { answer = Refused BadStore; pages = [] }
+scratch_first : insert_bytes_call (unordered 256) [] [] 7 (page 5) (0 ∷ []) ≡ record { answer = Err BadStore; pages = [] }
 unfolding rules
 scratch_first = refl
 
-order_before_batch : insert_bytes_call (unordered 256) [] [] scratch (page 5) (0 ∷ []) ≡ record { answer = Refused BadOrder; pages = [] }
+order_before_batch : insert_bytes_call (unordered 256) [] [] scratch (page 5) (0 ∷ []) ≡ record { answer = Err BadOrder; pages = [] }
 unfolding rules
 order_before_batch = refl
 
-order_before_root : check_call (unordered 256) [] [] (page 5) ≡ check.Refused BadOrder
+order_before_root : check_call (unordered 256) [] [] (page 5) ≡ unchecked BadOrder
 unfolding rules
 order_before_root = refl
 

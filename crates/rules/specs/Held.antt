@@ -1,5 +1,7 @@
 -- Whether a tree holds all datoms of a batch: Repeated says that it holds one, and not that it holds all. Document 02, Ten, has the
 -- question within a run of the feed: "skipped if the tree holds all its datoms"; here it is a call of its own.
+use Rattle.std.specs.Prelude.{Err, Ok}
+use Rattle.answer.specs.Answers.{Held, all_held}
 use Rattle.std.specs.Prelude.{ℕ, suc, cond, List, [], ◌∷◌}
 use Rattle.store.specs.declared.PageId.{PageId}
 use Rattle.store.specs.declared.Extent.{Extent}
@@ -7,8 +9,6 @@ use Rattle.store.specs.Page.{is_none}
 use Rattle.datom.specs.declared.Datom.{Datom}
 use Rattle.index.specs.Order.{DatomOrd}
 use Rattle.answer.specs.declared.Refusal.TheVariants.{BadStore, Damaged, NotHeld}
-use Rattle.answer.specs.declared.Held.{Held}
-use Rattle.answer.specs.declared.Held.TheVariants.{All, Refused}
 use Rattle.rules.specs.Tree.{Fetched, faulty, fine, Env}
 use Rattle.rules.specs.Lookup.{Look, met, absent, lost, lookup, Finding, clear, found}
 use Rattle.rules.specs.Store.{refuse_if, or_else, bad_store, fetch_page, env_of}
@@ -52,4 +52,4 @@ held_fault t x s root b =
 
 -- the answer to a batch of bytes
 unfoldable pub held_bytes : DatomOrd → Extent → List ℕ → PageId → List ℕ → Held
-held_bytes t x s root b = or_else Refused (held_fault t x s root b) All
+held_bytes t x s root b = or_else Err (held_fault t x s root b) all_held

@@ -1,4 +1,6 @@
 -- Insert and initialise: the answer, with the pages written in order.
+use Rattle.std.specs.Prelude.{Err}
+use Rattle.answer.specs.Answers.{Answer, done_with}
 use Prim.Native.Nat.{ℕ, suc, ◌/◌, ◌%◌, Ordering}
 use Rattle.std.specs.Prelude.{Bool, false, ◌||◌, not, cond, List, [], ◌∷◌, ltb, eqb, length, replicate}
 use Rattle.store.specs.declared.PageId.{PageId}
@@ -9,8 +11,6 @@ use Rattle.datom.specs.Datom.{datoms_of}
 use Rattle.index.specs.Order.{DatomOrd, is_less, is_same}
 use Rattle.answer.specs.declared.Refusal.{Refusal}
 use Rattle.answer.specs.declared.Refusal.TheVariants.{BadStore, TooMany, BadDatom, BadConstant, OutOfOrder, NoPage, Damaged}
-use Rattle.answer.specs.declared.Answer.{Answer}
-use Rattle.answer.specs.declared.Answer.TheVariants.{Done, Refused}
 use Rattle.rules.specs.Page.{Node}
 use Rattle.rules.specs.Tree.{Fetched, faulty, fine, Env, Stage, stop, go, write_root, insert_tree}
 use Rattle.rules.specs.Lookup.{Finding, clear, found, lookup_all}
@@ -23,12 +23,12 @@ pub record Outcome : Type 0 where
 
 -- a refusal before anything is written
 abbrev pub refuse : Refusal → Outcome
-refuse r = record { answer = Refused r; pages = [] }
+refuse r = record { answer = Err r; pages = [] }
 
 -- "Done carries the root and the number of pages written."
 unfoldable pub outcome : Stage PageId → Outcome
-outcome (stop r o) = record { answer = Refused r; pages = o }
-outcome (go root o) = record { answer = Done root (length o); pages = o }
+outcome (stop r o) = record { answer = Err r; pages = o }
+outcome (go root o) = record { answer = done_with root (length o); pages = o }
 
 -- 1
 unfoldable pub store_fault : Extent → List ℕ → ℕ → Finding

@@ -1,4 +1,6 @@
 -- "Listing": the start of a cursor, and a step. Frames stand from the root down; a cursor's eight places are written from them.
+use Rattle.std.specs.Prelude.{Err, Ok, Some, None}
+use Rattle.answer.specs.Answers.{Step, ended_step, has_begun, yielding}
 use Prim.Native.Nat.{ℕ, zero, suc, ◌-◌, Ordering}
 use Rattle.std.specs.Prelude.{Bool, true, false, ◌&&◌, not, cond, List, [], ◌∷◌, ◌++◌, map, reverse, leb, ltb, eqb, length, drop, get_or, replicate}
 use Rattle.store.specs.declared.PageId.{PageId}
@@ -12,10 +14,7 @@ use Rattle.answer.specs.declared.Refusal.{Refusal}
 use Rattle.answer.specs.declared.Refusal.TheVariants.{BadStore, BadBound, NoPage, Damaged}
 use Rattle.answer.specs.declared.Cursor.{Cursor}
 use Rattle.answer.specs.declared.Started.{Started}
-use Rattle.answer.specs.declared.Start.TheVariants as start
 use Rattle.answer.specs.declared.Stepped.{Stepped}
-use Rattle.answer.specs.declared.Step.{Step}
-use Rattle.answer.specs.declared.Step.TheVariants as step
 use Rattle.rules.specs.Page.{Node}
 use Rattle.rules.specs.Node.{rank_by, below, is_midpoint, next_midpoint}
 use Rattle.rules.specs.Tree.{Fetched, faulty, fine, at_level}
@@ -79,13 +78,13 @@ path_by fetch p (suc l) q (fine n) =
 
 -- a refused start: its cursor has ended
 abbrev pub refuse_start : Refusal → Started
-refuse_start r = record { answer = start.Refused r; cursor = cursor_of [] [] }
+refuse_start r = record { answer = Err r; cursor = cursor_of [] [] }
 
 -- "Starting takes each bound down to level 0 as `find` does, the lower first; an equal datom does not stop it."
 unfoldable pub join_paths : Path → Path → Started
 join_paths (lost_at q f) es = refuse_start (Damaged q f)
 join_paths (path bs) (lost_at q f) = refuse_start (Damaged q f)
-join_paths (path bs) (path es) = record { answer = start.Begun; cursor = cursor_of bs es }
+join_paths (path bs) (path es) = record { answer = has_begun; cursor = cursor_of bs es }
 
 unfoldable pub start_at : (Datom → Datom → Ordering) → (PageId → Fetched) → PageId → Datom → Datom → Fetched → Started
 start_at cmp fetch root lo hi (faulty f) = refuse_start (Damaged root f)
@@ -97,7 +96,7 @@ unfoldable pub start_under : DatomOrd → Extent → List ℕ → PageId → Dat
 start_under t x s root lo hi =
     cond (is_less (t.cmp lo hi) && not (is_none root))
     (start_at t.cmp (fetch_page t x s) root lo hi (fetch_page t x s root))
-    (record { answer = start.Begun; cursor = cursor_of [] [] })
+    (record { answer = has_begun; cursor = cursor_of [] [] })
 
 -- "Starting a listing checks 1, 10, 5, then the bounds' order, then pages."
 unfoldable pub start_list : DatomOrd → Extent → List ℕ → PageId → Datom → Datom → Started
@@ -191,14 +190,14 @@ abbrev pub staying : Cursor → Step → Stepped
 staying c a = record { answer = a; cursor = c }
 
 abbrev pub refuse_step : Cursor → Refusal → Stepped
-refuse_step c r = staying c (step.Refused r)
+refuse_step c r = staying c (Err r)
 
 -- "A step yields the smallest datom under the indices"; "No candidate left is Damaged, id none."
 unfoldable pub moved : Cursor → Least → Stepped
 moved c none_left = refuse_step c (Damaged none NothingLeft)
 moved c (twice q) = refuse_step c (Damaged q EqualDatoms)
 moved c (least d (lost_at q f)) = refuse_step c (Damaged q f)
-moved c (least d (path fs)) = record { answer = step.Yields d; cursor = cursor_of fs (end_frames c) }
+moved c (least d (path fs)) = record { answer = yielding d; cursor = cursor_of fs (end_frames c) }
 
 unfoldable pub onward : (Datom → Datom → Ordering) → (PageId → Fetched) → Cursor → Opens → Stepped
 onward cmp fetch c (not_open q f) = refuse_step c (Damaged q f)
@@ -209,7 +208,7 @@ unfoldable pub step_list : DatomOrd → Extent → List ℕ → Cursor → Stepp
 step_list t x s c =
     or_else (refuse_step c) (refuse_if (bad_store x s) BadStore)
     (or_else (refuse_step c) (refuse_if (ltb 8 c.height) (Damaged none TooHigh))
-    (cond (same_indices (begin_frames c) (end_frames c)) (staying c step.Ended)
+    (cond (same_indices (begin_frames c) (end_frames c)) (staying c ended_step)
     (onward t.cmp (fetch_page t x s) c (open_frames (fetch_page t x s) (begin_frames c)))))
 
 -- a listing: the datoms that steps hand out, and whether it has ended, was refused, or has more than so many steps gave
@@ -224,11 +223,11 @@ also d (cut r ds) = cut r (d ∷ ds)
 also d (more ds) = more (d ∷ ds)
 
 unfoldable pub list_from : DatomOrd → Extent → List ℕ → ℕ → Stepped → Listed
-list_from t x s zero k = elim k.answer [ step.Yields d ↦ more (d ∷ []) | step.Ended ↦ whole [] | step.Refused r ↦ cut r [] ]
+list_from t x s zero k = elim k.answer [ Ok (Some d) ↦ more (d ∷ []) | Ok None ↦ whole [] | Err r ↦ cut r [] ]
 list_from t x s (suc n) k =
     elim k.answer
-    [ step.Yields d ↦ also d (list_from t x s n (step_list t x s k.cursor)) | step.Ended ↦ whole [] | step.Refused r ↦ cut r [] ]
+    [ Ok (Some d) ↦ also d (list_from t x s n (step_list t x s k.cursor)) | Ok None ↦ whole [] | Err r ↦ cut r [] ]
 
 -- at most n + 1 steps
 unfoldable pub listing : DatomOrd → Extent → List ℕ → ℕ → Started → Listed
-listing t x s n b = elim b.answer [ start.Begun ↦ list_from t x s n (step_list t x s b.cursor) | start.Refused r ↦ cut r [] ]
+listing t x s n b = elim b.answer [ Ok u ↦ list_from t x s n (step_list t x s b.cursor) | Err r ↦ cut r [] ]

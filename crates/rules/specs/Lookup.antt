@@ -1,20 +1,19 @@
 -- The path of a datom, and the search for a batch that repeats one.
+use Rattle.std.specs.Prelude.{None, Option, Some}
 use Rattle.std.specs.Prelude.{ℕ, zero, suc, true, false, cond, List, [], ◌∷◌, drop}
 use Rattle.store.specs.declared.PageId.{PageId}
 use Rattle.store.specs.Page.{none}
 use Rattle.datom.specs.declared.Datom.{Datom}
 use Rattle.answer.specs.declared.Fault.{Fault}
-use Rattle.answer.specs.declared.NextMidpoint.{NextMidpoint}
-use Rattle.answer.specs.declared.NextMidpoint.TheVariants.{Child, Nothing}
 use Rattle.answer.specs.declared.Refusal.{Refusal}
 use Rattle.answer.specs.declared.Refusal.TheVariants.{Repeated, Damaged}
 use Rattle.rules.specs.Node.{rank, head_same, next_midpoint}
 use Rattle.rules.specs.Tree.{Fetched, faulty, fine, Env, fetch_at}
 
 -- the child that a path goes on to; a readable page above level 0 always has one
-abbrev pub child_of : NextMidpoint → PageId
-child_of (Child p) = p
-child_of Nothing = none
+abbrev pub child_of : (Option PageId) → PageId
+child_of (Some p) = p
+child_of None = none
 
 -- where a datom's path ends: at an equal datom, its page and index; at level 0 without one; at a page that cannot be read
 pub data Look : Type 0 where

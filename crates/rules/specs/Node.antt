@@ -1,12 +1,11 @@
 -- What is done to one node: merge, the longest pending span, split, and what a flush puts in place of a span.
+use Rattle.std.specs.Prelude.{None, Option, Some}
 use Prim.Native.Nat.{ℕ, zero, suc, pred, ◌+◌, ◌-◌, ◌/◌, ◌%◌, Ordering}
 use Rattle.std.specs.Prelude.{Bool, true, false, ◌||◌, not, cond, List, [], ◌∷◌, ◌++◌, ltb, length, take, drop, get_or, replicate}
 use Rattle.store.specs.declared.PageId.{PageId}
 use Rattle.store.specs.Page.{none, is_none}
 use Rattle.datom.specs.declared.Datom.{Datom}
 use Rattle.index.specs.Order.{is_less, is_same}
-use Rattle.answer.specs.declared.NextMidpoint.{NextMidpoint}
-use Rattle.answer.specs.declared.NextMidpoint.TheVariants.{Child, Nothing}
 use Rattle.rules.specs.Page.{Node}
 
 -- "A datom is a midpoint if the child at its index is real; otherwise it is pending."
@@ -14,9 +13,9 @@ unfoldable pub is_midpoint : List PageId → ℕ → Bool
 is_midpoint cs i = not (is_none (get_or cs i none))
 
 -- "the first real child at or after that index"
-unfoldable pub next_midpoint : List PageId → NextMidpoint
-next_midpoint [] = Nothing
-next_midpoint (c ∷ cs) = elim (is_none c) [ true ↦ next_midpoint cs | false ↦ Child c ]
+unfoldable pub next_midpoint : List PageId → (Option PageId)
+next_midpoint [] = None
+next_midpoint (c ∷ cs) = elim (is_none c) [ true ↦ next_midpoint cs | false ↦ Some c ]
 
 -- how many datoms at the front pass a test; the first datom not below d stands where the test "below d" first fails
 unfoldable pub rank_by : (Datom → Bool) → List Datom → ℕ

@@ -1,4 +1,6 @@
 -- What the record's own refusals come to: in a known order, with a heap in order, a call goes by its own rules.
+use Rattle.std.specs.Prelude.{Err, Ok}
+use Rattle.answer.specs.Answers.{all_held, unchecked}
 use Rattle.std.specs.Prelude.{ℕ, Bool, List, ◌≡◌}
 use Rattle.std.proofs.Math.Bool.{true, false}
 use Rattle.store.specs.declared.PageId.{PageId}
@@ -9,8 +11,6 @@ use Rattle.index.specs.Order.{index_of}
 use Rattle.index.specs.Numbers.{index_number, number_names}
 use Rattle.answer.specs.declared.Refusal.{Refusal}
 use Rattle.answer.specs.declared.Refusal.TheVariants.{BadStore}
-use Rattle.answer.specs.declared.Check.TheVariants as check
-use Rattle.answer.specs.declared.Held.TheVariants as held
 use Rattle.answer.specs.declared.Cursor.{Cursor}
 use Rattle.rules.specs.Lookup.{Finding, found}
 use Rattle.rules.specs.Store.{refuse_if, or_else}
@@ -48,10 +48,10 @@ module _ (r : StoreRecord) (s h : List ℕ) (good : bad_heap r.heap h ≡ false)
   held_call_law root b = side (bad_pages r s) _
     where
       side : (bad : Bool) (rest : Finding) →
-          or_else held.Refused (record_fault r h bad) (or_else held.Refused (or_else found (refuse_if bad BadStore) rest) held.All)
-          ≡ or_else held.Refused (or_else found (refuse_if bad BadStore) rest) held.All
-      side true rest = once held.Refused true held.All
-      side false rest = once held.Refused false (or_else held.Refused rest held.All)
+          or_else Err (record_fault r h bad) (or_else Err (or_else found (refuse_if bad BadStore) rest) all_held)
+          ≡ or_else Err (or_else found (refuse_if bad BadStore) rest) all_held
+      side true rest = once Err true all_held
+      side false rest = once Err false (or_else Err rest all_held)
 
   pub start_call_law : (root : PageId) (lo hi : Datom) → start_call r s h root lo hi ≡ start_list (ord_of r h) (extent_of r) s root lo hi
   unfolding start_call start_list
@@ -63,4 +63,4 @@ module _ (r : StoreRecord) (s h : List ℕ) (good : bad_heap r.heap h ≡ false)
 
   pub check_call_law : (root : PageId) → check_call r s h root ≡ check_tree (ord_of r h) (extent_of r) s root
   unfolding check_call check_tree
-  check_call_law root = once check.Refused (bad_pages r s) _
+  check_call_law root = once unchecked (bad_pages r s) _

@@ -1,4 +1,6 @@
 -- The lent store: its pages, what a call works in, and the bytes after it.
+use Rattle.std.specs.Prelude.{Err, Ok}
+use Rattle.answer.specs.Answers.{Fetch, page_given}
 use Rattle.std.specs.Prelude.{ℕ, ◌-◌, ◌*◌, ◌/◌, Bool, ◌||◌, not, cond, List, [], ltb, eqb, length, take, drop}
 use Rattle.store.specs.declared.PageId.{PageId}
 use Rattle.store.specs.declared.Extent.{Extent}
@@ -9,8 +11,6 @@ use Rattle.index.specs.Order.{DatomOrd}
 use Rattle.answer.specs.declared.Fault.TheVariants.{Missing, Breaks}
 use Rattle.answer.specs.declared.Refusal.{Refusal}
 use Rattle.answer.specs.declared.Refusal.TheVariants.{BadStore, NoPage}
-use Rattle.answer.specs.declared.Fetch.{Fetch}
-use Rattle.answer.specs.declared.Fetch.TheVariants as fetch
 use Rattle.rules.specs.Page.{Node, Read, broken, good, read_page, encode_page}
 use Rattle.rules.specs.Tree.{Fetched, faulty, fine, Env}
 use Rattle.rules.specs.Lookup.{Finding, clear, found}
@@ -40,7 +40,7 @@ unfoldable pub fetch_fault : Extent → List ℕ → PageId → Finding
 fetch_fault x s p = or_else found (refuse_if (bad_store x s) BadStore) (refuse_if (not (ltb p.0 x.count)) NoPage)
 
 unfoldable pub fetch_answer : Extent → List ℕ → PageId → Fetch
-fetch_answer x s p = or_else fetch.Refused (fetch_fault x s p) fetch.Given
+fetch_answer x s p = or_else Err (fetch_fault x s p) page_given
 
 -- the bytes of a page
 unfoldable pub page_at : Extent → List ℕ → PageId → List ℕ

@@ -1,4 +1,7 @@
 -- The starred examples of document 01, a to j: one table. A row is a case and what the rules must give for it.
+use Rattle.std.specs.Prelude.{Ok}
+use Rattle.std.specs.Prelude.{Err}
+use Rattle.answer.specs.Answers.{Answer, done_with}
 use Prim.Native.Nat.{ℕ, zero, suc, ◌+◌, ◌-◌, ◌^◌, Ordering}
 use Rattle.std.specs.Prelude.{Bool, true, false, List, [], ◌∷◌, ◌++◌, ◌≡◌, replicate}
 use Rattle.store.specs.declared.PageId.{PageId}
@@ -10,8 +13,6 @@ use Rattle.datom.specs.Value.{bound_value, Content, int, str, content}
 use Rattle.index.specs.declared.Index.TheVariants.{Eavt}
 use Rattle.index.specs.Order.{cmp_value, DatomOrd, order_in}
 use Rattle.answer.specs.declared.Refusal.TheVariants.{Repeated}
-use Rattle.answer.specs.declared.Answer.{Answer}
-use Rattle.answer.specs.declared.Answer.TheVariants.{Done, Refused}
 use Rattle.rules.specs.Node.{Span, longest_span}
 use Rattle.rules.specs.Tree.{Fetched, fine}
 use Rattle.rules.specs.Store.{page_at, fetch_page, store_after}
@@ -40,8 +41,8 @@ pub record Place : Type 0 where
 -- the page count and the root that the next call is handed
 unfoldable pub went : Extent → List ℕ → PageId → Outcome → Place
 went x s root o = elim o.answer [
-  | Done r n ↦ record { extent = record { size = x.size; count = x.count + n }; store = store_after x s o.pages; root = r; answer = o.answer }
-  | Refused f ↦ record { extent = x; store = store_after x s o.pages; root = root; answer = o.answer }
+  | Ok d ↦ record { extent = record { size = x.size; count = x.count + d.pages }; store = store_after x s o.pages; root = d.root; answer = o.answer }
+  | Err f ↦ record { extent = x; store = store_after x s o.pages; root = root; answer = o.answer }
 ]
 
 -- scratch in order
@@ -134,22 +135,22 @@ bytes6 =
 unfoldable pub starred : List Row
 starred =
     -- a
-    row (tree [] []) (holds (Done none 0) [])
+    row (tree [] []) (holds (done_with none 0) [])
     -- b
     ∷ row (bytes_of_page 0 (run 5 1) [])
     (bytes (small 5 ++ (small 1 ++ (small 5 ++ (small 3 ++ (zeros 160 ++ (replicate 16 255 ++ (zeros 41 ++ (1 ∷ zeros 6)))))))))
     -- c
-    ∷ row (tree (run 0 7) []) (holds (Done (page 2) 3) pages_c)
+    ∷ row (tree (run 0 7) []) (holds (done_with (page 2) 3) pages_c)
     -- d
-    ∷ row (tree (run 0 8) []) (holds (Done (page 2) 3) (leaf 0 4 ∷ leaf 5 3 ∷ inner (run 4 1) (page 0 ∷ page 1 ∷ []) ∷ []))
+    ∷ row (tree (run 0 8) []) (holds (done_with (page 2) 3) (leaf 0 4 ∷ leaf 5 3 ∷ inner (run 4 1) (page 0 ∷ page 1 ∷ []) ∷ []))
     -- e
-    ∷ row (tree (run 0 7) (run 7 5 ∷ [])) (holds (Done (page 3) 1) pages_e)
+    ∷ row (tree (run 0 7) (run 7 5 ∷ [])) (holds (done_with (page 3) 1) pages_e)
     -- f
-    ∷ row (tree (run 0 7) (run 7 5 ∷ run 12 1 ∷ [])) (holds (Done (page 6) 3) pages_f)
+    ∷ row (tree (run 0 7) (run 7 5 ∷ run 12 1 ∷ [])) (holds (done_with (page 6) 3) pages_f)
     -- g
-    ∷ row (tree (run 0 7) (run 7 5 ∷ run 12 1 ∷ run 12 1 ∷ [])) (holds (Refused (Repeated 0)) pages_f)
+    ∷ row (tree (run 0 7) (run 7 5 ∷ run 12 1 ∷ run 12 1 ∷ [])) (holds (Err (Repeated 0)) pages_f)
     -- h
-    ∷ row (tree (run 0 7) (run 7 5 ∷ run 12 1 ∷ run 12 1 ∷ [] ∷ [])) (holds (Done (page 7) 1) (pages_f ++ (page6 ∷ [])))
+    ∷ row (tree (run 0 7) (run 7 5 ∷ run 12 1 ∷ run 12 1 ∷ [] ∷ [])) (holds (done_with (page 7) 1) (pages_f ++ (page6 ∷ [])))
     ∷ row (bytes_of_page 6 (run 0 7) (run 7 5 ∷ run 12 1 ∷ run 12 1 ∷ [] ∷ [])) (bytes bytes6)
     ∷ row (bytes_of_page 7 (run 0 7) (run 7 5 ∷ run 12 1 ∷ run 12 1 ∷ [] ∷ [])) (bytes bytes6)
     -- i

@@ -1,11 +1,12 @@
 -- Pages of 8192 bytes (document 02, Thirteen): where things stand in one, and an example beside k and l, which the rules compute over bytes.
+use Rattle.std.specs.Prelude.{Err}
+use Rattle.answer.specs.Answers.{done_with}
 use Rattle.std.specs.Prelude.{ℕ, ◌+◌, ◌*◌, List, [], ◌∷◌, ◌≡◌, refl, get_or}
 use Rattle.store.specs.declared.Extent.{Extent}
 use Rattle.store.specs.Words.{word_at, zeros}
 use Rattle.store.specs.Page.{page}
 use Rattle.store.specs.Size.{capacity}
 use Rattle.answer.specs.declared.Refusal.TheVariants.{BadStore}
-use Rattle.answer.specs.declared.Answer.TheVariants.{Done, Refused}
 use Rattle.rules.specs.Page.{child_at, level_of, count_of}
 use Rattle.rules.specs.Store.{store_after}
 use Rattle.rules.specs.Insert.{Outcome, leaf_of, initialise, insert}
@@ -37,7 +38,7 @@ bytes = zeros 32768
 abbrev first : Outcome
 first = initialise eavt (wide 0) bytes 619584 (run 0 128)
 
-first_fits : first ≡ record { answer = Done (page 0) 1; pages = leaf_of (run 0 128) ∷ [] }
+first_fits : first ≡ record { answer = done_with (page 0) 1; pages = leaf_of (run 0 128) ∷ [] }
 unfolding rules
 first_fits = refl
 
@@ -46,14 +47,14 @@ abbrev second : ℕ → ℕ → Outcome
 second n room = insert eavt (wide 1) (store_after (wide 0) bytes first.pages) room (page 0) (run 128 n)
 
 -- 204 datoms are a full page
-second_fits : second 76 619584 ≡ record { answer = Done (page 1) 1; pages = leaf_of (run 0 204) ∷ [] }
+second_fits : second 76 619584 ≡ record { answer = done_with (page 1) 1; pages = leaf_of (run 0 204) ∷ [] }
 unfolding rules
 second_fits = refl
 
 -- 205 are one too many: 206 children for two pages, 103 each, so 102 datoms each, and d102 goes up
 second_splits :
     second 77 619584 ≡ record {
-      answer = Done (page 3) 3;
+      answer = done_with (page 3) 3;
       pages = leaf_of (run 0 102) ∷ leaf_of (run 103 102) ∷ record { level = 1; datoms = d 102 ∷ []; children = page 1 ∷ page 2 ∷ [] } ∷ [];
     }
 unfolding rules
@@ -62,13 +63,13 @@ second_splits = refl
 -- 206: the first page takes the child that is left over. The Rust loses d205.
 second_keeps :
     second 78 619584 ≡ record {
-      answer = Done (page 3) 3;
+      answer = done_with (page 3) 3;
       pages = leaf_of (run 0 103) ∷ leaf_of (run 104 102) ∷ record { level = 1; datoms = d 103 ∷ []; children = page 1 ∷ page 2 ∷ [] } ∷ [];
     }
 unfolding rules
 second_keeps = refl
 
 -- a byte of scratch less is 1
-second_short : second 77 619583 ≡ record { answer = Refused BadStore; pages = [] }
+second_short : second 77 619583 ≡ record { answer = Err BadStore; pages = [] }
 unfolding rules
 second_short = refl

@@ -5,12 +5,12 @@ use Rattle.florinwick.proofs.florinwick_fetch.Goals as goal
 pub returns-then-area-ne-AREA : goal.returns-then-area-ne-AREA
 returns-then-area-ne-AREA c = not_answered _ _ c.if-area-ne-AREA.true
 
-pub returns-in-Given : goal.returns-in-Given
-returns-in-Given c =
+pub returns-in-Ok : goal.returns-in-Ok
+returns-in-Ok c =
     let t = c.plain.ensures in
-    rw (← c.record_in-stored.ensures, ← c.extent.ensures, ← c.fetch_refusal.ensures, c.in-Given.is) (answered _ _ _ _ c.if-area-ne-AREA.false t.0 t.1)
+    rw (← c.record_in-stored.ensures, ← c.extent.ensures, ← c.fetch_refusal.ensures, c.in-Ok.is) (answered _ _ _ _ c.if-area-ne-AREA.false t.0 t.1)
 
-pub returns-in-Refused : goal.returns-in-Refused
-returns-in-Refused c =
+pub returns-in-Err : goal.returns-in-Err
+returns-in-Err c =
     let t = c.refuse.ensures in
-    rw (← c.record_in-stored.ensures, ← c.extent.ensures, ← c.fetch_refusal.ensures, c.in-Refused.is) (answered _ _ _ _ c.if-area-ne-AREA.false t.0 t.1)
+    rw (← c.record_in-stored.ensures, ← c.extent.ensures, ← c.fetch_refusal.ensures, c.in-Err.is) (answered _ _ _ _ c.if-area-ne-AREA.false t.0 t.1)

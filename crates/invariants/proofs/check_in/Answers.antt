@@ -1,5 +1,7 @@
 -- `check_in` meets its contract: the checks in their order, then the root. Assumes nothing.
-use mathlib.Core.Path.{◌∙◌, sym}
+use borrow.Author.Rules.{rules}
+use Rattle.answer.specs.Answers.{unsound_at}
+use mathlib.Core.Path.{◌≡◌, ◌∙◌, sym}
 use Rattle.index.specs.Order.{order_in}
 use Rattle.memory_store.specs.Readable.{told_fine, told_faulty}
 use Rattle.invariants.specs.Root.{check_bad, check_past, check_none, check_faulty, check_read}
@@ -37,12 +39,24 @@ returns-in-Err c =
     check_faulty (order_in a.by a.heap.now) a.extent a.store.now a.root ok known real _
     (told_faulty (order_in a.by a.heap.now) a.extent a.store.now a.root _ c.in-Err.ensures)
 
-pub returns-in-Ok : goal.returns-in-Ok
-returns-in-Ok c =
+pub returns-in_ok-check_at-in-Ok : goal.returns-in_ok-check_at-in-Ok
+returns-in_ok-check_at-in-Ok c =
     let a = c.args in
     let ok = sym c.is_bad.ensures ∙ c.if-is_bad.false in
     let known = sym c.is_bad_root.ensures ∙ c.if-is_bad_root.false in
     let real = sym c.is_none.ensures ∙ c.if-is_none.false in
-    c.verdict.ensures ∙ c.check_at.ensures
+    c.in_ok-check_at-in-Ok.ensures
+    ∙ check_read (order_in a.by a.heap.now) a.extent a.store.now a.root ok known real c.in-Ok.header.level c.in-Ok.header.count
+    (told_fine (order_in a.by a.heap.now) a.extent a.store.now a.root c.in-Ok.header c.in-Ok.ensures)
+
+pub returns-in_err-check_at-in-Ok : goal.returns-in_err-check_at-in-Ok
+returns-in_err-check_at-in-Ok c =
+    let a = c.args in
+    let ok = sym c.is_bad.ensures ∙ c.if-is_bad.false in
+    let known = sym c.is_bad_root.ensures ∙ c.if-is_bad_root.false in
+    let real = sym c.is_none.ensures ∙ c.if-is_none.false in
+    let d = c.in_err-check_at-in-Ok.field-0.0 in
+    let k : c.from_residual.result ≡ unsound_at d.page d.fault = search rules in
+    k ∙ c.in_err-check_at-in-Ok.ensures
     ∙ check_read (order_in a.by a.heap.now) a.extent a.store.now a.root ok known real c.in-Ok.header.level c.in-Ok.header.count
     (told_fine (order_in a.by a.heap.now) a.extent a.store.now a.root c.in-Ok.header c.in-Ok.ensures)

@@ -66,7 +66,7 @@ pub open_at-requires : goal.open_at-requires
 open_at-requires c =
     let a = c.args in
     let o = opens (order_in a.by a.heap.now) a.extent a.store.now c.loop-part.page c.loop-part.l c.loop-part.k c.requires.0 c.loop-part.invariant.read in
-    let n = next_is c.loop-part.invariant c.part_of-part.ensures c.first_not_below-i.ensures c.requires.1 c.next_midpoint.ensures c.in-Child.is in
+    let n = next_is c.loop-part.invariant c.part_of-part.ensures c.first_not_below-i.ensures c.requires.1 c.next_midpoint.ensures c.in-Some.is in
     (c.requires.0, c.requires.1, c.loop-part.invariant.kept, omega (arith, o.low), next_real _ _ n)
 
 pub offset_bounds-path-l : goal.offset_bounds-path-l
@@ -99,12 +99,12 @@ loop-part-preserved c =
     let o = opens (order_in a.by a.heap.now) a.extent a.store.now c.loop-part.page c.loop-part.l c.loop-part.k c.requires.0 c.loop-part.invariant.read in
     let m = met_is c.loop-part.invariant c.part_of-part.ensures c.first_not_below-i.ensures c.is_met.ensures c.if-is_met.false in
     let g = gap_is c.loop-part.invariant c.part_of-part.ensures c.first_not_below-i.ensures c.narrow-gap.ensures in
-    let n = next_is c.loop-part.invariant c.part_of-part.ensures c.first_not_below-i.ensures c.requires.1 c.next_midpoint.ensures c.in-Child.is in
+    let n = next_is c.loop-part.invariant c.part_of-part.ensures c.first_not_below-i.ensures c.requires.1 c.next_midpoint.ensures c.in-Some.is in
     rw g (going_down c.loop-part.invariant m c.if-l-eq0.false n (order_preorder a.by a.heap.now) c.in-Ok.ensures (omega (arith, o.low)))
 
 pub returns-in-Err : goal.returns-in-Err
 returns-in-Err c =
     let a = c.args in
     let m = met_is c.loop-part.invariant c.part_of-part.ensures c.first_not_below-i.ensures c.is_met.ensures c.if-is_met.false in
-    let n = next_is c.loop-part.invariant c.part_of-part.ensures c.first_not_below-i.ensures c.requires.1 c.next_midpoint.ensures c.in-Child.is in
+    let n = next_is c.loop-part.invariant c.part_of-part.ensures c.first_not_below-i.ensures c.requires.1 c.next_midpoint.ensures c.in-Some.is in
     (going_lost c.loop-part.invariant m c.if-l-eq0.false n c.in-Err.ensures, c.loop-part.invariant.kept, lost_leaves _ _ _ _ _ _ _ _ _)

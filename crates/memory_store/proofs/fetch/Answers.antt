@@ -7,7 +7,7 @@ pub returns-in_default : goal.returns-in_default
 returns-in_default c = sym (refused_fetched _ _ _ _ (sym c.fetch_refusal.ensures ∙ c.in_default.is))
 
 pub part_of-requires : goal.part_of-requires
-part_of-requires c = given _ _ _ (sym c.fetch_refusal.ensures ∙ c.in-Given.is)
+part_of-requires c = given _ _ _ (sym c.fetch_refusal.ensures ∙ c.in-Ok.is)
 
 pub returns : goal.returns
-returns c = rw (given_fetched _ _ _ (sym c.fetch_refusal.ensures ∙ c.in-Given.is)) c.part_of.ensures
+returns c = rw (given_fetched _ _ _ (sym c.fetch_refusal.ensures ∙ c.in-Ok.is)) c.part_of.ensures

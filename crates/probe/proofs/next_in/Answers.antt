@@ -1,8 +1,9 @@
 -- `next_in` meets its contract. Assumes nothing.
+use Rattle.store.specs.declared.PageId.{PageId}
+use Rattle.std.specs.Prelude.{Option}
 use native.Mathlib.Omega.{arith}
 use mathlib.Core.Path.{sym, ◌∙◌, ap}
 use lib.ListN.{drop}
-use Rattle.answer.specs.declared.NextMidpoint.{NextMidpoint}
 use Rattle.rules.specs.Page.{node_of}
 use Rattle.rules.specs.Node.{next_midpoint}
 use Rattle.rules.specs.Lookup.{child_of}
@@ -18,18 +19,18 @@ next_midpoint-requires c =
     let e = c.capacity_of-c.ensures in
     (omega arith, omega arith)
 
-pub returns-in-Child : goal.returns-in-Child
+pub returns-in-Some : goal.returns-in-Some
 unfolding node_of
-returns-in-Child c =
+returns-in-Some c =
     let a = c.args in
     let e = rw c.capacity_of-c.ensures at c.next_midpoint.ensures in
-    ap (λ (m : NextMidpoint). (child_of m).0) (sym c.in-Child.is ∙ e)
+    ap (λ (m : (Option PageId)). (child_of m).0) (sym c.in-Some.is ∙ e)
     ∙ of_good _ _ _ c.in-Ok.is c.look_at.ensures (λ n. (child_of (next_midpoint (drop a.from n.children))).0)
 
-pub returns-in-Nothing : goal.returns-in-Nothing
+pub returns-in-None : goal.returns-in-None
 unfolding node_of
-returns-in-Nothing c =
+returns-in-None c =
     let a = c.args in
     let e = rw c.capacity_of-c.ensures at c.next_midpoint.ensures in
-    ap (λ (m : NextMidpoint). (child_of m).0) (sym c.in-Nothing.is ∙ e)
+    ap (λ (m : (Option PageId)). (child_of m).0) (sym c.in-None.is ∙ e)
     ∙ of_good _ _ _ c.in-Ok.is c.look_at.ensures (λ n. (child_of (next_midpoint (drop a.from n.children))).0)

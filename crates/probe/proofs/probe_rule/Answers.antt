@@ -2,8 +2,8 @@
 use mathlib.Core.Path.{sym, ◌∙◌}
 use Rattle.probe.proofs.probe_rule.Goals as goal
 
-pub returns-in-By : goal.returns-in-By
-returns-in-By c = rw (sym c.index_of.ensures ∙ c.in-By.is) c.rule_in.ensures
+pub returns-in-Some : goal.returns-in-Some
+returns-in-Some c = rw (sym c.index_of.ensures ∙ c.in-Some.is) c.rule_in.ensures
 
-pub returns-in-Unknown : goal.returns-in-Unknown
-returns-in-Unknown c = rw (sym c.index_of.ensures ∙ c.in-Unknown.is)
+pub returns-in-None : goal.returns-in-None
+returns-in-None c = rw (sym c.index_of.ensures ∙ c.in-None.is)

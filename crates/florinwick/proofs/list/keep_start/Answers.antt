@@ -3,11 +3,11 @@ use mathlib.Core.Path.{refl}
 use Rattle.florinwick.specs.Listing.{cursor_started}
 use Rattle.florinwick.proofs.list.keep_start.Goals as goal
 
-pub returns-in-Begun : goal.returns-in-Begun
+pub returns-in-Ok : goal.returns-in-Ok
 unfolding cursor_started
-returns-in-Begun c =
-    rw c.in-Begun.is (c.plain.ensures, c.put_cursor.ensures)
+returns-in-Ok c =
+    rw c.in-Ok.is (c.plain.ensures, c.put_cursor.ensures)
 
-pub returns-in-Refused : goal.returns-in-Refused
+pub returns-in-Err : goal.returns-in-Err
 unfolding cursor_started
-returns-in-Refused c = rw c.in-Refused.is (c.refuse_named.ensures, refl)
+returns-in-Err c = rw c.in-Err.is (c.refuse_named.ensures, refl)

@@ -37,7 +37,7 @@ loop-l-preserved-then-l-gt0 c =
     let w = c.loop-l in
     let at : c.place_in-placed.result ≡ Ok c.in_ok-place.place = search rules in
     left_on (order_in a.by a.heap.now) a.extent a.store.now (test_of (order_in a.by a.heap.now) a.seek) w.l w.filled w.p c.loop-l-test.true _ _ (sym at ∙ c.place_in-placed.ensures)
-    (λ z. omega (arith, z, c.if-l-gt0.true)) _ c.in-Child.is ∙ w.invariant
+    (λ z. omega (arith, z, c.if-l-gt0.true)) _ c.in-Some.is ∙ w.invariant
 
 pub loop-l-preserved : goal.loop-l-preserved
 loop-l-preserved c =

@@ -106,4 +106,4 @@ returns c =
     let mid = rw (c.count_of-count.ensures, c.fetch-part.ensures, o.bytes, c.requires.1.0) at c.is_midpoint_at.ensures in
     let next = rw (c.count_of-count.ensures, c.fetch-part.ensures, o.bytes, c.requires.1.0, ← kids) at c.next_midpoint.ensures in
     c.descend.ensures
-    ∙ adv_child (order_in a.by a.heap.now) a.extent a.store.now b a.level c.if-level-eq0.false (ap (λ ks. is_midpoint ks (get_or b.indices a.level 0)) kids ∙ sym mid ∙ c.if-not-is_midpoint_at.false) _ (sym next ∙ c.in-Child.is)
+    ∙ adv_child (order_in a.by a.heap.now) a.extent a.store.now b a.level c.if-level-eq0.false (ap (λ ks. is_midpoint ks (get_or b.indices a.level 0)) kids ∙ sym mid ∙ c.if-not-is_midpoint_at.false) _ (sym next ∙ c.in-Some.is)

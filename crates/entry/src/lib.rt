@@ -26,13 +26,11 @@ use store::{Extent, PageId, StoreRecord};
 fn answer_of(r: Result<Rooted, Failed>) -> Result<Done, Refusal>
     ensures { result ≡ answer_of r }
 {
-    match r {
-        Ok(rooted) => Ok(Done {
-            root: rooted.root,
-            pages: rooted.written,
-        }),
-        Err(failed) => Err(failed.refusal),
-    }
+    let rooted = r?;
+    Ok(Done {
+        root: rooted.root,
+        pages: rooted.written,
+    })
 }
 
 // Refusals 6 to 9, of a batch that ascends, at a root that is a page. The root's page is read once: the lookup and the insert are handed

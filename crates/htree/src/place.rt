@@ -25,6 +25,15 @@ pub struct Failed {
     pub written: u64,
 }
 
+// An entry's answer tells why alone: pages past the count that no answer names count for nothing.
+impl From<Failed> for Refusal {
+    ghost from_gives = { λ failed refusal. refusal ≡ failed.refusal };
+
+    fn from(failed: Failed) -> Refusal {
+        failed.refusal
+    }
+}
+
 // Datoms i..i+a and children i..=i+a of the node of n datoms in the area become the next page past the count.
 pub fn put_part(
     store: &mut [u8],

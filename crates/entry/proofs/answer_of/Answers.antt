@@ -1,12 +1,14 @@
 -- `answer_of` meets its contract. Assumes nothing.
-use mathlib.Core.Path.{sym, ap}
+use Rattle.std.proofs.lemmas.Result.{err_from_is_err_and}
 use Rattle.entry.specs.Reply.{answer_of}
 use Rattle.entry.proofs.answer_of.Goals as goal
 
-pub returns-in-Ok : goal.returns-in-Ok
+pub returns : goal.returns
 unfolding answer_of
-returns-in-Ok c = sym (ap answer_of c.in-Ok.is)
+returns c = rw c.in_ok-rooted.was
 
-pub returns-in-Err : goal.returns-in-Err
+pub returns-in_err-rooted : goal.returns-in_err-rooted
 unfolding answer_of
-returns-in-Err c = sym (ap answer_of c.in-Err.is)
+returns-in_err-rooted c =
+    let q = err_from_is_err_and c.from_residual.result c.from_residual.ensures.1 in
+    rw (q.1, q.2, c.in_err-rooted.was)

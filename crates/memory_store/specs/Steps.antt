@@ -1,11 +1,10 @@
 -- One step of each test along a list, as the reader's loops take it.
-use Rattle.std.specs.Prelude.{None, Some}
-use Rattle.std.specs.Prelude.{◌≡◌, ℕ, ◌+◌, ◌*◌, ◌%◌, ◌^◌, ◌<◌, ◌≤◌, Bool, true, false, ◌||◌, List, [], ◌∷◌, drop, ◌==◌, ◌≢◌, nat_le, nat_lt, refl, zero, suc, ◌-◌, ◌&&◌}
+use Rattle.std.specs.Prelude.{◌≡◌, ℕ, ◌+◌, ◌*◌, ◌%◌, ◌^◌, ◌<◌, ◌≤◌, Bool, true, false, ◌||◌, List, [], ◌∷◌, drop, ◌==◌, ◌≢◌, nat_le, nat_lt, refl, zero, suc, ◌-◌, ◌&&◌, None, Some, Option, cond, not, map}
 use Prim.Native.Nat.{zero-le, Ordering}
 use Rattle.std.proofs.Math.Decide.{dec_le}
 use native.Mathlib.Omega.{arith}
 use Rattle.std.proofs.Math.Bool.{or-false}
-use Rattle.std.specs.List.{list_all, range_with_len}
+use Rattle.std.specs.List.{list_all, find, range_with_len}
 use Rattle.std.proofs.Common.{ap, sym, ◌∙◌, eq-eqb, ne_eqb, le-ltb, le-leb, eqb-true, ltb-true, ltb-false}
 use Rattle.std.proofs.lemmas.Bool.{lt-leb, eqb-false}
 use Rattle.store.specs.declared.PageId.{PageId}
@@ -128,3 +127,17 @@ next_stop e h = rw (e, next_midpoint, h)
 pub next_end : (n i at : ℕ) (s : List ℕ) → n ≤ i → next_midpoint (drop i (cells page_of 8 n (drop at s))) ≡ None
 unfolding next_midpoint
 next_end n i at s h = rw (cells_end page_of 8 n i (drop at s) h)
+
+-- so the first of each index from i on: the list has x i at index i
+module _ (x : ℕ → PageId) (n : ℕ) (l : List PageId) where
+  pub next_each :
+      ((i : ℕ) → i < n → drop i l ≡ x i ∷ drop (i + 1) l) → ((i : ℕ) → n ≤ i → next_midpoint (drop i l) ≡ None) →
+      (m i : ℕ) → m ≡ n - i → find (λ c. not (is_none c)) (map x (range_with_len i m)) ≡ next_midpoint (drop i l)
+  next_each here past zero i e = sym (past i (omega (arith, e)))
+  next_each here past (suc m) i e = side (is_none (x i)) refl (next_each here past m (i + 1) (omega (arith, e)))
+    where
+      side :
+          (b : Bool) → is_none (x i) ≡ b → {r : Option PageId} → r ≡ next_midpoint (drop (i + 1) l) →
+          cond (not (is_none (x i))) (Some (x i)) r ≡ next_midpoint (drop i l)
+      side true h on = rw h (on ∙ sym (next_on (here i (omega (arith, e))) h))
+      side false h on = rw h (sym (next_stop (here i (omega (arith, e))) h))

@@ -8,7 +8,6 @@ ghost use Rattle.rules.specs.Node.{is_midpoint, next_midpoint, rank};
 
 use datom::Datom;
 use index::Index;
-use std::cmp::Ordering;
 use store::PageId;
 
 // The level that the header of a page with room for c datoms tells.
@@ -40,13 +39,9 @@ pub fn next_midpoint(s: &[u8], m: usize, n: usize, from: usize) -> Option<PageId
     requires { (n ≤ m) × (40 * m + 8 ≤ length s.now) }
     ensures { result ≡ next_midpoint (drop from (children_of m (suc n) s.now)) }
 {
-    for i in from..n + 1 {
-        let child = store::child_at(s, m, i);
-        if !child.is_none() {
-            return Some(child);
-        }
-    }
-    None
+    (from..n + 1)
+        .map(|i| store::child_at(s, m, i))
+        .find(|child| !child.is_none())
 }
 
 // The index of the first of k rising datoms that is not below d, by halving. By hand, since `partition_point` is a method of a slice of
@@ -59,16 +54,10 @@ pub fn first_not_below(s: &[u8], k: usize, d: Datom, by: Index, heap: &[u8]) -> 
     let mut hi = k;
     while lo < hi {
         let mid = lo + (hi - lo) / 2;
-        match index::order_of(datom::datom_at(s, 32 * mid), d, by, heap) {
-            Ordering::Less => {
-                lo = mid + 1;
-            }
-            Ordering::Equal => {
-                hi = mid;
-            }
-            Ordering::Greater => {
-                hi = mid;
-            }
+        if index::order_of(datom::datom_at(s, 32 * mid), d, by, heap).is_lt() {
+            lo = mid + 1;
+        } else {
+            hi = mid;
         }
     }
     lo

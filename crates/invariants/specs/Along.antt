@@ -1,5 +1,4 @@
 -- What the code knows on its way along a page: the page was read, and what is left of the walk gives what the whole gives.
-use Rattle.std.specs.Prelude.{Ok}
 use Rattle.answer.specs.Answers.{Check, is_sound, unchecked, unsound_at}
 use Rattle.std.specs.Prelude.{ℕ, ◌+◌, ◌-◌, ◌*◌, ◌<◌, ◌≤◌, true, false, List, ◌≡◌, length, drop}
 use Rattle.std.proofs.Common.{arith, sym, ◌∙◌}

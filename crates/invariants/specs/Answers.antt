@@ -1,7 +1,7 @@
 -- What the check may answer: Sound, Unsound, or a refusal of number 1 or 5.
 use Rattle.answer.specs.declared.Flaw.TheVariants.{Unsound, Refused}
 use Rattle.std.specs.Prelude.{Ok, Err}
-use Rattle.answer.specs.Answers.{Check, unchecked, unsound_at}
+use Rattle.answer.specs.Answers.{Check, unchecked}
 use Prim.Native.Nat.{ℕ, zero, suc, Ordering}
 use Rattle.std.specs.Prelude.{Bool, ◌||◌, ◌≡◌, eqb, drop, get_or}
 use Rattle.std.proofs.Math.Bool.{true, false}

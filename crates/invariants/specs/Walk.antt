@@ -1,5 +1,4 @@
 -- The walk along one page, index by index, as the code's loop takes it.
-use Rattle.std.specs.Prelude.{Ok}
 use Rattle.answer.specs.Answers.{Check, is_sound, unchecked, unsound_at}
 use Prim.Native.Nat.{ℕ, zero, suc, ◌+◌, ◌-◌, ◌*◌, ◌<◌, ◌≤◌}
 use Rattle.std.proofs.Math.Decide.{dec_le}

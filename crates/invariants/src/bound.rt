@@ -7,7 +7,6 @@ ghost use Rattle.invariants.specs.Bounds.{bound_of, bound_at};
 
 use datom::Datom;
 use index::Index;
-use std::cmp::Ordering;
 
 // Whether a datom is above a lower bound.
 fn is_above(lower: Option<Datom>, d: Datom, by: Index, heap: &[u8]) -> bool
@@ -15,11 +14,7 @@ fn is_above(lower: Option<Datom>, d: Datom, by: Index, heap: &[u8]) -> bool
 {
     match lower {
         None => true,
-        Some(x) => match index::order_of(x, d, by, heap) {
-            Ordering::Less => true,
-            Ordering::Equal => false,
-            Ordering::Greater => false,
-        },
+        Some(x) => index::order_of(x, d, by, heap).is_lt(),
     }
 }
 

@@ -66,7 +66,13 @@ fn check_at(
 
 // Whether the tree under a root is sound, or the first fault and its page. Document 01: "the check checks 1, 5", "Root "none" is
 // Sound."
-pub fn check_in(store: &[u8], extent: Extent, root: PageId, by: Index, heap: &[u8]) -> Result<(), Flaw>
+pub fn check_in(
+    store: &[u8],
+    extent: Extent,
+    root: PageId,
+    by: Index,
+    heap: &[u8],
+) -> Result<(), Flaw>
     ensures { result ≡ check_tree (order_in by heap.now) extent store.now root }
 {
     if memory_store::is_bad(store, extent) {
@@ -79,16 +85,10 @@ pub fn check_in(store: &[u8], extent: Extent, root: PageId, by: Index, heap: &[u
         return Ok(());
     }
     let c = store::capacity_of(extent.size);
-    match found::node_at(store, extent, c, root, by, heap) {
-        Err(fault) => Err(Flaw::Unsound(root, fault)),
-        Ok(header) => {
-            let Header { level, count } = header;
-            check_at(
-                store, extent, c, level, root, count, None, None, by, heap,
-            )?;
-            Ok(())
-        }
-    }
+    let read = found::node_at(store, extent, c, root, by, heap);
+    let Header { level, count } = read.map_err(|fault| Damage { page: root, fault })?;
+    check_at(store, extent, c, level, root, count, None, None, by, heap)?;
+    Ok(())
 }
 
 // Whether the tree under a root is sound, or the first fault and its page.

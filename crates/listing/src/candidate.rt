@@ -12,8 +12,8 @@ ghost use Rattle.listing.specs.Candidate.{pick_one, pick, candidate_below};
 use answer::Cursor;
 use datom::Datom;
 use index::Index;
-use std::cmp::Ordering;
 use memory_store::access;
+use std::cmp::Ordering;
 use store::{Extent, PageId};
 
 // A datom, and the level that it is of.

@@ -1,11 +1,16 @@
 -- `check_in` meets its contract: the checks in their order, then the root. Assumes nothing.
 use borrow.Author.Rules.{rules}
+use Rattle.std.specs.Prelude.{Ok, Err}
+use Rattle.answer.specs.declared.Fault.{Fault}
 use Rattle.answer.specs.Answers.{unsound_at}
-use mathlib.Core.Path.{◌≡◌, ◌∙◌, sym}
+use Rattle.rules.specs.Check.{check_tree}
+use Rattle.invariants.specs.Verdict.{verdict_of}
+use mathlib.Core.Path.{◌≡◌, ◌∙◌, ap, sym}
 use Rattle.index.specs.Order.{order_in}
 use Rattle.memory_store.specs.Readable.{told_fine, told_faulty}
 use Rattle.invariants.specs.Root.{check_bad, check_past, check_none, check_faulty, check_read}
 use Rattle.invariants.proofs.check_in.Goals as goal
+use Rattle.invariants.proofs.check_in.Goals.{After-check_at}
 
 pub returns-then-is_bad : goal.returns-then-is_bad
 returns-then-is_bad c = let a = c.args in
@@ -27,36 +32,39 @@ returns-then-is_none c =
 pub check_at-requires : goal.check_at-requires
 check_at-requires c =
     let a = c.args in
-    let ok = sym c.is_bad.ensures ∙ c.if-is_bad.false in
-    (ok, c.capacity_of-c.ensures, told_fine (order_in a.by a.heap.now) a.extent a.store.now a.root c.in-Ok.header c.in-Ok.ensures)
+    let h = c.in_ok-level.field-0 in
+    let at : c.node_at-read.result ≡ Ok h = search rules in
+    (sym c.is_bad.ensures ∙ c.if-is_bad.false, c.capacity_of-c.ensures, told_fine (order_in a.by a.heap.now) a.extent a.store.now a.root h (rw at at c.node_at-read.ensures))
 
-pub returns-in-Err : goal.returns-in-Err
-returns-in-Err c =
+pub returns-in_err-level : goal.returns-in_err-level
+returns-in_err-level c =
     let a = c.args in
     let ok = sym c.is_bad.ensures ∙ c.if-is_bad.false in
     let known = sym c.is_bad_root.ensures ∙ c.if-is_bad_root.false in
     let real = sym c.is_none.ensures ∙ c.if-is_none.false in
-    check_faulty (order_in a.by a.heap.now) a.extent a.store.now a.root ok known real _
-    (told_faulty (order_in a.by a.heap.now) a.extent a.store.now a.root _ c.in-Err.ensures)
+    let w : (f : Fault) × ((c.node_at-read.result ≡ Err f) × (c.from_residual.result ≡ unsound_at a.root f)) = search rules in
+    w.1.1
+    ∙ check_faulty (order_in a.by a.heap.now) a.extent a.store.now a.root ok known real w.0
+    (told_faulty (order_in a.by a.heap.now) a.extent a.store.now a.root w.0 (rw w.1.0 at c.node_at-read.ensures))
 
-pub returns-in_ok-check_at-in-Ok : goal.returns-in_ok-check_at-in-Ok
-returns-in_ok-check_at-in-Ok c =
+-- what the walk from the root gives is what the whole gives
+walked : (c : After-check_at) → verdict_of c.check_at.result ≡ check_tree (order_in c.args.by c.args.heap.now) c.args.extent c.args.store.now c.args.root
+walked c =
     let a = c.args in
     let ok = sym c.is_bad.ensures ∙ c.if-is_bad.false in
     let known = sym c.is_bad_root.ensures ∙ c.if-is_bad_root.false in
     let real = sym c.is_none.ensures ∙ c.if-is_none.false in
-    c.in_ok-check_at-in-Ok.ensures
-    ∙ check_read (order_in a.by a.heap.now) a.extent a.store.now a.root ok known real c.in-Ok.header.level c.in-Ok.header.count
-    (told_fine (order_in a.by a.heap.now) a.extent a.store.now a.root c.in-Ok.header c.in-Ok.ensures)
+    let h = c.in_ok-level.field-0 in
+    let at : c.node_at-read.result ≡ Ok h = search rules in
+    c.check_at.ensures
+    ∙ check_read (order_in a.by a.heap.now) a.extent a.store.now a.root ok known real h.level h.count
+    (told_fine (order_in a.by a.heap.now) a.extent a.store.now a.root h (rw at at c.node_at-read.ensures))
 
-pub returns-in_err-check_at-in-Ok : goal.returns-in_err-check_at-in-Ok
-returns-in_err-check_at-in-Ok c =
-    let a = c.args in
-    let ok = sym c.is_bad.ensures ∙ c.if-is_bad.false in
-    let known = sym c.is_bad_root.ensures ∙ c.if-is_bad_root.false in
-    let real = sym c.is_none.ensures ∙ c.if-is_none.false in
-    let d = c.in_err-check_at-in-Ok.field-0.0 in
-    let k : c.from_residual.result ≡ unsound_at d.page d.fault = search rules in
-    k ∙ c.in_err-check_at-in-Ok.ensures
-    ∙ check_read (order_in a.by a.heap.now) a.extent a.store.now a.root ok known real c.in-Ok.header.level c.in-Ok.header.count
-    (told_fine (order_in a.by a.heap.now) a.extent a.store.now a.root c.in-Ok.header c.in-Ok.ensures)
+pub returns-in_err-check_at : goal.returns-in_err-check_at
+returns-in_err-check_at c =
+    let d = c.in_err-check_at.field-0.0 in
+    let k : c.from_residual-in_err-check_at.result ≡ unsound_at d.page d.fault = search rules in
+    k ∙ sym (ap verdict_of c.in_err-check_at.was) ∙ walked (goal.at.returns-in_err-check_at c).After-check_at
+
+pub returns : goal.returns
+returns c = sym (ap verdict_of c.in_ok-check_at.was) ∙ walked (goal.at.returns c).After-check_at

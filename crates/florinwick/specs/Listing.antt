@@ -1,7 +1,6 @@
 -- What the entries of a listing return and leave: the answer's words, the cursor's bytes, and the datom that a step yields.
 use Rattle.std.specs.Prelude.{Ok, Some, None}
 use Rattle.std.specs.Prelude.{Err, Ok}
-use Rattle.answer.specs.Answers.{ended_step, has_begun, yielding}
 use Rattle.std.specs.Prelude.{ℕ, false, ◌&&◌, not, cond, List, ◌≡◌, eqb, length}
 use Rattle.std.proofs.Common.{append-nil, sym, ◌∙◌}
 use borrow.Author.Tests.{eq-eqb, ne_eqb}

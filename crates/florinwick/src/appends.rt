@@ -9,9 +9,9 @@ use crate::words;
 pub fn florinwick_append_u64(heap: &mut [u8], used: u64, value: u64, area: &mut [u8]) -> u64
     ensures { HeapReplied result area.old area.new heap.old heap.new used (append_word heap.old used value) }
 {
-    if area.len() != words::AREA {
+    let Some(area) = area.as_mut_array() else {
         return 1;
-    }
+    };
     let a = append::append_u64(heap, used, value);
     words::tell_append(area, a)
 }
@@ -20,9 +20,9 @@ pub fn florinwick_append_u64(heap: &mut [u8], used: u64, value: u64, area: &mut 
 pub fn florinwick_append_bytes(heap: &mut [u8], used: u64, bytes: &[u8], area: &mut [u8]) -> u64
     ensures { HeapReplied result area.old area.new heap.old heap.new used (append_text heap.old used bytes.now) }
 {
-    if area.len() != words::AREA {
+    let Some(area) = area.as_mut_array() else {
         return 1;
-    }
+    };
     let a = append::append_bytes(heap, used, bytes);
     words::tell_append(area, a)
 }

@@ -38,9 +38,9 @@ pub fn florinwick_insert(
 ) -> u64
     ensures { Replied result store.new area.new (insert_reply (record_in recorded.now) store.old heap.now (length scratch.old) (page root) batch.now area.old) }
 {
-    if area.len() != words::AREA {
+    let Some(area) = area.as_mut_array() else {
         return 1;
-    }
+    };
     let stored = recorded::record_in(recorded);
     let a = entry::insert(store, stored, PageId(root), batch, scratch, heap);
     words::tell(area, PageId(root), a)
@@ -57,9 +57,9 @@ pub fn florinwick_initialise(
 ) -> u64
     ensures { Replied result store.new area.new (initialise_reply (record_in recorded.now) store.old heap.now (length scratch.old) batch.now area.old) }
 {
-    if area.len() != words::AREA {
+    let Some(area) = area.as_mut_array() else {
         return 1;
-    }
+    };
     let stored = recorded::record_in(recorded);
     let a = entry::initialise(store, stored, batch, scratch, heap);
     words::tell(area, PageId::max(), a)
@@ -80,9 +80,9 @@ pub fn florinwick_scratch_need(size: u64) -> u64
 pub fn florinwick_fetch(store: &[u8], recorded: &[u8], id: u64, area: &mut [u8]) -> u64
     ensures { AreaReplied result area.old area.new (fetch_words (fetch_answer (extent_of (record_in recorded.now)) store.now (page id))) }
 {
-    if area.len() != words::AREA {
+    let Some(area) = area.as_mut_array() else {
         return 1;
-    }
+    };
     let stored = recorded::record_in(recorded);
     match memory_store::fetch_refusal(store, stored.extent(), PageId(id)) {
         Ok(()) => words::plain(area, 0),
@@ -100,9 +100,9 @@ pub fn florinwick_check(
 ) -> u64
     ensures { AreaReplied result area.old area.new (check_words (page root) (check_call (record_in recorded.now) store.now heap.now (page root))) }
 {
-    if area.len() != words::AREA {
+    let Some(area) = area.as_mut_array() else {
         return 1;
-    }
+    };
     let stored = recorded::record_in(recorded);
     match invariants::check(store, stored, PageId(root), heap) {
         Ok(()) => words::plain(area, 0),
@@ -125,9 +125,9 @@ pub fn florinwick_held(
 ) -> u64
     ensures { AreaReplied result area.old area.new (held_words (page root) (held_call (record_in recorded.now) store.now heap.now (page root) batch.now)) }
 {
-    if area.len() != words::AREA {
+    let Some(area) = area.as_mut_array() else {
         return 1;
-    }
+    };
     let stored = recorded::record_in(recorded);
     match held::held(store, stored, PageId(root), batch, heap) {
         Ok(()) => words::plain(area, 0),

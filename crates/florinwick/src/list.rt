@@ -51,8 +51,8 @@ fn start_between(
 }
 
 // A cursor that has begun goes to its area; a refused start leaves it.
-fn keep_start(cursor: &mut [u8], area: &mut [u8], root: u64, started: Started) -> u64
-    requires { (length cursor.old ≡ 264) × (length area.old ≡ 32) }
+fn keep_start(cursor: &mut [u8], area: &mut [u8; words::AREA], root: u64, started: Started) -> u64
+    requires { length cursor.old ≡ 264 }
     ensures { ((result ≡ (start_words (page root) started.answer).number) × WordsIn (start_words (page root) started.answer) area.new) × (cursor.new ≡ cursor_started cursor.old started) }
 {
     let answer = started.answer;
@@ -79,9 +79,9 @@ pub fn florinwick_list_start(
 ) -> u64
     ensures { Begins result area.old area.new cursor.old cursor.new (page root) (start_in (record_in recorded.now) store.now heap.now (page root) lower.now upper.now cursor.old) }
 {
-    if area.len() != words::AREA {
+    let Some(area) = area.as_mut_array() else {
         return 1;
-    }
+    };
     if cursor.len() != cursor::BYTES {
         return words::refuse(area, root, Refusal::BadStore);
     }
@@ -91,8 +91,13 @@ pub fn florinwick_list_start(
 }
 
 // A datom that is yielded goes to its area and the cursor behind it; a step that has ended or is refused leaves both.
-fn keep_step(cursor: &mut [u8], datom: &mut [u8], area: &mut [u8], stepped: Stepped) -> u64
-    requires { (length cursor.old ≡ 264) × ((length datom.old ≡ 32) × (length area.old ≡ 32)) }
+fn keep_step(
+    cursor: &mut [u8],
+    datom: &mut [u8; words::AREA],
+    area: &mut [u8; words::AREA],
+    stepped: Stepped,
+) -> u64
+    requires { length cursor.old ≡ 264 }
     ensures { ((result ≡ (step_words stepped.answer).number) × WordsIn (step_words stepped.answer) area.new) × ((cursor.new ≡ cursor_stepped cursor.old stepped) × (datom.new ≡ datom_stepped datom.old stepped)) }
 {
     let answer = stepped.answer;
@@ -125,15 +130,15 @@ pub fn florinwick_list_step(
 ) -> u64
     ensures { Steps result area.old area.new cursor.old cursor.new datom.old datom.new (step_in (record_in recorded.now) store.now heap.now cursor.old datom.old) }
 {
-    if area.len() != words::AREA {
+    let Some(area) = area.as_mut_array() else {
         return 1;
-    }
+    };
     if cursor.len() != cursor::BYTES {
         return words::refuse(area, 0, Refusal::BadStore);
     }
-    if datom.len() != words::AREA {
+    let Some(datom) = datom.as_mut_array() else {
         return words::refuse(area, 0, Refusal::BadStore);
-    }
+    };
     let stored = recorded::record_in(recorded);
     let given = cursor::cursor_in(cursor);
     let stepped = listing::step::step(store, stored, given, heap);

@@ -20,9 +20,9 @@ pub fn florinwick_insert_named(
 ) -> u64
     ensures { Replied result store.new area.new (insert_named_reply (record_in recorded.now) store.old heap.now (length scratch.old) (page root) batch.now area.old) }
 {
-    if area.len() != words::AREA {
+    let Some(area) = area.as_mut_array() else {
         return 1;
-    }
+    };
     let stored = recorded::record_in(recorded);
     let a = entry::insert(store, stored, PageId(root), batch, scratch, heap);
     words::tell_named(area, PageId(root), a)

@@ -24,9 +24,9 @@ fn insert_laid(
 ) -> u64
     ensures { Replied result store.new area.new (insert_reply (record_in recorded.now) store.old heap.now (length scratch.old) (page root) (handed_bytes n scratch.old) area.old) }
 {
-    if area.len() != words::AREA {
+    let Some(area) = area.as_mut_array() else {
         return 1;
-    }
+    };
     let stored = recorded::record_in(recorded);
     let a = records::insert_laid(store, stored, PageId(root), n, scratch, heap);
     words::tell(area, PageId(root), a)

@@ -1,14 +1,18 @@
 -- `florinwick_insert` meets its contract on every input. Assumes nothing.
+use Rattle.std.proofs.Common.{◌≡◌, length, rules}
 use Rattle.rules.specs.Entry.{insert_reply}
 use Rattle.florinwick.specs.Words.{no_area, told_reply}
 use Rattle.florinwick.proofs.florinwick_insert.Goals as goal
 
-pub returns-then-area-ne-AREA : goal.returns-then-area-ne-AREA
+pub returns-in_default : goal.returns-in_default
 unfolding insert_reply
-returns-then-area-ne-AREA c = no_area _ _ _ _ _ c.if-area-ne-AREA.true
+returns-in_default c =
+    let short : length c.args.area.now ≡ 32 → ⊥ = search rules in
+    no_area _ _ _ _ _ short
 
 pub returns : goal.returns
 unfolding insert_reply
 returns c =
     let t = c.tell.ensures in
-    told_reply _ _ _ _ _ _ _ _ _ c.if-area-ne-AREA.false (rw c.record_in-stored.ensures at c.insert-a.ensures) t.0 t.1
+    let long : length c.args.area.now ≡ 32 = search rules in
+    told_reply _ _ _ _ _ _ _ _ _ long (rw c.record_in-stored.ensures at c.insert-a.ensures) t.0 t.1

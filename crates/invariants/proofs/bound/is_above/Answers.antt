@@ -1,14 +1,15 @@
 -- `is_above` meets its contract. Assumes nothing.
-use Rattle.std.specs.Ordering.{is_lt}
 use Rattle.index.specs.Order.{order_in}
 use Rattle.index.specs.Named.{less_named_law}
 use Rattle.invariants.specs.Bounds.{above_nothing, above_at}
-use mathlib.Core.Path.{◌∙◌, ap, sym}
 use Rattle.invariants.proofs.bound.is_above.Goals as goal
 
 pub returns-in-None : goal.returns-in-None
 returns-in-None c = let a = c.args in above_nothing (order_in a.by a.heap.now) a.lower a.d c.in-None.is
 
 pub returns-in-Some : goal.returns-in-Some
-returns-in-Some c = let a = c.args in
-    above_at (order_in a.by a.heap.now) a.lower _ a.d _ c.in-Some.is (sym (c.is_lt.ensures ∙ ap is_lt c.order_of.ensures ∙ less_named_law _))
+returns-in-Some c =
+    let a = c.args in
+    let t = order_in a.by a.heap.now in
+    let x = c.in-Some.x in
+    above_at t a.lower x a.d _ c.in-Some.is (cc (less_named_law (t.cmp x a.d)))

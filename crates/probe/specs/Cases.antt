@@ -1,5 +1,5 @@
 -- What the rules answer to the inputs of docs/DIFFERENCES.md, and where document 01 has a sentence that no starred example shows.
-use Rattle.std.specs.Prelude.{Err, Ok}
+use Rattle.std.specs.Prelude.{Err}
 use Rattle.answer.specs.Answers.{Answer, Check, Held, all_held, done_with, ended_step, is_sound, unchecked, unsound_at, yielding}
 use Rattle.std.specs.Prelude.{ℕ, ◌+◌, true, cond, List, [], ◌∷◌, ◌++◌, map, ◌≡◌, refl, eqb, leb, take, set}
 use Rattle.store.specs.declared.PageId.{PageId}

@@ -90,10 +90,10 @@ fn next_in(bytes: &[u8], id: u64, from: usize, by: Index, heap: &[u8]) -> u64
         return NOTHING;
     };
     let c = store::capacity_of(bytes.len() as u64);
-    match memory_store::access::next_midpoint(bytes, c, header.count, from) {
-        Some(child) => child.0,
-        None => NOTHING,
-    }
+    memory_store::access::next_midpoint(bytes, c, header.count, from).map_or(
+        NOTHING,
+        |child| child.0,
+    )
 }
 
 fn first_in(bytes: &[u8], id: u64, sought: &[u8], by: Index, heap: &[u8]) -> u64
@@ -163,83 +163,60 @@ fn write_in(bytes: &[u8], id: u64, free: &mut [u8], by: Index, heap: &[u8]) -> u
 pub fn probe_rule(bytes: &[u8], id: u64, order: u64, heap: &[u8]) -> u64
     ensures { result ≡ in_good_order nothing (λ o. rule_of (seen (order_in o heap.now) bytes.now id)) (index_of order) }
 {
-    match index::index_of(order) {
-        Some(by) => rule_in(bytes, id, by, heap),
-        None => NOTHING,
-    }
+    index::index_of(order).map_or(NOTHING, |by| rule_in(bytes, id, by, heap))
 }
 
 // The level of a readable page.
 pub fn probe_level(bytes: &[u8], id: u64, order: u64, heap: &[u8]) -> u64
     ensures { result ≡ in_good_order nothing (λ o. level_of (seen (order_in o heap.now) bytes.now id)) (index_of order) }
 {
-    match index::index_of(order) {
-        Some(by) => level_in(bytes, id, by, heap),
-        None => NOTHING,
-    }
+    index::index_of(order).map_or(NOTHING, |by| level_in(bytes, id, by, heap))
 }
 
 // The number of its datoms.
 pub fn probe_count(bytes: &[u8], id: u64, order: u64, heap: &[u8]) -> u64
     ensures { result ≡ in_good_order nothing (λ o. count_of (seen (order_in o heap.now) bytes.now id)) (index_of order) }
 {
-    match index::index_of(order) {
-        Some(by) => count_in(bytes, id, by, heap),
-        None => NOTHING,
-    }
+    index::index_of(order).map_or(NOTHING, |by| count_in(bytes, id, by, heap))
 }
 
 // Word j of the datom at index i: 0 entity, 1 attribute, 2 value, 3 last word.
 pub fn probe_word(bytes: &[u8], id: u64, i: usize, j: usize, order: u64, heap: &[u8]) -> u64
     ensures { result ≡ in_good_order nothing (λ o. word_of i j (seen (order_in o heap.now) bytes.now id)) (index_of order) }
 {
-    match index::index_of(order) {
-        Some(by) => word_in(bytes, id, i, j, by, heap),
-        None => NOTHING,
-    }
+    index::index_of(order).map_or(NOTHING, |by| word_in(bytes, id, i, j, by, heap))
 }
 
 // The child at index i.
 pub fn probe_child(bytes: &[u8], id: u64, i: usize, order: u64, heap: &[u8]) -> u64
     ensures { result ≡ in_good_order nothing (λ o. child_of i (seen (order_in o heap.now) bytes.now id)) (index_of order) }
 {
-    match index::index_of(order) {
-        Some(by) => child_in(bytes, id, i, by, heap),
-        None => NOTHING,
-    }
+    index::index_of(order).map_or(NOTHING, |by| child_in(bytes, id, i, by, heap))
 }
 
 // The first real child at or after an index.
 pub fn probe_next(bytes: &[u8], id: u64, from: usize, order: u64, heap: &[u8]) -> u64
     ensures { result ≡ in_good_order nothing (λ o. next_of from (seen (order_in o heap.now) bytes.now id)) (index_of order) }
 {
-    match index::index_of(order) {
-        Some(by) => next_in(bytes, id, from, by, heap),
-        None => NOTHING,
-    }
+    index::index_of(order).map_or(NOTHING, |by| next_in(bytes, id, from, by, heap))
 }
 
 // The index of the first datom that is not below the one whose 32 bytes are given.
 pub fn probe_first(bytes: &[u8], id: u64, sought: &[u8], order: u64, heap: &[u8]) -> u64
     ensures { result ≡ in_good_order nothing (λ o. first_of (order_in o heap.now) sought.now (seen (order_in o heap.now) bytes.now id)) (index_of order) }
 {
-    match index::index_of(order) {
-        Some(by) => first_in(bytes, id, sought, by, heap),
-        None => NOTHING,
-    }
+    index::index_of(order).map_or(NOTHING, |by| first_in(bytes, id, sought, by, heap))
 }
 
 // How two datoms compare, each given by its 32 bytes: 0 below, 1 equal, 2 above.
 pub fn probe_order(a: &[u8], b: &[u8], order: u64, heap: &[u8]) -> u64
     ensures { result ≡ in_good_order nothing (λ o. order_of (order_in o heap.now) a.now b.now) (index_of order) }
 {
-    match index::index_of(order) {
-        Some(by) => in_order(a, b, by, heap),
-        None => NOTHING,
-    }
+    index::index_of(order).map_or(NOTHING, |by| in_order(a, b, by, heap))
 }
 
-// A readable page is written anew into a free one of the same length: 1 if so, and 0 with nothing changed if not.
+// A readable page is written anew into a free one of the same length: 1 if so, and 0 with nothing changed if not. A match and no closure,
+// whose proof would have to say what it wrote through what it captured.
 pub fn probe_write(bytes: &[u8], id: u64, free: &mut [u8], order: u64, heap: &[u8]) -> u64
     ensures { (result ≡ in_good_order 0 (λ o. wrote_of bytes.now free.old (seen (order_in o heap.now) bytes.now id)) (index_of order)) × (free.new ≡ in_good_order free.old (λ o. rewritten bytes.now free.old (seen (order_in o heap.now) bytes.now id)) (index_of order)) }
 {

@@ -1,8 +1,9 @@
 -- `next_in` meets its contract. Assumes nothing.
 use Rattle.store.specs.declared.PageId.{PageId}
-use Rattle.std.specs.Prelude.{Option}
+use Rattle.std.specs.Prelude.{◌≡◌, Option}
+use Rattle.std.proofs.Common.{rules}
 use native.Mathlib.Omega.{arith}
-use mathlib.Core.Path.{sym, ◌∙◌, ap}
+use mathlib.Core.Path.{◌∙◌, ap}
 use lib.ListN.{drop}
 use Rattle.rules.specs.Page.{node_of}
 use Rattle.rules.specs.Node.{next_midpoint}
@@ -19,18 +20,12 @@ next_midpoint-requires c =
     let e = c.capacity_of-c.ensures in
     (omega arith, omega arith)
 
-pub returns-in-Some : goal.returns-in-Some
+pub returns : goal.returns
 unfolding node_of
-returns-in-Some c =
+returns c =
     let a = c.args in
     let e = rw c.capacity_of-c.ensures at c.next_midpoint.ensures in
-    ap (λ (m : (Option PageId)). (child_of m).0) (sym c.in-Some.is ∙ e)
-    ∙ of_good _ _ _ c.in-Ok.is c.look_at.ensures (λ n. (child_of (next_midpoint (drop a.from n.children))).0)
-
-pub returns-in-None : goal.returns-in-None
-unfolding node_of
-returns-in-None c =
-    let a = c.args in
-    let e = rw c.capacity_of-c.ensures at c.next_midpoint.ensures in
-    ap (λ (m : (Option PageId)). (child_of m).0) (sym c.in-None.is ∙ e)
-    ∙ of_good _ _ _ c.in-Ok.is c.look_at.ensures (λ n. (child_of (next_midpoint (drop a.from n.children))).0)
+    let told : c.map_or.result ≡ (child_of c.next_midpoint.result).0 = search rules in
+    told
+    ∙ (ap (λ (m : Option PageId). (child_of m).0) e
+    ∙ of_good _ _ _ c.in-Ok.is c.look_at.ensures (λ n. (child_of (next_midpoint (drop a.from n.children))).0))

@@ -6,6 +6,7 @@ use crate::lent::{Answer, Cursor, Lent};
 use crate::record::Record;
 use crate::tally::{Place, Tally};
 use crate::{lent, names, record};
+use index::Index;
 use store::StoreRecord;
 
 // Both oracles gave the answer.
@@ -180,10 +181,10 @@ impl Session<'_> {
         if recorded.word(1) == BOTH {
             self.tally.add(Place::ByBoth, 1);
         }
-        match self.lent.stored.order {
-            1 => self.tally.add(Place::InAevt, 1),
-            2 => self.tally.add(Place::InAvet, 1),
-            _ => {}
+        match index::index_of(self.lent.stored.order) {
+            Some(Index::Aevt) => self.tally.add(Place::InAevt, 1),
+            Some(Index::Avet) => self.tally.add(Place::InAvet, 1),
+            Some(Index::Eavt) | None => {}
         }
     }
 

@@ -1,7 +1,7 @@
 -- One step of each check along the batch, as its loop takes it.
 use Prim.Native.Nat.{ℕ, ◌+◌, ◌<◌, ◌≤◌, Ordering}
 use Rattle.std.proofs.Common.{add-one, ap}
-use Rattle.std.specs.Prelude.{Bool, true, false, List, ◌∷◌, ◌≡◌}
+use Rattle.std.specs.Prelude.{Bool, true, false, Option, None, Some, List, ◌∷◌, ◌≡◌}
 use Rattle.std.proofs.Math.Path.{refl, sym}
 use Rattle.std.proofs.Math.ListN.{drop}
 use Rattle.store.specs.Words.{cells}
@@ -12,11 +12,20 @@ use Rattle.datom.specs.Laws.{datoms_from}
 use Rattle.index.specs.Order.{is_less}
 use Rattle.answer.specs.declared.Refusal.{Refusal}
 use Rattle.answer.specs.declared.Refusal.TheVariants.{OutOfOrder}
-use Rattle.rules.specs.Lookup.{clear, found}
+use Rattle.rules.specs.Lookup.{Finding, clear, found}
 use Rattle.rules.specs.Insert.{form_fault, low_fault, order_fault}
 
 abbrev D : Type 0
 D = List Datom
+
+-- a test of the code answers as the rule's does
+abbrev pub Tells : (Datom → Bool → Type 0) → (Datom → Bool) → Type 0
+Tells answers ok = (d : Datom) (r : Bool) → answers d r → r ≡ ok d
+
+-- what the index of the first datom that fails a test is refused with
+abbrev pub failing_at : (ℕ → Refusal) → Option ℕ → Finding
+failing_at bad None = clear
+failing_at bad (Some i) = found (bad i)
 
 -- at the head of a rest, and past the end
 module _ (bad : ℕ → Refusal) (ok : Datom → Bool) (i : ℕ) where

@@ -3,105 +3,91 @@
 
 pub mod sort;
 
-ghost use Rattle.std.specs.Prelude.{◌≡◌, [], ◌+◌, ◌*◌, ◌≤◌, length};
+ghost use Rattle.std.specs.Prelude.{◌≡◌, [], ◌+◌, ◌*◌, ◌≤◌, ℕ, Bool, length};
+ghost use Rattle.datom.specs.declared.Datom.{Datom};
 ghost use Rattle.datom.specs.Datom.{datom_at, datoms_of, formed_datom, stored_datom};
 ghost use Rattle.index.specs.Order.{order_in};
+ghost use Rattle.answer.specs.declared.Refusal.{Refusal};
 ghost use Rattle.answer.specs.declared.Refusal.TheVariants.{BadDatom, BadConstant};
 ghost use Rattle.rules.specs.Insert.{form_fault, order_fault, has_same, twin_fault};
 ghost use Rattle.batch.specs.Finding.{finding_of, counted};
+ghost use Rattle.batch.specs.Steps.{Tells, failing_at};
 ghost use Rattle.batch.specs.Twins.{earlier};
 
 use answer::Refusal;
+use datom::Datom;
 use index::Index;
-use std::cmp::Ordering;
-
-// Of a check: nothing, or the refusal to give.
-#[derive(Clone, Copy)]
-pub enum Finding {
-    Clear,
-    Found(Refusal),
-}
-
-// How many datoms a batch has, or why it is none.
-#[derive(Clone, Copy)]
-pub enum Count {
-    Datoms(usize),
-    Refused(Refusal),
-}
 
 // The most datoms that a batch may have.
 pub const MOST: usize = 128;
 
-// Bytes that are no whole datoms, and more datoms than a batch may have, are both too many.
-pub fn count_of(b: &[u8]) -> Count
+// How many datoms a batch has. Bytes that are no whole datoms, and more datoms than a batch may have, are both too many.
+pub fn count_of(b: &[u8]) -> Result<usize, Refusal>
     ensures { result ≡ counted b.now }
 {
     if b.len() % 32 != 0 {
-        return Count::Refused(Refusal::TooMany);
+        return Err(Refusal::TooMany);
     }
     let n = b.len() / 32;
     if MOST < n {
-        return Count::Refused(Refusal::TooMany);
+        return Err(Refusal::TooMany);
     }
-    Count::Datoms(n)
+    Ok(n)
+}
+
+// The index of the first of n datoms that fails a test.
+fn first_failing<F: Fn(Datom) -> bool>(b: &[u8], n: usize, test: F) -> Option<usize>
+    requires room { 32 * n ≤ length b.now }
+    requires callable { F.IsAlwaysCallable test }
+    ensures { (ok : Datom → Bool) (bad : ℕ → Refusal) → Tells (F.post test) ok → form_fault bad ok 0 (datoms_of n b.now) ≡ failing_at bad result }
+{
+    for i in 0..n {
+        if !test(datom::datom_at(b, 32 * i)) {
+            return Some(i);
+        }
+    }
+    None
 }
 
 // The first datom that no batch may have, whatever the heap holds.
-pub fn form_fault(b: &[u8], n: usize) -> Finding
+pub fn form_fault(b: &[u8], n: usize) -> Result<(), Refusal>
     requires { 32 * n ≤ length b.now }
     ensures { finding_of result ≡ form_fault BadDatom formed_datom 0 (datoms_of n b.now) }
 {
-    let mut i = 0;
-    while i < n {
-        if !datom::datom_at(b, 32 * i).is_formed() {
-            return Finding::Found(Refusal::BadDatom(i));
-        }
-        i += 1;
+    match first_failing(b, n, |d| d.is_formed()) {
+        Some(i) => Err(Refusal::BadDatom(i)),
+        None => Ok(()),
     }
-    Finding::Clear
 }
 
 // The first datom that names no valid constant of the heap, of a batch that is well formed.
-pub fn constant_fault(b: &[u8], n: usize, heap: &[u8]) -> Finding
+pub fn constant_fault(b: &[u8], n: usize, heap: &[u8]) -> Result<(), Refusal>
     requires { 32 * n ≤ length b.now }
     ensures { finding_of result ≡ form_fault BadConstant (stored_datom heap.now) 0 (datoms_of n b.now) }
 {
-    let mut i = 0;
-    while i < n {
-        if !datom::datom_at(b, 32 * i).is_stored(heap) {
-            return Finding::Found(Refusal::BadConstant(i));
-        }
-        i += 1;
+    match first_failing(b, n, |d| d.is_stored(heap)) {
+        Some(i) => Err(Refusal::BadConstant(i)),
+        None => Ok(()),
     }
-    Finding::Clear
 }
 
 // The first datom that is not above the one before it.
-pub fn order_fault(b: &[u8], n: usize, by: Index, heap: &[u8]) -> Finding
+pub fn order_fault(b: &[u8], n: usize, by: Index, heap: &[u8]) -> Result<(), Refusal>
     requires { 32 * n ≤ length b.now }
     ensures { finding_of result ≡ order_fault (order_in by heap.now).cmp (datoms_of n b.now) }
 {
     if n == 0 {
-        return Finding::Clear;
+        return Ok(());
     }
-    let mut p = datom::datom_at(b, 0);
-    let mut i = 1;
-    while i < n {
+    let mut last = datom::datom_at(b, 0);
+    for i in 1..n {
         let d = datom::datom_at(b, 32 * i);
-        match index::order_of(p, d, by, heap) {
-            Ordering::Less => {
-                p = d;
-                i += 1;
-            }
-            Ordering::Equal => {
-                return Finding::Found(Refusal::OutOfOrder(i));
-            }
-            Ordering::Greater => {
-                return Finding::Found(Refusal::OutOfOrder(i));
-            }
+        if !index::order_of(last, d, by, heap).is_lt() {
+            return Err(Refusal::OutOfOrder(i));
         }
+        last = d;
     }
-    Finding::Clear
+    Ok(())
 }
 
 // Whether the datom at index i is equal to an earlier one. The last of them is looked at first, as the rule does.
@@ -110,31 +96,23 @@ fn has_twin(b: &[u8], i: usize, by: Index, heap: &[u8]) -> bool
     ensures { result ≡ has_same (order_in by heap.now).cmp (datom_at b.now (32 * i)) (earlier i b.now) }
 {
     let d = datom::datom_at(b, 32 * i);
-    let mut j = i;
-    while 0 < j {
-        j -= 1;
-        match index::order_of(datom::datom_at(b, 32 * j), d, by, heap) {
-            Ordering::Less => {}
-            Ordering::Equal => {
-                return true;
-            }
-            Ordering::Greater => {}
+    for j in (0..i).rev() {
+        if index::order_of(datom::datom_at(b, 32 * j), d, by, heap).is_eq() {
+            return true;
         }
     }
     false
 }
 
 // The first datom that is equal to an earlier one. A batch is small enough to compare each with all before it.
-pub fn twin_fault(b: &[u8], n: usize, by: Index, heap: &[u8]) -> Finding
+pub fn twin_fault(b: &[u8], n: usize, by: Index, heap: &[u8]) -> Result<(), Refusal>
     requires { 32 * n ≤ length b.now }
     ensures { finding_of result ≡ twin_fault (order_in by heap.now).cmp 0 [] (datoms_of n b.now) }
 {
-    let mut i = 0;
-    while i < n {
+    for i in 0..n {
         if has_twin(b, i, by, heap) {
-            return Finding::Found(Refusal::OutOfOrder(i));
+            return Err(Refusal::OutOfOrder(i));
         }
-        i += 1;
     }
-    Finding::Clear
+    Ok(())
 }

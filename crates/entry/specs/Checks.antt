@@ -1,5 +1,5 @@
 -- The refusals before anything is written, one after another, as the entries find them.
-use Rattle.std.specs.Prelude.{ℕ, ◌*◌, ◌≤◌, Bool, ◌||◌, List, [], ◌≡◌, length}
+use Rattle.std.specs.Prelude.{ℕ, ◌*◌, ◌≤◌, Bool, ◌||◌, List, [], ◌≡◌, length, Result, Ok, Err}
 use Rattle.std.proofs.Math.Bool.{true, false}
 use Rattle.std.proofs.Math.Logic.{inl, inr}
 use Rattle.std.proofs.Math.Path.{refl, sym, ap}
@@ -22,13 +22,11 @@ use Rattle.rules.specs.Lookup.{Finding, clear, found}
 use Rattle.rules.specs.Store.{or_else, bad_store, bad_scratch, bad_root, fetch_page, env_of}
 use Rattle.rules.specs.Insert.{Outcome, refuse, outcome, store_fault, count_fault, form_fault, word_fault, order_fault, twin_fault, root_fault, sort, fresh_tree, write_fresh, insert_at, insert_under, insert_counted, initialise_counted, bytes_fault, batch_of, insert_bytes, initialise_bytes}
 use Rattle.rules.specs.Checks.{order_rises}
-use Rattle.batch.specs.declared.Count.{Count}
-use Rattle.batch.specs.declared.Count.TheVariants.{Datoms, Refused}
 use Rattle.batch.specs.Finding.{counted, given_count, refused_count}
 
 -- 1 and 2, or how many datoms
-unfoldable pub count_for : Extent → List ℕ → ℕ → List ℕ → Count
-count_for x s scratch b = or_else Refused (store_fault x s scratch) (counted b)
+unfoldable pub count_for : Extent → List ℕ → ℕ → List ℕ → Result ℕ Refusal
+count_for x s scratch b = or_else Err (store_fault x s scratch) (counted b)
 
 -- 3, 11 and 4 of an insert
 unfoldable pub insert_fault : DatomOrd → List Datom → Finding
@@ -59,7 +57,7 @@ module _ (x : Extent) (s : List ℕ) (L : ℕ) where
   bad_scratch_law h = rw h
 
 module _ (x : Extent) (s : List ℕ) (L : ℕ) (b : List ℕ) where
-  pub count_bad : (bad_store x s || bad_scratch x L) ≡ true → Refused BadStore ≡ count_for x s L b
+  pub count_bad : (bad_store x s || bad_scratch x L) ≡ true → Err BadStore ≡ count_for x s L b
   unfolding count_for store_fault
   count_bad h = rw h
 
@@ -82,35 +80,35 @@ module _ (x : Extent) (s : List ℕ) (L : ℕ) (b : List ℕ) where
   begun rest =
       or_else refuse (store_fault x s L) (or_else refuse (bytes_fault b) (or_else refuse (count_fault (batch_of b)) rest))
 
-  refused_begun : (r : Refusal) → count_for x s L b ≡ Refused r → (rest : Outcome) → begun rest ≡ refuse r
+  refused_begun : (r : Refusal) → count_for x s L b ≡ Err r → (rest : Outcome) → begun rest ≡ refuse r
   unfolding count_for
   refused_begun r e rest = side (store_fault x s L) refl
     where
       side : (f : Finding) → store_fault x s L ≡ f → begun rest ≡ refuse r
-      side (found q) u = let k : Refused q ≡ Refused r = rw u at e in let g : q ≡ r = cc in rw (u, g)
+      side (found q) u = let k : Err q ≡ Err r = rw u at e in let g : q ≡ r = cc in rw (u, g)
       side clear u = elim (refused_count b r (rw u at e)) [ inl h ↦ rw (u, h) | inr h ↦ rw (u, h.0, h.1) ]
 
-  given_begun : (n : ℕ) → count_for x s L b ≡ Datoms n → (rest : Outcome) → (begun rest ≡ rest) × Passed x s (capacity x.size) b n L
+  given_begun : (n : ℕ) → count_for x s L b ≡ Ok n → (rest : Outcome) → (begun rest ≡ rest) × Passed x s (capacity x.size) b n L
   unfolding count_for
   given_begun n e rest = side (store_fault x s L) refl
     where
       side : (f : Finding) → store_fault x s L ≡ f → (begun rest ≡ rest) × Passed x s (capacity x.size) b n L
-      side (found q) u = let k : Refused q ≡ Datoms n = rw u at e in absurd (apart (cc))
+      side (found q) u = let k : Err q ≡ Ok n = rw u at e in absurd (apart (cc))
       side clear u =
           let G = given_count b n (rw u at e) in
           let c = store_clear u in
           (rw (u, G.bytes, G.count), record { roomy = record { good = c.0; cap = refl; few = G.few; scratch = c.1 }; batch = G.whole })
 
   -- the count of a batch that is given
-  datoms_given : (n : ℕ) → count_for x s L b ≡ Datoms n → batch_of b ≡ datoms_of n b
+  datoms_given : (n : ℕ) → count_for x s L b ≡ Ok n → batch_of b ≡ datoms_of n b
   unfolding count_for
   datoms_given n e = side (store_fault x s L) refl
     where
       side : (f : Finding) → store_fault x s L ≡ f → batch_of b ≡ datoms_of n b
-      side (found q) u = let k : Refused q ≡ Datoms n = rw u at e in absurd (apart (cc))
+      side (found q) u = let k : Err q ≡ Ok n = rw u at e in absurd (apart (cc))
       side clear u = ap (λ (k : ℕ). datoms_of k b) (given_count b n (rw u at e)).is
 
-  module _ (t : DatomOrd) (r : Refusal) (e : count_for x s L b ≡ Refused r) where
+  module _ (t : DatomOrd) (r : Refusal) (e : count_for x s L b ≡ Err r) where
     pub insert_refused : (root : PageId) → insert_bytes t x s L root b ≡ refuse r
     unfolding insert_bytes
     insert_refused root = refused_begun r e _
@@ -119,7 +117,7 @@ module _ (x : Extent) (s : List ℕ) (L : ℕ) (b : List ℕ) where
     unfolding initialise_bytes
     initialise_refused = refused_begun r e _
 
-  module _ (n : ℕ) (e : count_for x s L b ≡ Datoms n) where
+  module _ (n : ℕ) (e : count_for x s L b ≡ Ok n) where
     pub passed : Passed x s (capacity x.size) b n L
     passed = (given_begun n e (refuse BadStore)).1
 

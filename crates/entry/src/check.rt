@@ -10,7 +10,6 @@ ghost use Rattle.batch.specs.Finding.{finding_of};
 ghost use Rattle.entry.specs.Checks.{count_for, insert_fault, initialise_fault};
 
 use answer::Refusal;
-use batch::{Count, Finding};
 use index::Index;
 use store::Extent;
 
@@ -42,44 +41,38 @@ pub fn is_bad(store: &[u8], extent: Extent, scratch: usize) -> bool
 }
 
 // Refusals 1 and 2, or how many datoms the batch has.
-pub fn count_of(store: &[u8], extent: Extent, b: &[u8], scratch: usize) -> Count
+pub fn count_of(store: &[u8], extent: Extent, b: &[u8], scratch: usize) -> Result<usize, Refusal>
     ensures { result ≡ count_for extent store.now scratch b.now }
 {
     if is_bad(store, extent, scratch) {
-        return Count::Refused(Refusal::BadStore);
+        return Err(Refusal::BadStore);
     }
     batch::count_of(b)
 }
 
 // Refusals 3 and 11, each of the whole batch, in any order.
-fn word_fault(b: &[u8], n: usize, heap: &[u8]) -> Finding
+fn word_fault(b: &[u8], n: usize, heap: &[u8]) -> Result<(), Refusal>
     requires { 32 * n ≤ length b.now }
     ensures { (i : Index) → finding_of result ≡ word_fault (order_in i heap.now) (datoms_of n b.now) }
 {
-    match batch::form_fault(b, n) {
-        Finding::Found(refusal) => Finding::Found(refusal),
-        Finding::Clear => batch::constant_fault(b, n, heap),
-    }
+    batch::form_fault(b, n)?;
+    batch::constant_fault(b, n, heap)
 }
 
 // Refusals 3, 11 and 4 of an insert.
-pub fn insert_fault(b: &[u8], n: usize, by: Index, heap: &[u8]) -> Finding
+pub fn insert_fault(b: &[u8], n: usize, by: Index, heap: &[u8]) -> Result<(), Refusal>
     requires { 32 * n ≤ length b.now }
     ensures { finding_of result ≡ insert_fault (order_in by heap.now) (datoms_of n b.now) }
 {
-    match word_fault(b, n, heap) {
-        Finding::Found(refusal) => Finding::Found(refusal),
-        Finding::Clear => batch::order_fault(b, n, by, heap),
-    }
+    word_fault(b, n, heap)?;
+    batch::order_fault(b, n, by, heap)
 }
 
 // Refusals 3, 11 and 4 of an initialise.
-pub fn initialise_fault(b: &[u8], n: usize, by: Index, heap: &[u8]) -> Finding
+pub fn initialise_fault(b: &[u8], n: usize, by: Index, heap: &[u8]) -> Result<(), Refusal>
     requires { 32 * n ≤ length b.now }
     ensures { finding_of result ≡ initialise_fault (order_in by heap.now) (datoms_of n b.now) }
 {
-    match word_fault(b, n, heap) {
-        Finding::Found(refusal) => Finding::Found(refusal),
-        Finding::Clear => batch::twin_fault(b, n, by, heap),
-    }
+    word_fault(b, n, heap)?;
+    batch::twin_fault(b, n, by, heap)
 }

@@ -14,8 +14,7 @@ ghost use Rattle.rules.specs.Calls.{extent_of, insert_bytes_call, initialise_byt
 ghost use Rattle.entry.specs.Reply.{Replies, answer_of};
 ghost use Rattle.entry.specs.Checks.{Passed};
 
-use answer::{Done, Refusal};
-use batch::{Count, Finding};
+use answer::{Damage, Done, Refusal};
 use htree::place::Failed;
 use htree::root::Rooted;
 use index::Index;
@@ -49,17 +48,10 @@ fn insert_at(
     requires { Passed extent store.old c b.now n (length s.old) × (rising (order_in by heap.now).cmp (datoms_of n b.now) ≡ true) }
     ensures { Replies extent store.old store.new result (insert_at (env_of (order_in by heap.now) extent store.old) root (datoms_of n b.now) (fetch_page (order_in by heap.now) extent store.old root)) }
 {
-    match memory_store::found::node_at(store, extent, c, root, by, heap) {
-        Err(fault) => Err(Refusal::Damaged(root, fault)),
-        Ok(Header { level, count }) => {
-            match lookup::lookup_all(store, extent, c, root, level, count, b, n, by, heap) {
-                Finding::Found(refusal) => Err(refusal),
-                Finding::Clear => {
-                    answer_of(write::under(store, extent, c, root, level, count, b, n, s, by, heap))
-                }
-            }
-        }
-    }
+    let read = memory_store::found::node_at(store, extent, c, root, by, heap);
+    let Header { level, count } = read.map_err(|fault| Damage { page: root, fault })?;
+    lookup::lookup_all(store, extent, c, root, level, count, b, n, by, heap)?;
+    answer_of(write::under(store, extent, c, root, level, count, b, n, s, by, heap))
 }
 
 // Refusals 3 to 9, of a batch of n datoms.
@@ -77,18 +69,14 @@ fn insert_counted(
     requires { Passed extent store.old c b.now n (length s.old) }
     ensures { Replies extent store.old store.new result (insert_counted (order_in by heap.now) extent store.old root (datoms_of n b.now)) }
 {
-    match check::insert_fault(b, n, by, heap) {
-        Finding::Found(refusal) => Err(refusal),
-        Finding::Clear => {
-            if memory_store::is_bad_root(extent, root) {
-                return Err(Refusal::NoPage);
-            }
-            if root.is_none() {
-                return answer_of(write::fresh(store, extent, c, b, n, s));
-            }
-            insert_at(store, extent, c, root, b, n, s, by, heap)
-        }
+    check::insert_fault(b, n, by, heap)?;
+    if memory_store::is_bad_root(extent, root) {
+        return Err(Refusal::NoPage);
     }
+    if root.is_none() {
+        return answer_of(write::fresh(store, extent, c, b, n, s));
+    }
+    insert_at(store, extent, c, root, b, n, s, by, heap)
 }
 
 // Inserts a batch at a root. Nothing is written unless the whole batch may go in.
@@ -103,13 +91,9 @@ pub fn insert_in(
 ) -> Result<Done, Refusal>
     ensures { Replies extent store.old store.new result (insert_bytes (order_in by heap.now) extent store.old (length s.old) root b.now) }
 {
-    match check::count_of(store, extent, b, s.len()) {
-        Count::Refused(refusal) => Err(refusal),
-        Count::Datoms(n) => {
-            let c = store::capacity_of(extent.size);
-            insert_counted(store, extent, c, root, b, n, s, by, heap)
-        }
-    }
+    let n = check::count_of(store, extent, b, s.len())?;
+    let c = store::capacity_of(extent.size);
+    insert_counted(store, extent, c, root, b, n, s, by, heap)
 }
 
 // Refusals 3 to 9 of an initialise, of a batch of n datoms.
@@ -126,10 +110,8 @@ fn initialise_counted(
     requires { Passed extent store.old c b.now n (length s.old) }
     ensures { Replies extent store.old store.new result (initialise_counted (order_in by heap.now) extent store.old (datoms_of n b.now)) }
 {
-    match check::initialise_fault(b, n, by, heap) {
-        Finding::Found(refusal) => Err(refusal),
-        Finding::Clear => answer_of(write::sorted(store, extent, c, b, n, s, by, heap)),
-    }
+    check::initialise_fault(b, n, by, heap)?;
+    answer_of(write::sorted(store, extent, c, b, n, s, by, heap))
 }
 
 // Makes a new tree of a batch in any order. It reads no page.
@@ -143,13 +125,9 @@ pub fn initialise_in(
 ) -> Result<Done, Refusal>
     ensures { Replies extent store.old store.new result (initialise_bytes (order_in by heap.now) extent store.old (length s.old) b.now) }
 {
-    match check::count_of(store, extent, b, s.len()) {
-        Count::Refused(refusal) => Err(refusal),
-        Count::Datoms(n) => {
-            let c = store::capacity_of(extent.size);
-            initialise_counted(store, extent, c, b, n, s, by, heap)
-        }
-    }
+    let n = check::count_of(store, extent, b, s.len())?;
+    let c = store::capacity_of(extent.size);
+    initialise_counted(store, extent, c, b, n, s, by, heap)
 }
 
 // Inserts a batch at a root. Nothing is written unless the whole batch may go in.

@@ -1,5 +1,5 @@
 -- The ways through the call, one refusal after another, as the code finds them.
-use Rattle.std.specs.Prelude.{Err, Ok}
+use Rattle.std.specs.Prelude.{Result, Err, Ok}
 use Rattle.answer.specs.Answers.{Held, all_held}
 use Prim.Native.Nat.{ℕ, zero, suc}
 use Rattle.std.specs.Prelude.{true, false, List, ◌≡◌, refl}
@@ -23,21 +23,17 @@ use Rattle.rules.specs.Store.{or_else, bad_store, bad_root, fetch_page, env_of}
 use Rattle.rules.specs.Insert.{word_fault, root_fault}
 use Rattle.rules.specs.Held.{held_all, held_at, held_tree, held_counted, held_fault, held_bytes}
 use Rattle.memory_store.specs.Readable.{node_at}
-use Rattle.batch.specs.declared.Finding.{Finding}
-use Rattle.batch.specs.declared.Finding.TheVariants.{Clear, Found}
-use Rattle.batch.specs.declared.Count.TheVariants as count
 use Rattle.batch.specs.Finding.{finding_of, counted, given_count, refused_count}
 use Rattle.entry.specs.Checks.{insert_fault, both}
 
--- the answer to what was found
-unfoldable pub held_of : Finding → Held
-held_of Clear = all_held
-held_of (Found r) = Err r
+-- what was found is the answer
+abbrev pub held_of : Result (Unit {0}) Refusal → Held
+held_of f = f
 
-pub held_of_law : (f : Finding) (g : rules.Finding) → finding_of f ≡ g → held_of f ≡ or_else Err g all_held
+pub held_of_law : (f : Result (Unit {0}) Refusal) (g : rules.Finding) → finding_of f ≡ g → held_of f ≡ or_else Err g all_held
 unfolding held_of
-held_of_law Clear g e = rw (← e)
-held_of_law (Found r) g e = rw (← e)
+held_of_law (Ok done) g e = rw (← e)
+held_of_law (Err r) g e = rw (← e)
 
 module _ (t : DatomOrd) (x : Extent) (s : List ℕ) (root : PageId) where
   -- 1 and 2
@@ -47,12 +43,12 @@ module _ (t : DatomOrd) (x : Extent) (s : List ℕ) (root : PageId) where
     bytes_bad h = rw h
 
     module _ (good : bad_store x s ≡ false) where
-      pub bytes_refused : (r : Refusal) → counted b ≡ count.Refused r → Err r ≡ held_bytes t x s root b
+      pub bytes_refused : (r : Refusal) → counted b ≡ Err r → Err r ≡ held_bytes t x s root b
       unfolding held_bytes held_fault
       bytes_refused r e = elim (refused_count b r e) [ inl h ↦ rw (good, h) | inr h ↦ rw (good, h.0, h.1) ]
 
       pub bytes_counted :
-          (n : ℕ) → counted b ≡ count.Datoms n → or_else Err (held_counted t x s root (datoms_of n b)) all_held ≡ held_bytes t x s root b
+          (n : ℕ) → counted b ≡ Ok n → or_else Err (held_counted t x s root (datoms_of n b)) all_held ≡ held_bytes t x s root b
       unfolding held_bytes held_fault
       bytes_counted n e = let G = given_count b n e in rw (good, G.bytes, G.count, ← G.is)
 

@@ -10,23 +10,11 @@ ghost use Rattle.rules.specs.Store.{bad_store, fetch_page, env_of};
 ghost use Rattle.rules.specs.Held.{held_at, held_tree, held_counted, held_bytes};
 ghost use Rattle.rules.specs.Calls.{held_call};
 ghost use Rattle.batch.specs.Finding.{finding_of};
-ghost use Rattle.held.specs.Ways.{held_of};
 
-use answer::Refusal;
-use batch::{Count, Finding};
+use answer::{Damage, Refusal};
 use index::Index;
 use memory_store::reader::Header;
 use store::{Extent, PageId, StoreRecord};
-
-// The answer, of what was found.
-fn answer_of(f: Finding) -> Result<(), Refusal>
-    ensures { result ≡ held_of f }
-{
-    match f {
-        Finding::Found(refusal) => Err(refusal),
-        Finding::Clear => Ok(()),
-    }
-}
 
 // Refusals 16 and 7, at a root that is a page. Its page is read once: the lookups are handed what was found.
 fn held_at(
@@ -38,16 +26,13 @@ fn held_at(
     n: usize,
     by: Index,
     heap: &[u8],
-) -> Finding
+) -> Result<(), Refusal>
     requires { (bad_store extent store.now ≡ false) × (c ≡ capacity extent.size) × (32 * n ≤ length b.now) }
     ensures { finding_of result ≡ held_at (env_of (order_in by heap.now) extent store.now) root (datoms_of n b.now) (fetch_page (order_in by heap.now) extent store.now root) }
 {
-    match memory_store::found::node_at(store, extent, c, root, by, heap) {
-        Err(fault) => Finding::Found(Refusal::Damaged(root, fault)),
-        Ok(Header { level, count }) => {
-            lookup::held_all(store, extent, c, root, level, count, b, n, by, heap)
-        }
-    }
+    let read = memory_store::found::node_at(store, extent, c, root, by, heap);
+    let Header { level, count } = read.map_err(|fault| Damage { page: root, fault })?;
+    lookup::held_all(store, extent, c, root, level, count, b, n, by, heap)
 }
 
 // Refusals 16 and 7. No page is read for an empty batch, and none at root "none".
@@ -59,15 +44,15 @@ fn held_tree(
     n: usize,
     by: Index,
     heap: &[u8],
-) -> Finding
+) -> Result<(), Refusal>
     requires { (bad_store extent store.now ≡ false) × (32 * n ≤ length b.now) }
     ensures { finding_of result ≡ held_tree (order_in by heap.now) extent store.now root (datoms_of n b.now) }
 {
     if n == 0 {
-        return Finding::Clear;
+        return Ok(());
     }
     if root.is_none() {
-        return Finding::Found(Refusal::NotHeld(0));
+        return Err(Refusal::NotHeld(0));
     }
     let c = store::capacity_of(extent.size);
     held_at(store, extent, c, root, b, n, by, heap)
@@ -82,37 +67,44 @@ fn held_counted(
     n: usize,
     by: Index,
     heap: &[u8],
-) -> Finding
+) -> Result<(), Refusal>
     requires { (bad_store extent store.now ≡ false) × (32 * n ≤ length b.now) }
     ensures { finding_of result ≡ held_counted (order_in by heap.now) extent store.now root (datoms_of n b.now) }
 {
-    match entry::check::insert_fault(b, n, by, heap) {
-        Finding::Found(refusal) => Finding::Found(refusal),
-        Finding::Clear => {
-            if memory_store::is_bad_root(extent, root) {
-                return Finding::Found(Refusal::NoPage);
-            }
-            held_tree(store, extent, root, b, n, by, heap)
-        }
+    entry::check::insert_fault(b, n, by, heap)?;
+    if memory_store::is_bad_root(extent, root) {
+        return Err(Refusal::NoPage);
     }
+    held_tree(store, extent, root, b, n, by, heap)
 }
 
 // Whether the tree under a root holds all datoms of a batch, or why not: the first that it does not hold, or what a call is refused for.
 // Nothing is written, so it takes no scratch.
-pub fn held_in(store: &[u8], extent: Extent, root: PageId, b: &[u8], by: Index, heap: &[u8]) -> Result<(), Refusal>
+pub fn held_in(
+    store: &[u8],
+    extent: Extent,
+    root: PageId,
+    b: &[u8],
+    by: Index,
+    heap: &[u8],
+) -> Result<(), Refusal>
     ensures { result ≡ held_bytes (order_in by heap.now) extent store.now root b.now }
 {
     if memory_store::is_bad(store, extent) {
         return Err(Refusal::BadStore);
     }
-    match batch::count_of(b) {
-        Count::Refused(refusal) => Err(refusal),
-        Count::Datoms(n) => answer_of(held_counted(store, extent, root, b, n, by, heap)),
-    }
+    let n = batch::count_of(b)?;
+    held_counted(store, extent, root, b, n, by, heap)
 }
 
 // Whether the tree under a root holds every datom of a batch.
-pub fn held(store: &[u8], recorded: StoreRecord, root: PageId, b: &[u8], heap: &[u8]) -> Result<(), Refusal>
+pub fn held(
+    store: &[u8],
+    recorded: StoreRecord,
+    root: PageId,
+    b: &[u8],
+    heap: &[u8],
+) -> Result<(), Refusal>
     ensures { result ≡ held_call recorded store.now heap.now root b.now }
 {
     let extent = recorded.extent();

@@ -1,9 +1,8 @@
 -- The gap that a datom's path leaves: the datoms above it whose paths run through the same pages.
-use Rattle.std.specs.Prelude.{Some}
 use Prim.Native.Nat.{ℕ, zero, suc, ◌+◌, ◌-◌, ◌*◌, ◌<◌, ◌≤◌, Ordering}
 use Rattle.std.proofs.Math.Nat.{add-zero}
 use native.Mathlib.Omega.{arith}
-use Rattle.std.specs.Prelude.{Bool, cond, ◌≡◌, drop}
+use Rattle.std.specs.Prelude.{Bool, cond, ◌≡◌, drop, Option, None, Some, Ok}
 use Rattle.std.proofs.Math.Bool.{true, false}
 use mathlib.Core.List.{List, [], ◌∷◌}
 use Rattle.std.proofs.Common.{inl, inr, sym, ◌∙◌, length-drop, drop-drop}
@@ -25,23 +24,23 @@ use Rattle.rules.specs.Tree.{fine}
 use Rattle.rules.specs.Lookup.{Finding, lookup_all}
 use Rattle.rules.specs.Store.{page_at, fetch_page, env_of}
 use Rattle.memory_store.specs.Readable.{node_at}
-use Rattle.lookup.specs.declared.gap.Gap.{Gap}
-use Rattle.lookup.specs.declared.gap.Gap.TheVariants.{Open, Below}
-use Rattle.lookup.specs.declared.Look.{Look}
-use Rattle.lookup.specs.declared.Look.TheVariants.{Met, Absent, Lost}
-use Rattle.lookup.specs.Look.{look_of, path_of}
+use Rattle.lookup.specs.Look.{Look, lost_at, look_of, path_of}
 use Rattle.lookup.specs.Steps.{seek_in, met_in, next_in, way_absent, way_down, all_on}
+
+-- a gap, by its end: the first datom past it, or none
+abbrev pub Gap : Type 0
+Gap = Option Datom
 
 -- below the end of the gap
 unfoldable pub inside : DatomOrd → Gap → Datom → Bool
-inside t Open y = true
-inside t (Below h) y = is_less (t.cmp y h)
+inside t None y = true
+inside t (Some h) y = is_less (t.cmp y h)
 
 -- up to the first of some datoms, if that is less
 unfoldable pub narrowed : DatomOrd → Gap → List Datom → Gap
 narrowed t g [] = g
-narrowed t Open (x ∷ xs) = Below x
-narrowed t (Below h) (x ∷ xs) = cond (is_less (t.cmp x h)) (Below x) (Below h)
+narrowed t None (x ∷ xs) = Some x
+narrowed t (Some h) (x ∷ xs) = cond (is_less (t.cmp x h)) (Some x) (Some h)
 
 -- how many of n datoms, from one on, pass a test: one that does, one that does not, and past the end
 module _ (ok : Datom → Bool) (n i : ℕ) (b : List ℕ) where
@@ -70,8 +69,8 @@ module _ (t : DatomOrd) (L : Preorder t.cmp) where
   narrow_in : (g : Gap) (xs : List Datom) (y : Datom) → inside t (narrowed t g xs) y ≡ true → (inside t g y ≡ true) × Under t y xs
   unfolding inside narrowed is_less
   narrow_in g [] y h = (h, tt)
-  narrow_in Open (x ∷ xs) y h = (refl, less t.cmp y x h)
-  narrow_in (Below z) (x ∷ xs) y h = side (t.cmp x z) refl
+  narrow_in None (x ∷ xs) y h = (refl, less t.cmp y x h)
+  narrow_in (Some z) (x ∷ xs) y h = side (t.cmp x z) refl
     where
       side : (o : Ordering) → t.cmp x z ≡ o → (is_less (t.cmp y z) ≡ true) × (t.cmp y x ≡ Ordering.lt)
       side Ordering.lt e = let k = less t.cmp y x (rw e at h) in (rw (L.trans y x z k e), k)
@@ -110,17 +109,17 @@ pub record Alike (t : DatomOrd) (x : Extent) (s : List ℕ) (d : Datom) (h : ℕ
 
 -- their paths from page `top` of level h end without an equal datom
 pub record Free (t : DatomOrd) (x : Extent) (s : List ℕ) (d : Datom) (h : ℕ) (top : PageId) (g : Gap) : Type 0 where
-  pub absent : (y : Datom) → t.cmp d y ≡ Ordering.lt → inside t g y ≡ true → Absent ≡ look_of (path_of t x s y h top)
+  pub absent : (y : Datom) → t.cmp d y ≡ Ordering.lt → inside t g y ≡ true → Ok false ≡ look_of (path_of t x s y h top)
 
 -- what a look leaves for the datoms that follow
 abbrev pub Leaves : DatomOrd → Extent → List ℕ → Datom → ℕ → PageId → Look → Gap → Type 0
-Leaves t x s d h top look g = look ≡ Absent → Free t x s d h top g
+Leaves t x s d h top look g = look ≡ Ok false → Free t x s d h top g
 
 module _ (t : DatomOrd) (x : Extent) (s : List ℕ) (d : Datom) (h : ℕ) (top : PageId) (g : Gap) where
-  pub met_leaves : Leaves t x s d h top Met g
+  pub met_leaves : Leaves t x s d h top (Ok true) g
   met_leaves e = absurd (apart (cc))
 
-  pub lost_leaves : (p : PageId) (f : Fault) → Leaves t x s d h top (Lost p f) g
+  pub lost_leaves : (p : PageId) (f : Fault) → Leaves t x s d h top (lost_at p f) g
   lost_leaves p f e = absurd (apart (cc))
 
 -- the gap, with a page p of k datoms that the path of d has come to
@@ -198,7 +197,7 @@ module _ (t : DatomOrd) (L : Preorder t.cmp) (n i : ℕ) (b : List ℕ) (rise : 
   -- it finds what the datom at index i finds
   pub next_finds :
       (x : Extent) (s : List ℕ) (l : ℕ) (root : PageId) (g : Gap) → Free t x s (datom_at b (32 * i)) l root g →
-      Absent ≡ look_of (path_of t x s (datom_at b (32 * i)) l root) →
+      Ok false ≡ look_of (path_of t x s (datom_at b (32 * i)) l root) →
       lookup_all (env_of t x s) l root (fetch_page t x s root) (next_at g) (drop (next_at g) (datoms_of n b))
       ≡ lookup_all (env_of t x s) l root (fetch_page t x s root) i (drop i (datoms_of n b))
   next_finds x s l root g F e =

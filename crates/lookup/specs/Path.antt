@@ -1,6 +1,5 @@
 -- What was read on the last path stays known, and a path on its way.
-use Rattle.std.specs.Prelude.{None, Option, Some}
-use Rattle.std.specs.Prelude.{ℕ, suc, ◌-◌, ◌<◌, ◌≤◌, Bool, true, false, List, ◌≡◌, refl, eqb, length, drop, get_or, set, replicate, Ok, Err}
+use Rattle.std.specs.Prelude.{ℕ, suc, ◌-◌, ◌<◌, ◌≤◌, Bool, true, false, List, ◌≡◌, refl, eqb, length, drop, get_or, set, replicate, Ok, Err, Option, None, Some}
 use Rattle.std.proofs.Common.{arith, sym, ap, ◌∙◌, eqb-true, length-set, get_or-set_same, get_or-set_other}
 use Rattle.std.proofs.lemmas.Bool.{eqb-false}
 use Rattle.std.proofs.lemmas.List.{get_or-replicate}
@@ -22,40 +21,44 @@ use Rattle.rules.specs.Store.{page_at, fetch_page, env_of}
 use Rattle.memory_store.specs.Readable.{node_at}
 use Rattle.memory_store.specs.Opened.{opened_of, node_opened, opened_node}
 use Rattle.lookup.specs.declared.Path.{Path}
-use Rattle.lookup.specs.declared.Look.TheVariants.{Met, Absent, Lost}
-use Rattle.lookup.specs.Look.{look_of, path_of}
-use Rattle.lookup.specs.declared.gap.Gap.{Gap}
-use Rattle.lookup.specs.Gap.{narrowed, Alike, Free, gap_in, free_at, alike_down}
+use Rattle.lookup.specs.declared.Step.{Step}
+use Rattle.lookup.specs.Look.{lost_at, look_of, path_of}
+use Rattle.lookup.specs.Gap.{Gap, narrowed, Alike, Free, gap_in, free_at, alike_down}
 use Rattle.lookup.specs.Steps.{met_in, next_in, way_met, way_absent, way_stuck, way_lost, way_down}
+
+-- a page that was read, with its count
+abbrev pub step : PageId → ℕ → Step
+step p n = record { page = p; count = n }
 
 -- nothing was read
 abbrev pub unread : Path
-unread = record { pages = replicate 8 none; counts = replicate 8 0 }
+unread = record { steps = replicate 8 (step none 0) }
 
 -- what stands in a path at a level
+abbrev pub step_on : Path → ℕ → Step
+step_on path l = get_or path.steps l (step (page 0) 0)
+
 abbrev pub page_on : Path → ℕ → PageId
-page_on path l = get_or path.pages l (page 0)
+page_on path l = (step_on path l).page
 
 abbrev pub count_on : Path → ℕ → ℕ
-count_on path l = get_or path.counts l 0
+count_on path l = (step_on path l).count
 
 -- with a page of n datoms at a level
 abbrev pub with_page : Path → ℕ → PageId → ℕ → Path
-with_page path l p n = record { pages = set path.pages l p; counts = set path.counts l n }
+with_page path l p n = record { steps = set path.steps l (step p n) }
 
 -- at each level stands a page that was read, with its count, or none
 pub record Kept (t : DatomOrd) (x : Extent) (s : List ℕ) (path : Path) : Type 0 where
-  pub pages : length path.pages ≡ 8
-  pub counts : length path.counts ≡ 8
+  pub steps : length path.steps ≡ 8
   pub read : (l : ℕ) → l < 8 → is_none (page_on path l) ≡ false → fetch_page t x s (page_on path l) ≡ fine (node_at x s (page_on path l) l (count_on path l))
 
 pub kept_unread : (t : DatomOrd) (x : Extent) (s : List ℕ) → Kept t x s unread
 unfolding is_none
 kept_unread t x s =
     record {
-      pages = refl;
-      counts = refl;
-      read = λ l h e. let k : is_none none ≡ false = rw (get_or-replicate 8 l none (page 0) h) at e in absurd (apart (cc));
+      steps = refl;
+      read = λ l h e. let k : is_none none ≡ false = rw (get_or-replicate 8 l (step none 0) (step (page 0) 0) h) at e in absurd (apart (cc));
     }
 
 module _ {t : DatomOrd} {x : Extent} {s : List ℕ} {path : Path} (K : Kept t x s path) (l : ℕ) (h : l < 8) (p : PageId) where
@@ -67,8 +70,7 @@ module _ {t : DatomOrd} {x : Extent} {s : List ℕ} {path : Path} (K : Kept t x 
   pub kept_set : (n : ℕ) → fetch_page t x s p ≡ fine (node_at x s p l n) → Kept t x s (with_page path l p n)
   kept_set n e =
       record {
-        pages = simp length-set K.pages;
-        counts = simp length-set K.counts;
+        steps = simp length-set K.steps;
         read = λ j k r. side j k r (eqb j l) refl;
       }
     where
@@ -77,15 +79,9 @@ module _ {t : DatomOrd} {x : Extent} {s : List ℕ} {path : Path} (K : Kept t x 
           fetch_page t x s (page_on (with_page path l p n) j)
           ≡ fine (node_at x s (page_on (with_page path l p n) j) j (count_on (with_page path l p n) j))
       side j k r true u =
-          rw (
-            eqb-true j l u,
-            get_or-set_same path.pages l p (page 0) (omega (arith, K.pages)),
-            get_or-set_same path.counts l n 0 (omega (arith, K.counts)),
-          )
-          e
+          let here = get_or-set_same path.steps l (step p n) (step (page 0) 0) (omega (arith, K.steps)) in rw (eqb-true j l u, page_on, count_on, step_on, here) e
       side j k r false u =
-          let other = get_or-set_other path.pages l j p (page 0) (eqb-false j l u) in
-          rw (other, get_or-set_other path.counts l j n 0 (eqb-false j l u)) (K.read j k (rw other at r))
+          let other = get_or-set_other path.steps l j (step p n) (step (page 0) 0) (eqb-false j l u) in rw (page_on, count_on, step_on, other) (K.read j k (rw (page_on, step_on, other) at r))
 
 -- the path of d from page `top` of level h has come to page p, of level l and k datoms, and so have those of the gap above d
 pub record Going (t : DatomOrd) (x : Extent) (s : List ℕ) (d : Datom) (h : ℕ) (top : PageId) (path : Path) (g : Gap) (p : PageId) (l k : ℕ) : Type 0 where
@@ -107,26 +103,26 @@ module _ {t : DatomOrd} {x : Extent} {s : List ℕ} {d : Datom} {h : ℕ} {top :
     met_is e f u v = rw (← e, ← f) (sym u ∙ v)
 
     pub next_is :
-        {part : List ℕ} {i c : ℕ} {r b : (Option PageId)} → part ≡ page_at x s p → i ≡ rank t.cmp d (datoms_of k part) → c ≡ capacity x.size →
+        {part : List ℕ} {i c : ℕ} {r b : Option PageId} → part ≡ page_at x s p → i ≡ rank t.cmp d (datoms_of k part) → c ≡ capacity x.size →
         r ≡ next_midpoint (drop i (children_of c (suc k) part)) → r ≡ b → next_in t x s d p k ≡ b
     next_is e f cap u v = rw (← e, ← f, ← cap) (sym u ∙ v)
 
-    pub going_met : met_in t x s d p k ≡ true → Met ≡ look_of (path_of t x s d h top)
+    pub going_met : met_in t x s d p k ≡ true → Ok true ≡ look_of (path_of t x s d h top)
     going_met m = way_met t x s d p l k g.read m ∙ ap look_of g.rest
 
     module _ (other : met_in t x s d p k ≡ false) where
-      pub going_absent : l ≡ 0 → Absent ≡ look_of (path_of t x s d h top)
+      pub going_absent : l ≡ 0 → Ok false ≡ look_of (path_of t x s d h top)
       going_absent z = way_absent t x s d p l k g.read other z ∙ ap look_of g.rest
 
       pub going_free : Preorder t.cmp → l ≡ 0 → Free t x s d h top (gap_in t x s d gap p k)
       going_free L z = free_at L g.alike k g.read z
 
       module _ (up : l ≡ 0 → ⊥) where
-        pub going_stuck : x.count ≤ none.0 → next_in t x s d p k ≡ None → Lost none Missing ≡ look_of (path_of t x s d h top)
+        pub going_stuck : x.count ≤ none.0 → next_in t x s d p k ≡ None → lost_at none Missing ≡ look_of (path_of t x s d h top)
         going_stuck few next = way_stuck t x s d p l k g.read other up few next ∙ ap look_of g.rest
 
         module _ {c : PageId} (next : next_in t x s d p k ≡ Some c) where
-          pub going_lost : {f : Fault} → Err f ≡ opened_of (fetch_at (env_of t x s) (l - 1) c) → Lost c f ≡ look_of (path_of t x s d h top)
+          pub going_lost : {f : Fault} → Err f ≡ opened_of (fetch_at (env_of t x s) (l - 1) c) → lost_at c f ≡ look_of (path_of t x s d h top)
           going_lost {f} e = way_lost t x s d p l k g.read other up c next f e ∙ ap look_of g.rest
 
           pub going_down :

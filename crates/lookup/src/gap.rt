@@ -7,18 +7,19 @@ ghost use Rattle.lookup.specs.Gap.{inside, narrowed};
 
 use datom::Datom;
 use index::Index;
-use std::cmp::Ordering;
 
-// The datoms above the one sought whose paths run through the same pages and meet an equal datom in none of them: those below the
-// least datom that stands next to it in these pages, or all of them where it is above every page.
-#[derive(Clone, Copy)]
-pub enum Gap {
-    Open,
-    Below(Datom),
-}
+// A gap holds the datoms above the one sought whose paths run through the same pages and meet an equal datom in none of them: those below
+// the least datom that stands next to it in these pages, which ends the gap, or all of them where it is above every page.
 
-// The gap as far as the datom at index i, of k, of one more page.
-pub fn narrow(gap: Gap, page: &[u8], k: usize, i: usize, by: Index, heap: &[u8]) -> Gap
+// The end of the gap as far as the datom at index i, of k, of one more page.
+pub fn narrow(
+    gap: Option<Datom>,
+    page: &[u8],
+    k: usize,
+    i: usize,
+    by: Index,
+    heap: &[u8],
+) -> Option<Datom>
     requires { 32 * k ≤ length page.now }
     ensures { result ≡ narrowed (order_in by heap.now) gap (drop i (datoms_of k page.now)) }
 {
@@ -26,41 +27,31 @@ pub fn narrow(gap: Gap, page: &[u8], k: usize, i: usize, by: Index, heap: &[u8])
         return gap;
     }
     let next = datom::datom_at(page, 32 * i);
-    let Gap::Below(high) = gap else {
-        return Gap::Below(next);
+    let Some(high) = gap else {
+        return Some(next);
     };
-    match index::order_of(next, high, by, heap) {
-        Ordering::Less => Gap::Below(next),
-        Ordering::Equal => Gap::Below(high),
-        Ordering::Greater => Gap::Below(high),
+    if index::order_of(next, high, by, heap).is_lt() {
+        return Some(next);
     }
+    Some(high)
 }
 
 // Whether d lies below the end of the gap.
-fn is_inside(gap: Gap, d: Datom, by: Index, heap: &[u8]) -> bool
+fn is_inside(gap: Option<Datom>, d: Datom, by: Index, heap: &[u8]) -> bool
     ensures { result ≡ inside (order_in by heap.now) gap d }
 {
-    let Gap::Below(high) = gap else {
-        return true;
-    };
-    match index::order_of(d, high, by, heap) {
-        Ordering::Less => true,
-        Ordering::Equal => false,
-        Ordering::Greater => false,
-    }
+    gap.is_none_or(|high| index::order_of(d, high, by, heap).is_lt())
 }
 
 // The index of the first datom of the batch of n, from an index on, that is past the end of the gap.
-pub fn skip(gap: Gap, b: &[u8], n: usize, from: usize, by: Index, heap: &[u8]) -> usize
+pub fn skip(gap: Option<Datom>, b: &[u8], n: usize, from: usize, by: Index, heap: &[u8]) -> usize
     requires { (32 * n ≤ length b.now) × (from ≤ n) }
     ensures { result ≡ from + rank_by (inside (order_in by heap.now) gap) (drop from (datoms_of n b.now)) }
 {
-    let mut i = from;
-    while i < n {
+    for i in from..n {
         if !is_inside(gap, datom::datom_at(b, 32 * i), by, heap) {
             return i;
         }
-        i += 1;
     }
-    i
+    n
 }

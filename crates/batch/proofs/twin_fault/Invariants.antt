@@ -1,7 +1,4 @@
-use Prim.Native.Nat.{◌-◌, ◌≤◌}
-use mathlib.Core.List.{[]}
-use mathlib.Core.Path.{◌≡◌}
-use lib.ListN.{drop}
+use Rattle.std.specs.Prelude.{◌≡◌, drop, []}
 use Rattle.datom.specs.Datom.{datoms_of}
 use Rattle.index.specs.Order.{order_in}
 use Rattle.rules.specs.Insert.{twin_fault}
@@ -9,7 +6,4 @@ use Rattle.batch.specs.Twins.{earlier}
 use Rattle.batch.proofs.twin_fault.Given as goal
 
 abbrev pub invariant-loop-i : goal.invariant-loop-i
-invariant-loop-i l = (l.i ≤ l.n) × (twin_fault (order_in l.by l.heap).cmp l.i (earlier l.i l.b) (drop l.i (datoms_of l.n l.b)) ≡ twin_fault (order_in l.by l.heap).cmp 0 [] (datoms_of l.n l.b))
-
-abbrev pub decreases-loop-i : goal.decreases-loop-i
-decreases-loop-i l = l.n - l.i
+invariant-loop-i l = twin_fault (order_in l.by l.heap).cmp l.i (earlier l.i l.b) (drop l.i (datoms_of l.n l.b)) ≡ twin_fault (order_in l.by l.heap).cmp 0 [] (datoms_of l.n l.b)

@@ -1,21 +1,22 @@
 -- `insert_in` meets its contract on every input: 1 and 2, then the rest. Assumes nothing.
-use mathlib.Core.Path.{sym, ◌∙◌}
-use lib.ListN.{length}
+use Rattle.std.proofs.Common.{length, sym}
+use Rattle.std.proofs.lemmas.Result.{err_from_is_err_and}
 use Rattle.entry.specs.Reply.{replies_refused}
 use Rattle.entry.specs.Checks.{insert_refused, insert_counted_law, passed}
 use Rattle.entry.proofs.insert_in.Goals as goal
 
+pub returns-in_err-n : goal.returns-in_err-n
+returns-in_err-n c =
+    let a = c.args in
+    let p = err_from_is_err_and c.from_residual.result c.from_residual.ensures.1 in
+    rw (p.1, p.2) (replies_refused _ _ _ _ (insert_refused a.extent a.store.now (length a.s.now) a.b.now _ _ (sym c.in_err-n.ensures) a.root))
+
 pub insert_counted-requires : goal.insert_counted-requires
 insert_counted-requires c =
     let a = c.args in
-    rw c.capacity_of-c.ensures (passed a.extent a.store.now (length a.s.now) a.b.now _ (sym c.count_of.ensures ∙ c.in-Datoms.is))
+    rw c.capacity_of-c.ensures (passed a.extent a.store.now (length a.s.now) a.b.now _ (sym c.in_ok-n.ensures))
 
-pub returns-in-Refused : goal.returns-in-Refused
-returns-in-Refused c =
+pub returns : goal.returns
+returns c =
     let a = c.args in
-    replies_refused _ _ _ _ (insert_refused a.extent a.store.now (length a.s.now) a.b.now _ _ (sym c.count_of.ensures ∙ c.in-Refused.is) a.root)
-
-pub returns-in-Datoms : goal.returns-in-Datoms
-returns-in-Datoms c =
-    let a = c.args in
-    rw (insert_counted_law a.extent a.store.now (length a.s.now) a.b.now _ (sym c.count_of.ensures ∙ c.in-Datoms.is) _ a.root) c.insert_counted.ensures
+    rw (insert_counted_law a.extent a.store.now (length a.s.now) a.b.now _ (sym c.in_ok-n.ensures) _ a.root) c.insert_counted.ensures

@@ -1,24 +1,25 @@
 -- `held_counted` meets its contract: what an insert's checks find is refused, and a root that is no page; else the tree tells. Assumes nothing.
-use mathlib.Core.Path.{sym, ◌∙◌, ap}
+use Rattle.std.proofs.Common.{sym, ◌∙◌}
+use Rattle.std.proofs.lemmas.Result.{err_from_is_err_and}
 use Rattle.datom.specs.Datom.{datoms_of}
 use Rattle.index.specs.Order.{order_in}
-use Rattle.batch.specs.Finding.{finding_of}
 use Rattle.held.specs.Ways.{counted_found, counted_missing, counted_on}
 use Rattle.held.proofs.held_counted.Goals as goal
+
+pub returns-in_err-insert_fault : goal.returns-in_err-insert_fault
+returns-in_err-insert_fault c =
+    let a = c.args in
+    let p = err_from_is_err_and c.from_residual.result c.from_residual.ensures.1 in
+    rw (p.1, p.2) (counted_found (order_in a.by a.heap.now) a.extent a.store.now a.root (datoms_of a.n a.b.now) _ c.in_err-insert_fault.ensures)
 
 pub returns-then-is_bad_root : goal.returns-then-is_bad_root
 returns-then-is_bad_root c =
     let a = c.args in
-    let free = sym (ap finding_of c.in-Clear.is) ∙ c.insert_fault.ensures in
-    counted_missing (order_in a.by a.heap.now) a.extent a.store.now a.root (datoms_of a.n a.b.now) free (sym c.is_bad_root.ensures ∙ c.if-is_bad_root.true)
+    let bad = sym c.is_bad_root.ensures ∙ c.if-is_bad_root.true in
+    counted_missing (order_in a.by a.heap.now) a.extent a.store.now a.root (datoms_of a.n a.b.now) c.in_ok-insert_fault.ensures bad
 
-pub returns-in-Found : goal.returns-in-Found
-returns-in-Found c =
+pub returns : goal.returns
+returns c =
     let a = c.args in
-    counted_found (order_in a.by a.heap.now) a.extent a.store.now a.root (datoms_of a.n a.b.now) _ (sym (ap finding_of c.in-Found.is) ∙ c.insert_fault.ensures)
-
-pub returns-else-is_bad_root : goal.returns-else-is_bad_root
-returns-else-is_bad_root c =
-    let a = c.args in
-    let free = sym (ap finding_of c.in-Clear.is) ∙ c.insert_fault.ensures in
-    c.held_tree.ensures ∙ counted_on (order_in a.by a.heap.now) a.extent a.store.now a.root (datoms_of a.n a.b.now) free (sym c.is_bad_root.ensures ∙ c.if-is_bad_root.false)
+    let known = sym c.is_bad_root.ensures ∙ c.if-is_bad_root.false in
+    c.held_tree.ensures ∙ counted_on (order_in a.by a.heap.now) a.extent a.store.now a.root (datoms_of a.n a.b.now) c.in_ok-insert_fault.ensures known

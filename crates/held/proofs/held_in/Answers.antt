@@ -1,6 +1,6 @@
 -- `held_in` meets its contract on every input: 1 and 2, then the rest. Assumes nothing.
-use native.Mathlib.Omega.{arith}
-use mathlib.Core.Path.{sym, ◌∙◌}
+use Rattle.std.proofs.Common.{arith, sym, ◌∙◌}
+use Rattle.std.proofs.lemmas.Result.{err_from_is_err_and}
 use Rattle.index.specs.Order.{order_in}
 use Rattle.batch.specs.Finding.{given_count}
 use Rattle.held.specs.Ways.{held_of_law, bytes_bad, bytes_refused, bytes_counted}
@@ -11,22 +11,22 @@ returns-then-is_bad c =
     let a = c.args in
     bytes_bad (order_in a.by a.heap.now) a.extent a.store.now a.root a.b.now (sym c.is_bad.ensures ∙ c.if-is_bad.true)
 
+pub returns-in_err-n : goal.returns-in_err-n
+returns-in_err-n c =
+    let a = c.args in
+    let good = sym c.is_bad.ensures ∙ c.if-is_bad.false in
+    let p = err_from_is_err_and c.from_residual.result c.from_residual.ensures.1 in
+    rw (p.1, p.2) (bytes_refused (order_in a.by a.heap.now) a.extent a.store.now a.root a.b.now good _ (sym c.in_err-n.ensures))
+
 pub held_counted-requires : goal.held_counted-requires
 held_counted-requires c =
-    let a = c.args in
     let good = sym c.is_bad.ensures ∙ c.if-is_bad.false in
-    let G = given_count a.b.now _ (sym c.count_of.ensures ∙ c.in-Datoms.is) in
+    let G = given_count c.args.b.now _ (sym c.in_ok-n.ensures) in
     (good, omega (arith, G.whole))
 
-pub returns-in-Refused : goal.returns-in-Refused
-returns-in-Refused c =
+pub returns : goal.returns
+returns c =
     let a = c.args in
     let good = sym c.is_bad.ensures ∙ c.if-is_bad.false in
-    bytes_refused (order_in a.by a.heap.now) a.extent a.store.now a.root a.b.now good _ (sym c.count_of.ensures ∙ c.in-Refused.is)
-
-pub returns-in-Datoms : goal.returns-in-Datoms
-returns-in-Datoms c =
-    let a = c.args in
-    let good = sym c.is_bad.ensures ∙ c.if-is_bad.false in
-    let n = sym c.count_of.ensures ∙ c.in-Datoms.is in
-    c.answer_of.ensures ∙ held_of_law _ _ c.held_counted.ensures ∙ bytes_counted (order_in a.by a.heap.now) a.extent a.store.now a.root a.b.now good _ n
+    held_of_law _ _ c.held_counted.ensures
+    ∙ bytes_counted (order_in a.by a.heap.now) a.extent a.store.now a.root a.b.now good _ (sym c.in_ok-n.ensures)

@@ -1,16 +1,14 @@
 -- `lookup_one` meets its contract: the path from the page at hand ends where the whole path ends, and so do those of the gap. Assumes nothing.
-use native.Mathlib.Omega.{arith}
-use mathlib.Core.Path.{refl}
+use Rattle.std.proofs.Common.{rules, arith, ◌≡◌, sym, ◌∙◌, Ok, Err}
+use Rattle.answer.specs.declared.Fault.{Fault}
+use Rattle.lookup.specs.Look.{damage}
 use Rattle.index.specs.Order.{order_in}
 use Rattle.index.proofs.Laws.{order_preorder}
 use Rattle.memory_store.specs.Readable.{opens}
-use Rattle.lookup.specs.Gap.{met_leaves, lost_leaves}
+use Rattle.lookup.specs.Gap.{met_leaves}
 use Rattle.lookup.specs.Steps.{next_real}
 use Rattle.lookup.specs.Path.{gap_is, met_is, next_is, going_met, going_absent, going_free, going_stuck, going_lost, going_down}
 use Rattle.lookup.proofs.lookup_one.Goals as goal
-
-pub loop-part-init : goal.loop-part-init
-loop-part-init c = record { kept = c.requires.2; read = c.requires.3; rest = refl; alike = record { same = λ y up i. refl } }
 
 pub part_of-part-requires : goal.part_of-part-requires
 part_of-part-requires c =
@@ -60,10 +58,10 @@ returns-in_default c =
     let a = c.args in
     let m = met_is c.loop-part.invariant c.part_of-part.ensures c.first_not_below-i.ensures c.is_met.ensures c.if-is_met.false in
     let n = next_is c.loop-part.invariant c.part_of-part.ensures c.first_not_below-i.ensures c.requires.1 c.next_midpoint.ensures c.in_default.is in
-    (rw c.max.ensures (going_stuck c.loop-part.invariant m c.if-l-eq0.false (omega (arith, c.well_formed.1.0)) n), c.loop-part.invariant.kept, lost_leaves _ _ _ _ _ _ _ _ _)
+    (rw c.max.ensures (going_stuck c.loop-part.invariant m c.if-l-eq0.false (omega (arith, c.well_formed.1.0)) n), c.loop-part.invariant.kept, tt)
 
-pub open_at-requires : goal.open_at-requires
-open_at-requires c =
+pub open_at-opened-requires : goal.open_at-opened-requires
+open_at-opened-requires c =
     let a = c.args in
     let o = opens (order_in a.by a.heap.now) a.extent a.store.now c.loop-part.page c.loop-part.l c.loop-part.k c.requires.0 c.loop-part.invariant.read in
     let n = next_is c.loop-part.invariant c.part_of-part.ensures c.first_not_below-i.ensures c.requires.1 c.next_midpoint.ensures c.in-Some.is in
@@ -81,18 +79,6 @@ bounds-path-l c =
     let o = opens (order_in a.by a.heap.now) a.extent a.store.now c.loop-part.page c.loop-part.l c.loop-part.k c.requires.0 c.loop-part.invariant.read in
     omega (arith, o.low)
 
-pub offset_bounds-path-l-in-Ok : goal.offset_bounds-path-l-in-Ok
-offset_bounds-path-l-in-Ok c =
-    let a = c.args in
-    let o = opens (order_in a.by a.heap.now) a.extent a.store.now c.loop-part.page c.loop-part.l c.loop-part.k c.requires.0 c.loop-part.invariant.read in
-    omega (arith, o.low)
-
-pub bounds-path-l-in-Ok : goal.bounds-path-l-in-Ok
-bounds-path-l-in-Ok c =
-    let a = c.args in
-    let o = opens (order_in a.by a.heap.now) a.extent a.store.now c.loop-part.page c.loop-part.l c.loop-part.k c.requires.0 c.loop-part.invariant.read in
-    omega (arith, o.low)
-
 pub loop-part-preserved : goal.loop-part-preserved
 loop-part-preserved c =
     let a = c.args in
@@ -100,11 +86,13 @@ loop-part-preserved c =
     let m = met_is c.loop-part.invariant c.part_of-part.ensures c.first_not_below-i.ensures c.is_met.ensures c.if-is_met.false in
     let g = gap_is c.loop-part.invariant c.part_of-part.ensures c.first_not_below-i.ensures c.narrow-gap.ensures in
     let n = next_is c.loop-part.invariant c.part_of-part.ensures c.first_not_below-i.ensures c.requires.1 c.next_midpoint.ensures c.in-Some.is in
-    rw g (going_down c.loop-part.invariant m c.if-l-eq0.false n (order_preorder a.by a.heap.now) c.in-Ok.ensures (omega (arith, o.low)))
+    let at : c.open_at-opened.result ≡ Ok c.in_ok-k.k = search rules in
+    rw g
+    (going_down c.loop-part.invariant m c.if-l-eq0.false n (order_preorder a.by a.heap.now) (sym at ∙ c.open_at-opened.ensures) (omega (arith, o.low)))
 
-pub returns-in-Err : goal.returns-in-Err
-returns-in-Err c =
-    let a = c.args in
+pub returns-in_err-k : goal.returns-in_err-k
+returns-in_err-k c =
     let m = met_is c.loop-part.invariant c.part_of-part.ensures c.first_not_below-i.ensures c.is_met.ensures c.if-is_met.false in
     let n = next_is c.loop-part.invariant c.part_of-part.ensures c.first_not_below-i.ensures c.requires.1 c.next_midpoint.ensures c.in-Some.is in
-    (going_lost c.loop-part.invariant m c.if-l-eq0.false n c.in-Err.ensures, c.loop-part.invariant.kept, lost_leaves _ _ _ _ _ _ _ _ _)
+    let w : (f : Fault) × ((c.open_at-opened.result ≡ Err f) × (c.from_residual.result ≡ Err (damage c.in-Some.child f))) = search rules in
+    rw w.1.1 (going_lost c.loop-part.invariant m c.if-l-eq0.false n (sym w.1.0 ∙ c.open_at-opened.ensures), c.loop-part.invariant.kept, tt)

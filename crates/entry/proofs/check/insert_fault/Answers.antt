@@ -1,11 +1,12 @@
 -- `insert_fault` meets its contract: the form is tested before the order. Assumes nothing.
-use mathlib.Core.Path.{sym, ◌∙◌, ap}
-use Rattle.batch.specs.Finding.{finding_of}
+use Rattle.std.proofs.lemmas.Result.{err_from_is_err_and}
 use Rattle.entry.specs.Checks.{fault_form, fault_order}
 use Rattle.entry.proofs.check.insert_fault.Goals as goal
 
-pub returns-in-Found : goal.returns-in-Found
-returns-in-Found c = fault_form _ _ _ (sym (ap finding_of c.in-Found.is) ∙ c.word_fault.ensures _)
+pub returns-in_err-word_fault : goal.returns-in_err-word_fault
+returns-in_err-word_fault c =
+    let p = err_from_is_err_and c.from_residual.result c.from_residual.ensures.1 in
+    rw (p.1, p.2) (fault_form _ _ _ (c.in_err-word_fault.ensures c.args.by))
 
-pub returns-in-Clear : goal.returns-in-Clear
-returns-in-Clear c = fault_order _ _ (sym (ap finding_of c.in-Clear.is) ∙ c.word_fault.ensures _) _ c.order_fault.ensures
+pub returns : goal.returns
+returns c = fault_order _ _ (c.in_ok-word_fault.ensures c.args.by) _ c.order_fault.ensures

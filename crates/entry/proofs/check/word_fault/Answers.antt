@@ -1,11 +1,12 @@
 -- `word_fault` meets its contract: the whole batch's words are tested before any constant. Assumes nothing.
-use mathlib.Core.Path.{sym, ◌∙◌, ap}
-use Rattle.batch.specs.Finding.{finding_of}
+use Rattle.std.proofs.lemmas.Result.{err_from_is_err_and}
 use Rattle.entry.specs.Checks.{words_form, words_constant}
 use Rattle.entry.proofs.check.word_fault.Goals as goal
 
-pub returns-in-Found : goal.returns-in-Found
-returns-in-Found c = λ i. words_form i _ _ _ (sym (ap finding_of c.in-Found.is) ∙ c.form_fault.ensures)
+pub returns-in_err-form_fault : goal.returns-in_err-form_fault
+returns-in_err-form_fault c i =
+    let p = err_from_is_err_and c.from_residual.result c.from_residual.ensures.1 in
+    rw (p.1, p.2) (words_form i _ _ _ c.in_err-form_fault.ensures)
 
-pub returns-in-Clear : goal.returns-in-Clear
-returns-in-Clear c = λ i. words_constant i _ _ (sym (ap finding_of c.in-Clear.is) ∙ c.form_fault.ensures) _ c.constant_fault.ensures
+pub returns : goal.returns
+returns c i = words_constant i _ _ c.in_ok-form_fault.ensures _ c.constant_fault.ensures

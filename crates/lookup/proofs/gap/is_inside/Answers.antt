@@ -1,35 +1,17 @@
 -- `is_inside` meets its contract: an open gap has no end, else the comparison with the end says it. Assumes nothing.
-use mathlib.Core.Path.{◌≡◌}
-use Rattle.std.specs.declared.cmp.Ordering.TheVariants.{Less, Equal, Greater}
-use Rattle.index.specs.Order.{order_in, named}
-use Rattle.index.specs.Named.{less_named, equal_named, greater_named}
-use Rattle.lookup.specs.Gap.{inside}
+use Rattle.std.proofs.Common.{arith, ◌≡◌, Bool, true, Some, None, MatchOption}
+use Rattle.datom.specs.declared.Datom.{Datom}
+use Rattle.index.specs.Order.{DatomOrd, is_less}
+use Rattle.index.specs.Named.{less_named_law}
+use Rattle.lookup.specs.Gap.{Gap, inside}
 use Rattle.lookup.proofs.gap.is_inside.Goals as goal
 
-pub returns-in_default : goal.returns-in_default
+or_inside :
+    (t : DatomOrd) (d : Datom) (g : Gap) (b : Bool) {P : Datom → Type 0} → MatchOption g (b ≡ true) P →
+    ((x : Datom) → P x → b ≡ is_less (t.cmp d x)) → b ≡ inside t g d
 unfolding inside
-returns-in_default c = rw c.in_default.is
+or_inside t d None b m f = m
+or_inside t d (Some x) b m f = f x m
 
-pub returns-in-Less : goal.returns-in-Less
-unfolding inside
-returns-in-Less c =
-    let a = c.args in
-    let h = c.in-Below.high in
-    let e : named ((order_in a.by a.heap.now).cmp a.d h) ≡ Less = cc c.in-Less.is in
-    rw (c.in-Below.is, (less_named _ e).0)
-
-pub returns-in-Equal : goal.returns-in-Equal
-unfolding inside
-returns-in-Equal c =
-    let a = c.args in
-    let h = c.in-Below.high in
-    let e : named ((order_in a.by a.heap.now).cmp a.d h) ≡ Equal = cc c.in-Equal.is in
-    rw (c.in-Below.is, (equal_named _ e).0)
-
-pub returns-in-Greater : goal.returns-in-Greater
-unfolding inside
-returns-in-Greater c =
-    let a = c.args in
-    let h = c.in-Below.high in
-    let e : named ((order_in a.by a.heap.now).cmp a.d h) ≡ Greater = cc c.in-Greater.is in
-    rw (c.in-Below.is, (greater_named _ e).0)
+pub returns : goal.returns
+returns c = or_inside _ _ _ _ c.is_none_or.ensures (λ x p. grind (arith, less_named_law))

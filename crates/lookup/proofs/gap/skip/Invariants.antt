@@ -1,6 +1,4 @@
-use Prim.Native.Nat.{◌+◌, ◌-◌, ◌≤◌}
-use mathlib.Core.Path.{◌≡◌}
-use lib.ListN.{drop}
+use Rattle.std.proofs.Common.{◌+◌, ◌≡◌, drop}
 use Rattle.datom.specs.Datom.{datoms_of}
 use Rattle.index.specs.Order.{order_in}
 use Rattle.rules.specs.Node.{rank_by}
@@ -8,7 +6,6 @@ use Rattle.lookup.specs.Gap.{inside}
 use Rattle.lookup.proofs.gap.skip.Given as goal
 
 abbrev pub invariant-loop-i : goal.invariant-loop-i
-invariant-loop-i l = (l.i ≤ l.n) × (l.i + rank_by (inside (order_in l.by l.heap) l.gap) (drop l.i (datoms_of l.n l.b)) ≡ l.from + rank_by (inside (order_in l.by l.heap) l.gap) (drop l.from (datoms_of l.n l.b)))
-
-abbrev pub decreases-loop-i : goal.decreases-loop-i
-decreases-loop-i l = l.n - l.i
+invariant-loop-i l =
+    l.i + rank_by (inside (order_in l.by l.heap) l.gap) (drop l.i (datoms_of l.n l.b))
+    ≡ l.from + rank_by (inside (order_in l.by l.heap) l.gap) (drop l.from (datoms_of l.n l.b))

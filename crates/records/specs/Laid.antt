@@ -10,7 +10,8 @@ use Rattle.std.proofs.Math.Path.{refl, sym, ap}
 use borrow.Author.Tests.{le-ltb, ltb-false}
 use Rattle.std.proofs.Math.Dec.{ltb}
 use Rattle.std.proofs.Math.ListN.{get_or}
-use Rattle.std.proofs.lemmas.List.{length-replicate, take-append-le}
+use Rattle.std.proofs.lemmas.List.{append-nil, length-replicate, take-append-le}
+use Rattle.std.proofs.Math.Seq.{take-length}
 use Rattle.store.specs.Words.{bytes_of, patch, cells}
 use Rattle.store.specs.Cells.{patch_length, patch_patch, cells_push}
 use Rattle.store.specs.Laws.{bytes_length}
@@ -148,3 +149,31 @@ laid_first n ds s h w =
     let f = laid_fits n (length s) in
     rw (first_length n ds, laid_length ds s k f.1)
     (laid_back ds s k (omega arith) f.1 (λ j l. w j (omega arith)) ∙ sym (first_take n k ds f.0 (omega arith)))
+
+-- and of a slice that has n records, unless they are too many to be laid
+pub laid_there : (n room : ℕ) (ds : List Datom) → (n ≤ 128 → n ≤ length ds) → laid_count n room ≤ length ds
+unfolding laid_count
+laid_there n room ds h = side (ltb 128 n) refl (ltb room (32 * n))
+  where
+    side : (a : Bool) → ltb 128 n ≡ a → (b : Bool) → cond a 0 (cond b 0 n) ≤ length ds
+    side true e b = omega arith
+    side false e true = omega arith
+    side false e false = h (ltb-false 128 n e)
+
+pub laid_records :
+    (n : ℕ) (ds : List Datom) (s : List ℕ) → (n ≤ 128 → n ≤ length ds) → WordsTo ds (laid_count n (length s)) →
+    Laid (first_of n ds) (laid_to ds s (laid_count n (length s)))
+unfolding Laid
+laid_records n ds s h w =
+    let k = laid_count n (length s) in
+    let f = laid_fits n (length s) in
+    let there = laid_there n (length s) ds h in
+    rw (first_length n ds, laid_length ds s k f.1)
+    (laid_back ds s k there f.1 w ∙ sym (first_take n k ds f.0 there))
+
+-- the first records of a list, as many as it has
+pub first_all : (ds : List Datom) → first_of (length ds) ds ≡ ds
+unfolding first_of
+first_all ds =
+    let none : length ds - length ds ≡ 0 = omega arith in
+    rw (none, take-length ds, append-nil)

@@ -42,16 +42,21 @@ fn put_datom(area: &mut [u8], i: usize, d: Datom)
     store::put_word(area, at + 24, d.transaction_operation.0);
 }
 
-// The records of a batch, in order, from the front of the area on. Nothing is said of the rest of the area: it is scratch.
+// The first n records of a slice, in order, from the front of the area on. The slice has n records, unless they are too many to be laid.
+fn lay_first(records: &[Datom], n: usize, area: &mut [u8])
+    requires { n ≤ 128 → n ≤ length records.now }
+    ensures { Laid (first_of n records.now) area.new }
+{
+    for i in 0..laid_count(n, area.len()) {
+        put_datom(area, i, records[i]);
+    }
+}
+
+// The records of a batch. Nothing is said of the rest of the area: it is scratch.
 pub fn lay(batch: &[Datom], area: &mut [u8])
     ensures { Laid batch.now area.new }
 {
-    let n = laid_count(batch.len(), area.len());
-    let mut i = 0;
-    while i < n {
-        put_datom(area, i, batch[i]);
-        i = i + 1;
-    }
+    lay_first(batch, batch.len(), area);
 }
 
 // How many bytes the byte entry is handed for n records. Over 128 of them are handed on as 129: it refuses these in its own order.
@@ -73,7 +78,8 @@ fn hand(b: &mut [u8], n: usize, s: &[u8])
     store::put(b, 0, &s[..k]);
 }
 
-// Inserts the n records that `lay` has seen at the front of the scratch.
+// Inserts the n records that `lay` has seen at the front of the scratch. What it shares with `initialise_laid` is `hand` and
+// `handed_length`; a closure for the call would have to say what it does to the store and the scratch.
 pub fn insert_laid(
     store: &mut [u8],
     recorded: StoreRecord,
@@ -135,18 +141,6 @@ pub fn initialise(
     initialise_laid(store, recorded, batch.len(), s, heap)
 }
 
-// The first n records of an array, as `lay` lays those of a slice.
-fn lay_array(batch: [Datom; batch::MOST], n: usize, area: &mut [u8])
-    ensures { Laid (first_of n batch) area.new }
-{
-    let k = laid_count(n, area.len());
-    let mut i = 0;
-    while i < k {
-        put_datom(area, i, batch[i]);
-        i += 1;
-    }
-}
-
 // Inserts the first n records of an array at a root. Its signature has no reference to a record: a function that calls it is covered.
 pub fn insert_array(
     store: &mut [u8],
@@ -159,6 +153,6 @@ pub fn insert_array(
 ) -> Result<Done, Refusal>
     ensures { Replies (extent_of recorded) store.old store.new result (insert_call recorded store.old heap.now (length s.old) root (first_of n batch)) }
 {
-    lay_array(batch, n, s);
+    lay_first(&batch, n, s);
     insert_laid(store, recorded, root, n, s, heap)
 }

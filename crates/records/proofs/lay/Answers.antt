@@ -1,47 +1,6 @@
--- `lay` meets its contract: as many records of the array are laid as are laid of a slice. Assumes nothing.
-use native.Mathlib.Numerals.{add-one}
-use native.Mathlib.Omega.{arith}
-use mathlib.Core.Path.{◌≡◌, refl, ◌∙◌, ap}
-use lib.ListN.{length}
-use Rattle.records.specs.Laid.{laid_count, laid_fits, laid_length, laid_done, words_next}
+-- `lay` meets its contract: the first records of a slice, as many as it has, are all of it. Assumes nothing.
+use Rattle.records.specs.Laid.{first_all}
 use Rattle.records.proofs.lay.Goals as goal
 
-pub loop-i-init : goal.loop-i-init
-loop-i-init c = (omega arith, c.laid_count-n.ensures, refl, λ j l. absurd (omega arith))
-
-pub offset_bounds-batch-i : goal.offset_bounds-batch-i
-offset_bounds-batch-i c =
-    let a = c.args in
-    record { fits = omega (arith, (laid_fits (length a.batch.now) (length a.area.now)).2, c.loop-i.invariant.1) }
-
-pub bounds-batch-i : goal.bounds-batch-i
-bounds-batch-i c =
-    let a = c.args in
-    omega (arith, (laid_fits (length a.batch.now) (length a.area.now)).0, c.loop-i.invariant.1)
-
-pub put_datom-requires : goal.put_datom-requires
-put_datom-requires c =
-    let a = c.args in
-    let f = (laid_fits (length a.batch.now) (length a.area.now)).1 in
-    omega (arith, f, c.loop-i.invariant.1, ap length c.loop-i.invariant.2, laid_length a.batch.now a.area.now c.loop-i.i (omega (arith, f, c.loop-i.invariant.1)))
-
-pub overflow_add-i : goal.overflow_add-i
-overflow_add-i c =
-    let a = c.args in
-    record { fits = omega (arith, (laid_fits (length a.batch.now) (length a.area.now)).2, c.loop-i.invariant.1) }
-
-pub loop-i-preserved : goal.loop-i-preserved
-loop-i-preserved c =
-    (omega arith, c.loop-i.invariant.1, c.put_datom.ensures.laid ∙ rw (add-one, c.loop-i.invariant.2), rw add-one (words_next c.args.batch.now c.loop-i.i c.loop-i.invariant.3 c.put_datom.ensures.sized))
-
-pub shape_of-area : goal.shape_of-area
-shape_of-area c =
-    let a = c.args in
-    let f = (laid_fits (length a.batch.now) (length a.area.now)).1 in
-    ap length c.loop-i.invariant.2 ∙ laid_length a.batch.now a.area.now c.loop-i.i (omega (arith, f, c.loop-i.invariant.1))
-
 pub returns : goal.returns
-returns c =
-    let a = c.args in
-    let all : c.loop-i.i ≡ laid_count (length a.batch.now) (length a.area.now) = omega (arith, c.loop-i.invariant.1) in
-    rw (c.loop-i.invariant.2, all) (laid_done a.batch.now a.area.now (rw (← all) c.loop-i.invariant.3))
+returns c = rw first_all at c.lay_first.ensures

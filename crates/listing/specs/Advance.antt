@@ -42,13 +42,8 @@ unfoldable pub yield_of : Cursor → Datom → Result Way Damage → Stepped
 yield_of c d (Err g) = refuse_step c (damaged g)
 yield_of c d (Ok w) = record { answer = yielding d; cursor = cursor_of (frames_of c.height w) (end_frames c) }
 
--- a step by what it yields or by its refusal, which leaves the cursor as it was
-abbrev pub yielded_as : Cursor → Result Yielded Refusal → Stepped
-yielded_as c (Ok y) = record { answer = yielding y.datom; cursor = y.cursor }
-yielded_as c (Err r) = refuse_step c r
-
--- a step that yields nothing has ended, and leaves the cursor too
+-- a step by what it yields, if the listing has not ended, or by its refusal. Without a datom the cursor stays as it was
 abbrev pub stepped_as : Cursor → Result (Option Yielded) Refusal → Stepped
-stepped_as c (Ok (Some y)) = yielded_as c (Ok y)
+stepped_as c (Ok (Some y)) = record { answer = yielding y.datom; cursor = y.cursor }
 stepped_as c (Ok None) = staying c ended_step
 stepped_as c (Err r) = refuse_step c r

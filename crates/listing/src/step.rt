@@ -6,7 +6,7 @@ ghost use Rattle.index.specs.Order.{order_in};
 ghost use Rattle.rules.specs.Store.{bad_store, fetch_page};
 ghost use Rattle.rules.specs.Listing.{begin_frames, open_frames, onward, step_list};
 ghost use Rattle.rules.specs.Calls.{step_call};
-ghost use Rattle.listing.specs.Advance.{begin_of, advanced, yield_of, yielded_as, stepped_as, Within};
+ghost use Rattle.listing.specs.Advance.{begin_of, advanced, yield_of, stepped_as, Within};
 
 use crate::way::Way;
 use crate::{begin, candidate, descent, opening, way};
@@ -68,19 +68,17 @@ fn yield_at(
     datom: Datom,
     by: Index,
     heap: &[u8],
-) -> Result<Yielded, Refusal>
+) -> Result<Option<Yielded>, Refusal>
     requires { (bad_store extent store.now ≡ false) × ((c ≡ capacity extent.size) × ((cursor.height ≤ 8) × ((level ≤ 7) × Within (fetch_page (order_in by heap.now) extent store.now (get_or cursor.begin_pages level (page 0))) (get_or cursor.begin_indices level 0)))) }
-    ensures { yielded_as cursor result ≡ yield_of cursor datom (advanced (order_in by heap.now) extent store.now (begin_of cursor) level) }
+    ensures { stepped_as cursor result ≡ yield_of cursor datom (advanced (order_in by heap.now) extent store.now (begin_of cursor) level) }
 {
     let indices = cursor.begin_indices;
     let pages = cursor.begin_pages;
     let next = advance(store, extent, c, level, Way { indices, pages }, by, heap)?;
     let indices = cursor.end_indices;
     let pages = cursor.end_pages;
-    Ok(Yielded {
-        datom,
-        cursor: begin::cursor_of(cursor.height as usize, next, Way { indices, pages }),
-    })
+    let cursor = begin::cursor_of(cursor.height as usize, next, Way { indices, pages });
+    Ok(Some(Yielded { datom, cursor }))
 }
 
 // The begin pages are opened, and the smallest datom under the indices is yielded.
@@ -90,9 +88,9 @@ fn step_on(
     cursor: Cursor,
     by: Index,
     heap: &[u8],
-) -> Result<Yielded, Refusal>
+) -> Result<Option<Yielded>, Refusal>
     requires { (bad_store extent store.now ≡ false) × (cursor.height ≤ 8) }
-    ensures { yielded_as cursor result ≡ onward (order_in by heap.now).cmp (fetch_page (order_in by heap.now) extent store.now) cursor (open_frames (fetch_page (order_in by heap.now) extent store.now) (begin_frames cursor)) }
+    ensures { stepped_as cursor result ≡ onward (order_in by heap.now).cmp (fetch_page (order_in by heap.now) extent store.now) cursor (open_frames (fetch_page (order_in by heap.now) extent store.now) (begin_frames cursor)) }
 {
     let c = store::capacity_of(extent.size);
     opening::open_all(store, extent, c, cursor, by, heap)?;
@@ -122,7 +120,7 @@ fn next_in(
     if way::is_at_end(cursor) {
         return Ok(None);
     }
-    Ok(Some(step_on(store, extent, cursor, by, heap)?))
+    step_on(store, extent, cursor, by, heap)
 }
 
 // As next_in, in the order that the record names.

@@ -1,8 +1,5 @@
 -- `next_in` meets its contract: the checks in their order, then the pages. Assumes nothing.
-use borrow.Author.Rules.{rules}
-use mathlib.Core.Path.{◌≡◌, sym, ap, ◌∙◌}
-use Rattle.std.specs.Prelude.{Err}
-use Rattle.listing.specs.Advance.{stepped_as}
+use mathlib.Core.Path.{sym, ◌∙◌}
 use Rattle.index.specs.Order.{order_in}
 use Rattle.listing.specs.StepLaws.{step_bad, step_tall, step_ended, step_goes}
 use Rattle.listing.proofs.step.next_in.Goals as goal
@@ -24,18 +21,9 @@ returns-then-is_at_end c =
     let u = a.cursor in
     step_ended (order_in a.by a.heap.now) a.extent a.store.now u (sym c.is_bad.ensures ∙ c.if-is_bad.false) c.if-cursor.false (sym c.is_at_end.ensures ∙ c.if-is_at_end.true)
 
-pub returns-in_err-step_on : goal.returns-in_err-step_on
-returns-in_err-step_on c =
-    let a = c.args in
-    let u = a.cursor in
-    let k : c.from_residual.result ≡ Err c.in_err-step_on.field-0.0 = search rules in
-    ap (stepped_as u) k
-    ∙ c.in_err-step_on.ensures
-    ∙ step_goes (order_in a.by a.heap.now) a.extent a.store.now u (sym c.is_bad.ensures ∙ c.if-is_bad.false) c.if-cursor.false (sym c.is_at_end.ensures ∙ c.if-is_at_end.false)
-
 pub returns : goal.returns
 returns c =
     let a = c.args in
     let u = a.cursor in
-    c.in_ok-step_on.ensures
+    c.step_on.ensures
     ∙ step_goes (order_in a.by a.heap.now) a.extent a.store.now u (sym c.is_bad.ensures ∙ c.if-is_bad.false) c.if-cursor.false (sym c.is_at_end.ensures ∙ c.if-is_at_end.false)

@@ -9,7 +9,7 @@ use Rattle.rules.specs.Store.{fetch_page}
 use Rattle.rules.specs.Listing.{begin_frames, open_frames}
 use Rattle.listing.specs.WayLaws.{Full}
 use Rattle.listing.specs.Opening.{open_at}
-use Rattle.listing.specs.Advance.{begin_of, yielded_as}
+use Rattle.listing.specs.Advance.{begin_of, stepped_as}
 use Rattle.listing.specs.Taken.{on_damaged, on_nothing, on_twice, on_under, on_at, within_of}
 use borrow.Author.Rules.{rules}
 use Rattle.listing.proofs.step.step_on.Goals as goal
@@ -20,7 +20,7 @@ returns-in_err-open_all c =
     let u = a.cursor in
     let d = c.in_err-open_all.field-0.0 in
     let k : c.from_residual.result ≡ Err (damaged d) = search rules in
-    ap (yielded_as u) k
+    ap (stepped_as u) k
     ∙ on_damaged (order_in a.by a.heap.now) a.extent a.store.now u d.page d.fault (open_frames (fetch_page (order_in a.by a.heap.now) a.extent a.store.now) (begin_frames u))
     (sym c.in_err-open_all.was ∙ c.open_all.ensures)
 

@@ -67,8 +67,7 @@ fn eight_in<W: Word>(s: &[u8]) -> [W; 8]
     ]
 }
 
-pub fn cursor_in(s: &[u8]) -> Cursor
-    requires { length s.now ≡ 264 }
+pub fn cursor_in(s: &[u8; BYTES]) -> Cursor
     ensures { result ≡ cursor_in s.now }
 {
     let height = store::word(s, 0);
@@ -94,8 +93,7 @@ fn put_eight<W: Word>(s: &mut [u8], at: usize, words: [W; 8])
     }
 }
 
-pub fn put_cursor(s: &mut [u8], cursor: Cursor)
-    requires { length s.old ≡ 264 }
+pub fn put_cursor(s: &mut [u8; BYTES], cursor: Cursor)
     ensures { s.new ≡ cursor_bytes cursor }
 {
     let begin_indices = cursor.begin_indices;

@@ -51,8 +51,12 @@ fn start_between(
 }
 
 // A cursor that has begun goes to its area; a refused start leaves it.
-fn keep_start(cursor: &mut [u8], area: &mut [u8; words::AREA], root: u64, started: Started) -> u64
-    requires { length cursor.old ≡ 264 }
+fn keep_start(
+    cursor: &mut [u8; cursor::BYTES],
+    area: &mut [u8; words::AREA],
+    root: u64,
+    started: Started,
+) -> u64
     ensures { ((result ≡ (start_words (page root) started.answer).number) × WordsIn (start_words (page root) started.answer) area.new) × (cursor.new ≡ cursor_started cursor.old started) }
 {
     let answer = started.answer;
@@ -82,9 +86,9 @@ pub fn florinwick_list_start(
     let Some(area) = area.as_mut_array() else {
         return 1;
     };
-    if cursor.len() != cursor::BYTES {
+    let Some(cursor) = cursor.as_mut_array() else {
         return words::refuse(area, root, Refusal::BadStore);
-    }
+    };
     let stored = recorded::record_in(recorded);
     let started = start_between(store, stored, PageId(root), lower, upper, heap);
     keep_start(cursor, area, root, started)
@@ -92,12 +96,11 @@ pub fn florinwick_list_start(
 
 // A datom that is yielded goes to its area and the cursor behind it; a step that has ended or is refused leaves both.
 fn keep_step(
-    cursor: &mut [u8],
+    cursor: &mut [u8; cursor::BYTES],
     datom: &mut [u8; words::AREA],
     area: &mut [u8; words::AREA],
     stepped: Stepped,
 ) -> u64
-    requires { length cursor.old ≡ 264 }
     ensures { ((result ≡ (step_words stepped.answer).number) × WordsIn (step_words stepped.answer) area.new) × ((cursor.new ≡ cursor_stepped cursor.old stepped) × (datom.new ≡ datom_stepped datom.old stepped)) }
 {
     let answer = stepped.answer;
@@ -133,9 +136,9 @@ pub fn florinwick_list_step(
     let Some(area) = area.as_mut_array() else {
         return 1;
     };
-    if cursor.len() != cursor::BYTES {
+    let Some(cursor) = cursor.as_mut_array() else {
         return words::refuse(area, 0, Refusal::BadStore);
-    }
+    };
     let Some(datom) = datom.as_mut_array() else {
         return words::refuse(area, 0, Refusal::BadStore);
     };

@@ -11,10 +11,11 @@ pub returns : goal.returns
 unfolding bytes_of page_bytes
 returns c =
     let a = c.args in
+    let long : length a.s.now ≡ 264 = search rules in
     let bp : length a.cursor.begin_pages ≡ 8 = search rules in
     let ep : length a.cursor.end_pages ≡ 8 = search rules in
     let bi : length a.cursor.begin_indices ≡ 8 = search rules in
     let ei : length a.cursor.end_indices ≡ 8 = search rules in
     rw (c.put_eight-4.ensures, c.put_eight-3.ensures, c.put_eight-2.ensures, c.put_eight.ensures, c.put_word.ensures)
     (cursor_put a.cursor bi bp ei
-    ep a.s.now c.requires)
+    ep a.s.now long)

@@ -1,5 +1,5 @@
 // The appends to the heap of constants. Document 02, Two: "a lent slice growing by 8-byte words". They take its length, the bytes that are
-// used, as a number, for one heap may serve several stores.
+// used, as a number, for one heap may serve several stores. They are two functions, as C has no other way to say which kind is appended.
 ghost use Rattle.rules.specs.Append.{append_word, append_text};
 ghost use Rattle.florinwick.specs.Append.{HeapReplied};
 

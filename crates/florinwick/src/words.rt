@@ -36,7 +36,8 @@ pub fn refuse(area: &mut [u8; AREA], root: u64, refusal: Refusal) -> u64
     number
 }
 
-// The same, with the number of the fault that it names.
+// The same, with the number of the fault that it names. `refuse` and `tell` have twins for that and no parameter: docs/TRACE.md names each of
+// the four with a promise of its own.
 pub fn refuse_named(area: &mut [u8; AREA], root: u64, refusal: Refusal) -> u64
     ensures { (result ≡ (named_words root refusal).number) × WordsIn (named_words root refusal) area.new }
 {

@@ -51,7 +51,7 @@ impl Word for PageId {
     }
 }
 
-// One by one, since an array of a type parameter has no value that a loop could begin with.
+// One by one: a loop would have to fill the array with something first.
 fn eight_in<W: Word>(s: &[u8]) -> [W; 8]
     requires { 64 ≤ length s.now }
     ensures { result ≡ cells (λ p. W.of_word (little p)) 8 8 s.now }

@@ -10,7 +10,8 @@ ghost use Rattle.datom.specs.Word.{last_word, transaction_of, operation_of};
 // The largest word: the max of every type here but the transaction's, which is even.
 const MAX_WORD: u64 = 0xffff_ffff_ffff_ffff;
 
-// Entity id.
+// Entity id. The ids, the transaction and the value have their own `min` and `max`, as in the Rust: a trait would need as many lines in an impl
+// for each.
 #[repr(C)]
 #[derive(Clone, Copy)]
 pub struct Eid(pub u64);

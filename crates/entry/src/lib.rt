@@ -114,7 +114,8 @@ fn initialise_counted(
     answer_of(write::sorted(store, extent, c, b, n, s, by, heap))
 }
 
-// Makes a new tree of a batch in any order. It reads no page.
+// Makes a new tree of a batch in any order. It reads no page. With `insert_in` it shares the first two lines: one function of the rest as a closure
+// would have to say what that does to two lent slices.
 pub fn initialise_in(
     store: &mut [u8],
     extent: Extent,

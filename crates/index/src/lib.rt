@@ -33,7 +33,7 @@ pub fn index_of(number: u64) -> Option<Index>
     }
 }
 
-// Where the first two words that an order goes by stand in a datom's bytes.
+// Where the first two words that an order goes by stand in a datom's bytes: two functions, since an edit of each has its own law to break.
 pub fn first_place(by: Index) -> usize
     ensures { result ≡ place_of (first by) }
 {

@@ -53,7 +53,8 @@ impl Path {
     }
 }
 
-// Where a datom's path ends: whether at an equal datom, else at level 0, and the gap that it leaves.
+// Where a datom's path ends: whether at an equal datom, else at level 0, and the gap that it leaves. An enum of the two ends would have an
+// Option of an Option for the gap.
 #[derive(Clone, Copy)]
 struct Looked {
     met: bool,
@@ -84,7 +85,7 @@ fn open_at(
     ensures { result ≡ opened_of (fetch_at (env_of (order_in by heap.now) extent store.now) level page) }
 {
     let last = path.steps[level];
-    if last.page.0 == page.0 {
+    if last.page == page {
         return Ok(last.count);
     }
     found::open_at(store, extent, c, level, page, by, heap)
@@ -170,7 +171,8 @@ pub fn lookup_all(
 }
 
 // Whether each datom of the batch of n is met on its path from the root: the first that is not, or that comes to a page that cannot be
-// read. The root is of this level and count.
+// read. The root is of this level and count. It shares `lookup_one` with `lookup_all` and no more: there a gap is passed by, here each datom is
+// asked for.
 pub fn held_all(
     store: &[u8],
     extent: Extent,

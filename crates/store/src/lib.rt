@@ -8,7 +8,7 @@ ghost use Rattle.store.specs.Page.{page, none, is_none};
 ghost use Rattle.store.specs.Record.{extent_of};
 
 // The number of a page, counted from the front of the store.
-#[derive(Clone, Copy)]
+#[derive(Clone, Copy, PartialEq, Eq)]
 pub struct PageId(pub u64);
 
 impl PageId {

@@ -1,8 +1,9 @@
 -- `open_at` meets its contract: what stands in the path was read. Assumes nothing.
+use Rattle.std.proofs.Common.{sym, ◌∙◌, eqb-true}
 use Rattle.lookup.specs.Path.{kept_hit}
 use Rattle.lookup.proofs.open_at.Goals as goal
 
-pub returns-then-last-page : goal.returns-then-last-page
-returns-then-last-page c =
+pub returns-then-eq : goal.returns-then-eq
+returns-then-eq c =
     let a = c.args in
-    kept_hit c.requires.2 a.level c.requires.3 a.page c.requires.4 c.if-last-page.true
+    kept_hit c.requires.2 a.level c.requires.3 a.page c.requires.4 (eqb-true _ _ (sym c.eq.ensures ∙ c.if-eq.true))

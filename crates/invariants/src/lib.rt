@@ -5,20 +5,18 @@
 pub mod bound;
 
 ghost use Rattle.std.specs.Prelude.{false, ◌≡◌};
-ghost use Rattle.store.specs.Size.{capacity};
 ghost use Rattle.index.specs.Order.{order_in};
 ghost use Rattle.rules.specs.Tree.{fine, at_level};
-ghost use Rattle.rules.specs.Store.{bad_store, fetch_page};
 ghost use Rattle.rules.specs.Check.{check_at, check_tree};
 ghost use Rattle.rules.specs.Calls.{check_call};
-ghost use Rattle.memory_store.specs.Readable.{node_at};
+ghost use Rattle.memory_store.specs.Pages.{order_of, fetched_from, ReadAs};
 ghost use Rattle.invariants.specs.Bounds.{bound_of};
 ghost use Rattle.invariants.specs.Verdict.{verdict_of};
 
 use answer::{Damage, Fault, Flaw, Refusal};
 use datom::Datom;
 use index::Index;
-use memory_store::found;
+use memory_store::pages::Pages;
 use memory_store::reader::Header;
 use store::{Extent, PageId, StoreRecord};
 
@@ -26,38 +24,34 @@ use store::{Extent, PageId, StoreRecord};
 // past the last to its upper bound: each is to be above the last one passed, and bounds the child at its index from above. A page that was
 // read has real children only above level 0.
 fn check_at(
-    store: &[u8],
-    extent: Extent,
-    c: usize,
+    pages: &Pages,
     level: usize,
     page: PageId,
     k: usize,
     lower: Option<Datom>,
     upper: Option<Datom>,
-    by: Index,
-    heap: &[u8],
 ) -> Result<(), Damage>
-    requires { (bad_store extent store.now ≡ false) × (c ≡ capacity extent.size) × (fetch_page (order_in by heap.now) extent store.now page ≡ fine (node_at extent store.now page level k)) }
-    ensures { verdict_of result ≡ check_at (order_in by heap.now).cmp (fetch_page (order_in by heap.now) extent store.now) level page (bound_of lower) (bound_of upper) (at_level level (fetch_page (order_in by heap.now) extent store.now page)) }
+    requires { ReadAs pages.now page level k }
+    ensures { verdict_of result ≡ check_at (order_of pages.now).cmp (fetched_from pages.now) level page (bound_of lower) (bound_of upper) (at_level level (fetched_from pages.now page)) }
 {
-    let part = memory_store::fetch(store, extent, page);
+    let part = pages.part(page);
     let mut last = lower;
     let mut midpoint = lower;
     for i in 0..=k {
         let next = bound::bound_at(part, k, i, upper);
-        if !bound::is_below(last, next, by, heap) {
+        if !bound::is_below(last, next, pages.by, pages.heap) {
             return Err(Damage {
                 page,
                 fault: Fault::OutOfBounds,
             });
         }
         last = next;
-        let child = store::child_at(part, c, i);
+        let child = store::child_at(part, pages.capacity, i);
         if !child.is_none() {
             let low = level - 1;
-            let opened = found::open_at(store, extent, c, low, child, by, heap);
+            let opened = pages.open(low, child);
             let n = opened.map_err(|fault| Damage { page: child, fault })?;
-            check_at(store, extent, c, low, child, n, midpoint, next, by, heap)?;
+            check_at(pages, low, child, n, midpoint, next)?;
             midpoint = next;
         }
     }
@@ -75,19 +69,16 @@ pub fn check_in(
 ) -> Result<(), Flaw>
     ensures { result ≡ check_tree (order_in by heap.now) extent store.now root }
 {
-    if memory_store::is_bad(store, extent) {
-        return Err(Flaw::Refused(Refusal::BadStore));
-    }
+    let pages = Pages::in_order(store, extent, by, heap)?;
     if memory_store::is_bad_root(extent, root) {
         return Err(Flaw::Refused(Refusal::NoPage));
     }
     if root.is_none() {
         return Ok(());
     }
-    let c = store::capacity_of(extent.size);
-    let read = found::node_at(store, extent, c, root, by, heap);
+    let read = pages.header(root);
     let Header { level, count } = read.map_err(|fault| Damage { page: root, fault })?;
-    check_at(store, extent, c, level, root, count, None, None, by, heap)?;
+    check_at(&pages, level, root, count, None, None)?;
     Ok(())
 }
 

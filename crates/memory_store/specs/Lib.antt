@@ -7,5 +7,6 @@ pub mod Fours
 pub mod FetchLaws
 pub mod Readable
 pub mod Opened
+pub mod Pages
 pub mod Ways
 pub mod WriterLaws

@@ -1,4 +1,4 @@
-// A page as it is read during a call.
+// A page as it is read during a call, by the parts of `Pages` one by one.
 ghost use Rattle.std.specs.Prelude.{◌≡◌, false};
 ghost use Rattle.store.specs.Size.{capacity};
 ghost use Rattle.index.specs.Order.{order_in};
@@ -7,7 +7,7 @@ ghost use Rattle.rules.specs.Store.{bad_store, fetch_page, env_of};
 ghost use Rattle.memory_store.specs.Reading.{told};
 ghost use Rattle.memory_store.specs.Opened.{opened_of};
 
-use crate::reader;
+use crate::pages::Pages;
 use crate::reader::Header;
 use answer::Fault;
 use index::Index;
@@ -25,11 +25,15 @@ pub fn node_at(
     requires { (bad_store extent store.now ≡ false) × (c ≡ capacity extent.size) }
     ensures { told extent store.now page result ≡ fetch_page (order_in by heap.now) extent store.now page }
 {
-    if extent.count <= page.0 {
-        return Err(Fault::Missing);
-    }
-    let part = crate::part_of(store, extent, page);
-    Ok(reader::read_page(part, c, page, by, heap)?)
+    let capacity = c;
+    let pages = Pages {
+        store,
+        extent,
+        capacity,
+        by,
+        heap,
+    };
+    pages.header(page)
 }
 
 // How many datoms page `page` has, which is to be of this level.
@@ -45,9 +49,13 @@ pub fn open_at(
     requires { (bad_store extent store.now ≡ false) × (c ≡ capacity extent.size) }
     ensures { result ≡ opened_of (fetch_at (env_of (order_in by heap.now) extent store.now) level page) }
 {
-    let header = node_at(store, extent, c, page, by, heap)?;
-    if header.level != level {
-        return Err(Fault::WrongLevel);
-    }
-    Ok(header.count)
+    let capacity = c;
+    let pages = Pages {
+        store,
+        extent,
+        capacity,
+        by,
+        heap,
+    };
+    pages.open(level, page)
 }

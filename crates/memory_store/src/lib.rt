@@ -4,6 +4,7 @@
 
 pub mod access;
 pub mod found;
+pub mod pages;
 pub mod reader;
 pub mod writer;
 

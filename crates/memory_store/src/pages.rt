@@ -1,0 +1,90 @@
+// A store in order, as a call reads it.
+ghost use Rattle.std.specs.Prelude.{◌≡◌, ◌<◌, false};
+ghost use Rattle.store.specs.Size as size;
+ghost use Rattle.rules.specs.Store.{bad_store};
+
+use crate::reader;
+use crate::reader::Header;
+use answer::{Fault, Refusal};
+use index::Index;
+use store::{Extent, PageId};
+
+// The pages of a store in order, how many datoms one has room for, and the order and the heap that its datoms compare by.
+#[derive(Clone, Copy)]
+pub struct Pages<'a> {
+    pub store: &'a [u8],
+    pub extent: Extent,
+    pub capacity: usize,
+    pub by: Index,
+    pub heap: &'a [u8],
+    pub ghost in_order: { bad_store extent store.now ≡ false },
+    pub ghost sized: { capacity ≡ size.capacity extent.size },
+}
+
+impl<'a> Pages<'a> {
+    ghost use Rattle.rules.specs.Tree.{fetch_at};
+    ghost use Rattle.rules.specs.Store.{page_at};
+    ghost use Rattle.memory_store.specs.Reading.{told};
+    ghost use Rattle.memory_store.specs.Opened.{opened_of};
+    ghost use Rattle.memory_store.specs.Pages.{fetched_from, read_from, AreOf, OpenedAs};
+
+    // The pages of a store that is in order.
+    pub fn new(store: &'a [u8], extent: Extent, by: Index, heap: &'a [u8]) -> Pages<'a>
+        requires { bad_store extent store.now ≡ false }
+        ensures { AreOf store.now extent by heap.now result }
+    {
+        let capacity = store::capacity_of(extent.size);
+        Pages {
+            store,
+            extent,
+            capacity,
+            by,
+            heap,
+        }
+    }
+
+    // The pages of a store, if it is in order.
+    pub fn in_order(
+        store: &'a [u8],
+        extent: Extent,
+        by: Index,
+        heap: &'a [u8],
+    ) -> Result<Pages<'a>, Refusal>
+        ensures { OpenedAs store.now extent by heap.now result }
+    {
+        if crate::is_bad(store, extent) {
+            return Err(Refusal::BadStore);
+        }
+        Ok(Pages::new(store, extent, by, heap))
+    }
+
+    // The page's own part of the store.
+    pub fn part(&self, page: PageId) -> &'a [u8]
+        requires { page.0 < self.now.extent.count }
+        ensures { result.now ≡ page_at self.now.extent self.now.store.now page }
+    {
+        crate::part_of(self.store, self.extent, page)
+    }
+
+    // The page's header.
+    pub fn header(&self, page: PageId) -> Result<Header, Fault>
+        ensures { told self.now.extent self.now.store.now page result ≡ fetched_from self.now page }
+    {
+        if self.extent.count <= page.0 {
+            return Err(Fault::Missing);
+        }
+        let part = self.part(page);
+        Ok(reader::read_page(part, self.capacity, page, self.by, self.heap)?)
+    }
+
+    // How many datoms page `page` has, which is to be of this level.
+    pub fn open(&self, level: usize, page: PageId) -> Result<usize, Fault>
+        ensures { result ≡ opened_of (fetch_at (read_from self.now) level page) }
+    {
+        let header = self.header(page)?;
+        if header.level != level {
+            return Err(Fault::WrongLevel);
+        }
+        Ok(header.count)
+    }
+}

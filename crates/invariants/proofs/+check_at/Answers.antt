@@ -5,7 +5,8 @@ use borrow.Author.Rules.{rules}
 use mathlib.Core.Path.{◌≡◌, refl, ap, ◌∙◌, sym}
 use Rattle.std.specs.Prelude.{ℕ, ◌+◌, Ok, Err}
 use Rattle.answer.specs.declared.Fault.{Fault}
-use Rattle.index.specs.Order.{order_in}
+use Rattle.memory_store.specs.Pages.{order_of}
+use Rattle.memory_store.specs.Readable.{opens}
 use Rattle.memory_store.specs.Opened.{opened_node}
 use Rattle.invariants.specs.Bounds.{bound_of}
 use Rattle.invariants.specs.Walk.{page_faulty}
@@ -14,10 +15,16 @@ use Rattle.invariants.specs.Verdict.{verdict_of}
 use Rattle.invariants.proofs.+check_at.Goals as goal
 use Rattle.invariants.proofs.+check_at.Goals.{Joined-not-is_none, then-not-is_none+in_ok-n+in_ok-check_at, else-not-is_none}
 
+pub part-part-requires : goal.part-part-requires
+part-part-requires t c =
+    let P = c.args.pages.now in (opens (order_of P) P.extent P.store.now c.args.page c.args.level c.args.k P.in_order c.requires).used
+
 pub loop-i-init : goal.loop-i-init
-loop-i-init t c = let a = c.args in
-    let P = c.requires in
-    along_start (order_in a.by a.heap.now) a.extent a.store.now a.c a.level a.page _ _ (bound_of a.lower) (bound_of a.upper) P.0 P.1 P.2 c.fetch-part.ensures
+loop-i-init t c =
+    let a = c.args in
+    let P = a.pages.now in
+    along_start (order_of P) P.extent P.store.now P.capacity a.level a.page a.k _ (bound_of a.lower) (bound_of a.upper) P.in_order P.sized c.requires
+    (c.part-part.ensures ∙ sym (opens (order_of P) P.extent P.store.now a.page a.level a.k P.in_order c.requires).bytes)
 
 pub bound_at-next-requires : goal.bound_at-next-requires
 bound_at-next-requires t c = along_datoms c.loop-i.invariant
@@ -36,21 +43,21 @@ overflow_sub-low t c = let up = along_above c.loop-i.invariant (omega (arith, c.
 
 pub returns-in_err-n : goal.returns-in_err-n
 returns-in_err-n t c = let a = c.args in
-    let e : (f : Fault) × ((c.open_at-opened.result ≡ Err f) × (c.from_residual.result ≡ Err (record { page = c.child_at-child.result; fault = f }))) = search rules in
+    let e : (f : Fault) × ((c.open-opened.result ≡ Err f) × (c.from_residual.result ≡ Err (record { page = c.child_at-child.result; fault = f }))) = search rules in
     ap verdict_of e.1.1
     ∙ along_unsound c.loop-i.invariant (omega (arith, c.loop-i-test.true)) _ c.bound_at-next.ensures
     (sym c.is_below.ensures ∙ c.if-not-is_below.false) _ c.child_at-child.ensures
     (sym c.is_none.ensures ∙ c.if-not-is_none.true) _
-    (page_faulty (order_in a.by a.heap.now) a.extent a.store.now _ _ _ _ _ (sym e.1.0 ∙ c.open_at-opened.ensures)) _ _ refl
+    (page_faulty (order_of a.pages.now) a.pages.now.extent a.pages.now.store.now _ _ _ _ _ (sym e.1.0 ∙ c.open-opened.ensures)) _ _ refl
 
 pub check_at-requires : goal.check_at-requires
-check_at-requires t c = let A = c.loop-i.invariant in
+check_at-requires t c =
     let up = along_above c.loop-i.invariant (omega (arith, c.loop-i-test.true)) _ c.bound_at-next.ensures
     (sym c.is_below.ensures ∙ c.if-not-is_below.false) _ c.child_at-child.ensures
     (sym c.is_none.ensures ∙ c.if-not-is_none.true) in
-    let at : c.open_at-opened.result ≡ Ok c.in_ok-n.n = search rules in
-    let read = opened_node (order_in c.args.by c.args.heap.now) c.args.extent c.args.store.now _ _ _ (sym at ∙ c.open_at-opened.ensures) in
-    (omega (arith, up, c.decreases), (A.good, A.room, read))
+    let at : c.open-opened.result ≡ Ok c.in_ok-n.n = search rules in
+    let read = opened_node (order_of c.args.pages.now) c.args.pages.now.extent c.args.pages.now.store.now _ _ _ (sym at ∙ c.open-opened.ensures) in
+    (omega (arith, up, c.decreases), read)
 
 pub returns-in_err-check_at : goal.returns-in_err-check_at
 returns-in_err-check_at t c =
@@ -64,7 +71,7 @@ returns-in_err-check_at t c =
 -- the walk past index i
 passed :
     (t : ℕ) (c : Joined-not-is_none t) →
-    Along (order_in c.args.by c.args.heap.now) c.args.extent c.args.store.now c.args.c c.args.level c.args.page c.args.k c.fetch-part.result.now (bound_of c.args.lower)
+    Along (order_of c.args.pages.now) c.args.pages.now.extent c.args.pages.now.store.now c.args.pages.now.capacity c.args.level c.args.page c.args.k c.part-part.result.now (bound_of c.args.lower)
     (bound_of c.args.upper) (c.loop-i.i + 1) (bound_of c.bound_at-next.result) (bound_of c.if-not-is_none.midpoint)
 passed t c = elim c.if-not-is_none.branch [
   | then-not-is_none+in_ok-n+in_ok-check_at w ↦

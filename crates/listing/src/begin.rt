@@ -1,11 +1,10 @@
 // The start of a listing: each bound's way down to level 0, the lower first.
-ghost use Rattle.std.specs.Prelude.{false, ◌&&◌, not, [], ◌≡◌, ◌≤◌};
+ghost use Rattle.std.specs.Prelude.{◌&&◌, not, [], ◌≡◌, ◌≤◌};
 ghost use Rattle.store.specs.Page.{is_none};
-ghost use Rattle.store.specs.Size.{capacity};
 ghost use Rattle.index.specs.Order.{order_in, is_less};
-ghost use Rattle.rules.specs.Store.{bad_store};
 ghost use Rattle.rules.specs.Listing.{cursor_of, refuse_start, join_paths, start_under, start_list};
 ghost use Rattle.rules.specs.Calls.{start_call};
+ghost use Rattle.memory_store.specs.Pages.{order_of};
 ghost use Rattle.listing.specs.Way.{frames_of};
 ghost use Rattle.listing.specs.Descent.{test_of, down_of};
 ghost use Rattle.listing.specs.Starts.{started_as};
@@ -15,7 +14,7 @@ use crate::{descent, way};
 use answer::{Cursor, Damage, Refusal, Started};
 use datom::Datom;
 use index::Index;
-use memory_store::found;
+use memory_store::pages::Pages;
 use store::{Extent, PageId, StoreRecord};
 
 // The cursor of two ends of this height.
@@ -76,22 +75,18 @@ fn started(begun: Result<Cursor, Refusal>) -> Started
 
 // Both ways from a root of this level.
 fn start_at(
-    store: &[u8],
-    extent: Extent,
-    c: usize,
+    pages: &Pages,
     root: PageId,
     level: usize,
     lower: Datom,
     upper: Datom,
-    by: Index,
-    heap: &[u8],
 ) -> Result<Cursor, Refusal>
-    requires { (bad_store extent store.now ≡ false) × ((c ≡ capacity extent.size) × (level ≤ 7)) }
-    ensures { started_as result ≡ join_paths (down_of (order_in by heap.now) extent store.now (test_of (order_in by heap.now) (Some lower)) level root) (down_of (order_in by heap.now) extent store.now (test_of (order_in by heap.now) (Some upper)) level root) }
+    requires { level ≤ 7 }
+    ensures { started_as result ≡ join_paths (down_of (order_of pages.now) pages.now.extent pages.now.store.now (test_of (order_of pages.now) (Some lower)) level root) (down_of (order_of pages.now) pages.now.extent pages.now.store.now (test_of (order_of pages.now) (Some upper)) level root) }
 {
     let empty = way::empty();
-    let begin = descent::descend(store, extent, c, Some(lower), level, root, empty, by, heap)?;
-    let end = descent::descend(store, extent, c, Some(upper), level, root, empty, by, heap)?;
+    let begin = descent::descend(pages, Some(lower), level, root, empty)?;
+    let end = descent::descend(pages, Some(upper), level, root, empty)?;
     Ok(cursor_of(level + 1, begin, end))
 }
 
@@ -103,25 +98,15 @@ fn is_any_between(root: PageId, lower: Datom, upper: Datom, by: Index, heap: &[u
 }
 
 // The root is read, and its level is where both ways begin.
-fn start_under(
-    store: &[u8],
-    extent: Extent,
-    root: PageId,
-    lower: Datom,
-    upper: Datom,
-    by: Index,
-    heap: &[u8],
-) -> Result<Cursor, Refusal>
-    requires { bad_store extent store.now ≡ false }
-    ensures { started_as result ≡ start_under (order_in by heap.now) extent store.now root lower upper }
+fn start_under(pages: &Pages, root: PageId, lower: Datom, upper: Datom) -> Result<Cursor, Refusal>
+    ensures { started_as result ≡ start_under (order_of pages.now) pages.now.extent pages.now.store.now root lower upper }
 {
-    if !is_any_between(root, lower, upper, by, heap) {
+    if !is_any_between(root, lower, upper, pages.by, pages.heap) {
         return Ok(nothing());
     }
-    let c = store::capacity_of(extent.size);
-    let read = found::node_at(store, extent, c, root, by, heap);
+    let read = pages.header(root);
     let header = read.map_err(|fault| Damage { page: root, fault })?;
-    start_at(store, extent, c, root, header.level, lower, upper, by, heap)
+    start_at(pages, root, header.level, lower, upper)
 }
 
 // The cursor that a start begins with. Document 01: "Starting a listing checks 1, 10, 5, then the bounds' order, then pages."
@@ -136,9 +121,7 @@ fn begun_in(
 ) -> Result<Cursor, Refusal>
     ensures { started_as result ≡ start_list (order_in by heap.now) extent store.now root lower upper }
 {
-    if memory_store::is_bad(store, extent) {
-        return Err(Refusal::BadStore);
-    }
+    let pages = Pages::in_order(store, extent, by, heap)?;
     if !lower.is_bound(heap) {
         return Err(Refusal::BadBound);
     }
@@ -148,7 +131,7 @@ fn begun_in(
     if memory_store::is_bad_root(extent, root) {
         return Err(Refusal::NoPage);
     }
-    start_under(store, extent, root, lower, upper, by, heap)
+    start_under(&pages, root, lower, upper)
 }
 
 // As begun_in, in the order that the record names.

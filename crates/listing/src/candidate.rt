@@ -1,10 +1,9 @@
 // The smallest datom under the indices of a cursor: a running minimum from level 0 up.
-ghost use Rattle.std.specs.Prelude.{false, ◌≡◌, ◌≤◌, drop};
-ghost use Rattle.store.specs.Size.{capacity};
+ghost use Rattle.std.specs.Prelude.{◌≡◌, ◌≤◌, drop};
 ghost use Rattle.index.specs.Order.{order_in};
 ghost use Rattle.rules.specs.Tree.{fine};
-ghost use Rattle.rules.specs.Store.{bad_store, fetch_page};
 ghost use Rattle.rules.specs.Listing.{begin_frames, open_frames};
+ghost use Rattle.memory_store.specs.Pages.{order_of, fetched_from};
 ghost use Rattle.listing.specs.Levels.{node_in};
 ghost use Rattle.listing.specs.Opening.{opening_of};
 ghost use Rattle.listing.specs.Candidate.{pick_one, pick, candidate_below};
@@ -13,8 +12,9 @@ use answer::Cursor;
 use datom::Datom;
 use index::Index;
 use memory_store::access;
+use memory_store::pages::Pages;
 use std::cmp::Ordering;
-use store::{Extent, PageId};
+use store::PageId;
 
 // A datom, and the level that it is of.
 #[derive(Clone, Copy)]
@@ -47,21 +47,17 @@ fn against(
 
 // What is left of a page that was read, against the smallest of the levels below.
 fn chosen(
-    store: &[u8],
-    extent: Extent,
-    c: usize,
+    pages: &Pages,
     level: usize,
     page: PageId,
     index: u64,
     best: Option<Candidate>,
-    by: Index,
-    heap: &[u8],
 ) -> Result<Option<Candidate>, PageId>
-    requires { (bad_store extent store.now ≡ false) × ((c ≡ capacity extent.size) × (fetch_page (order_in by heap.now) extent store.now page ≡ fine (node_in (fetch_page (order_in by heap.now) extent store.now page)))) }
-    ensures { result ≡ pick (order_in by heap.now) level page (drop index (node_in (fetch_page (order_in by heap.now) extent store.now page)).datoms) (Ok best) }
+    requires { fetched_from pages.now page ≡ fine (node_in (fetched_from pages.now page)) }
+    ensures { result ≡ pick (order_of pages.now) level page (drop index (node_in (fetched_from pages.now page)).datoms) (Ok best) }
 {
-    let part = memory_store::fetch(store, extent, page);
-    if access::count_of(part, c) as u64 <= index {
+    let part = pages.part(page);
+    if access::count_of(part, pages.capacity) as u64 <= index {
         return Ok(best);
     }
     against(
@@ -69,28 +65,21 @@ fn chosen(
         page,
         datom::datom_at(part, 32 * (index as usize)),
         best,
-        by,
-        heap,
+        pages.by,
+        pages.heap,
     )
 }
 
 // All levels of a cursor whose pages are open.
-pub fn smallest(
-    store: &[u8],
-    extent: Extent,
-    c: usize,
-    cursor: Cursor,
-    by: Index,
-    heap: &[u8],
-) -> Result<Option<Candidate>, PageId>
-    requires { (bad_store extent store.now ≡ false) × ((c ≡ capacity extent.size) × ((cursor.height ≤ 8) × (opening_of (open_frames (fetch_page (order_in by heap.now) extent store.now) (begin_frames cursor)) ≡ Ok tt))) }
-    ensures { result ≡ candidate_below (order_in by heap.now) (fetch_page (order_in by heap.now) extent store.now) cursor.height cursor.begin_indices cursor.begin_pages }
+pub fn smallest(pages: &Pages, cursor: Cursor) -> Result<Option<Candidate>, PageId>
+    requires { (cursor.height ≤ 8) × (opening_of (open_frames (fetched_from pages.now) (begin_frames cursor)) ≡ Ok tt) }
+    ensures { result ≡ candidate_below (order_of pages.now) (fetched_from pages.now) cursor.height cursor.begin_indices cursor.begin_pages }
 {
     let mut best = None;
     for level in 0..cursor.height as usize {
         let index = cursor.begin_indices[level];
         let page = cursor.begin_pages[level];
-        best = chosen(store, extent, c, level, page, index, best, by, heap)?;
+        best = chosen(pages, level, page, index, best)?;
     }
     Ok(best)
 }

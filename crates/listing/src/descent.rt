@@ -1,20 +1,20 @@
 // The way down to level 0 past the datoms below a bound, or past none.
-ghost use Rattle.std.specs.Prelude.{true, false, ◌≡◌, suc, ◌+◌, ◌*◌, ◌≤◌, length};
-ghost use Rattle.store.specs.Size.{capacity};
+ghost use Rattle.std.specs.Prelude.{true, ◌≡◌, suc, ◌+◌, ◌*◌, ◌≤◌, length};
 ghost use Rattle.datom.specs.Datom.{datoms_of};
 ghost use Rattle.index.specs.Order.{order_in};
 ghost use Rattle.rules.specs.Page.{children_of, rising};
 ghost use Rattle.rules.specs.Node.{rank_by};
 ghost use Rattle.rules.specs.Tree.{at_level};
-ghost use Rattle.rules.specs.Store.{bad_store, fetch_page};
+ghost use Rattle.memory_store.specs.Pages.{order_of, fetched_from};
 ghost use Rattle.listing.specs.Descent.{test_of, next_from, placed_of, descent_of, down_of};
 
 use crate::way::Way;
 use answer::{Damage, Fault};
 use datom::Datom;
 use index::Index;
-use memory_store::{access, found};
-use store::{Extent, PageId};
+use memory_store::access;
+use memory_store::pages::Pages;
+use store::PageId;
 
 // The index that is found in a page and the child that the way goes on to, if any.
 #[derive(Clone, Copy)]
@@ -46,46 +46,32 @@ fn next_from(part: &[u8], level: usize, c: usize, k: usize, index: usize) -> Opt
 }
 
 // Page `page`, which is to be of this level.
-fn place_in(
-    store: &[u8],
-    extent: Extent,
-    c: usize,
-    seek: Option<Datom>,
-    level: usize,
-    page: PageId,
-    by: Index,
-    heap: &[u8],
-) -> Result<Place, Fault>
-    requires { (bad_store extent store.now ≡ false) × (c ≡ capacity extent.size) }
-    ensures { result ≡ placed_of (test_of (order_in by heap.now) seek) level (at_level level (fetch_page (order_in by heap.now) extent store.now page)) }
+fn place_in(pages: &Pages, seek: Option<Datom>, level: usize, page: PageId) -> Result<Place, Fault>
+    ensures { result ≡ placed_of (test_of (order_of pages.now) seek) level (at_level level (fetched_from pages.now page)) }
 {
-    let k = found::open_at(store, extent, c, level, page, by, heap)?;
-    let part = memory_store::fetch(store, extent, page);
-    let index = index_in(part, k, seek, by, heap);
-    let next = next_from(part, level, c, k, index);
+    let k = pages.open(level, page)?;
+    let part = pages.part(page);
+    let index = index_in(part, k, seek, pages.by, pages.heap);
+    let next = next_from(part, level, pages.capacity, k, index);
     Ok(Place { index, next })
 }
 
 // From page `page`, of this level, down to level 0. The places of the levels above stay as they are in `way`. A way that has no child to
 // go on to is lost at page none, and none is missing.
 pub fn descend(
-    store: &[u8],
-    extent: Extent,
-    c: usize,
+    pages: &Pages,
     seek: Option<Datom>,
     level: usize,
     page: PageId,
     way: Way,
-    by: Index,
-    heap: &[u8],
 ) -> Result<Way, Damage>
-    requires { (bad_store extent store.now ≡ false) × ((c ≡ capacity extent.size) × (level ≤ 7)) }
-    ensures { result ≡ descent_of level way (down_of (order_in by heap.now) extent store.now (test_of (order_in by heap.now) seek) level page) }
+    requires { level ≤ 7 }
+    ensures { result ≡ descent_of level way (down_of (order_of pages.now) pages.now.extent pages.now.store.now (test_of (order_of pages.now) seek) level page) }
 {
     let mut filled = way;
     let mut p = page;
     for l in (0..level + 1).rev() {
-        let placed = place_in(store, extent, c, seek, l, p, by, heap);
+        let placed = place_in(pages, seek, l, p);
         let place = placed.map_err(|fault| Damage { page: p, fault })?;
         filled.indices[l] = place.index as u64;
         filled.pages[l] = p;

@@ -1,5 +1,5 @@
 // A store in order, as a call reads it.
-ghost use Rattle.std.specs.Prelude.{◌≡◌, ◌<◌, false};
+ghost use Rattle.std.specs.Prelude.{◌≡◌, ◌^◌, ◌<◌, false};
 ghost use Rattle.store.specs.Size as size;
 ghost use Rattle.rules.specs.Store.{bad_store};
 
@@ -19,6 +19,8 @@ pub struct Pages<'a> {
     pub heap: &'a [u8],
     pub ghost in_order: { bad_store extent store.now ≡ false },
     pub ghost sized: { capacity ≡ size.capacity extent.size },
+    // Of every count, and said here since behind a reference the check does not know it.
+    pub ghost counted: { extent.count < 2 ^ 64 },
 }
 
 impl<'a> Pages<'a> {

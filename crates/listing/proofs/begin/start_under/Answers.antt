@@ -1,5 +1,5 @@
 -- `start_under` meets its contract: nothing between the bounds, a root that cannot be read, or both ways from it. Assumes nothing.
-use Rattle.index.specs.Order.{order_in}
+use Rattle.memory_store.specs.Pages.{order_of}
 use Rattle.listing.specs.StartLaws.{under_nothing, under_damaged, under_read}
 use Rattle.memory_store.specs.Readable.{opens, told_fine, told_faulty}
 use Rattle.answer.specs.declared.Fault.{Fault}
@@ -12,30 +12,33 @@ use Rattle.listing.proofs.begin.start_under.Goals as goal
 
 pub returns-then-not-is_any_between : goal.returns-then-not-is_any_between
 returns-then-not-is_any_between c = let a = c.args in
-    rw c.nothing.ensures (under_nothing (order_in a.by a.heap.now) a.extent a.store.now a.root a.lower a.upper (sym c.is_any_between.ensures ∙ c.if-not-is_any_between.true))
+    let p = a.pages.now in
+    rw c.nothing.ensures (under_nothing (order_of p) p.extent p.store.now a.root a.lower a.upper (sym c.is_any_between.ensures ∙ c.if-not-is_any_between.true))
 
 pub start_at-requires : goal.start_at-requires
 start_at-requires c =
-    let pre = c.requires in
     let a = c.args in
+    let p = a.pages.now in
     let h = c.in_ok-header.header in
-    let at : c.node_at-read.result ≡ Ok h = search rules in
-    let e = told_fine (order_in a.by a.heap.now) a.extent a.store.now a.root h (rw at at c.node_at-read.ensures) in
-    (pre, (c.capacity_of-c.ensures, (opens (order_in a.by a.heap.now) a.extent a.store.now a.root h.level h.count pre e).low))
+    let at : c.header-read.result ≡ Ok h = search rules in
+    let e = told_fine (order_of p) p.extent p.store.now a.root h (rw at at c.header-read.ensures) in
+    (opens (order_of p) p.extent p.store.now a.root h.level h.count p.in_order e).low
 
 pub returns-in_err-header : goal.returns-in_err-header
 returns-in_err-header c =
     let a = c.args in
-    let w : (f : Fault) × ((c.node_at-read.result ≡ Err f) × (c.from_residual.result ≡ Err (Damaged a.root f))) = search rules in
-    let e = told_faulty (order_in a.by a.heap.now) a.extent a.store.now a.root w.0 (rw w.1.0 at c.node_at-read.ensures) in
+    let p = a.pages.now in
+    let w : (f : Fault) × ((c.header-read.result ≡ Err f) × (c.from_residual.result ≡ Err (Damaged a.root f))) = search rules in
+    let e = told_faulty (order_of p) p.extent p.store.now a.root w.0 (rw w.1.0 at c.header-read.ensures) in
     ap started_as w.1.1
-    ∙ under_damaged (order_in a.by a.heap.now) a.extent a.store.now a.root a.lower a.upper (sym c.is_any_between.ensures ∙ c.if-not-is_any_between.false) w.0 e
+    ∙ under_damaged (order_of p) p.extent p.store.now a.root a.lower a.upper (sym c.is_any_between.ensures ∙ c.if-not-is_any_between.false) w.0 e
 
 pub returns : goal.returns
 returns c =
     let a = c.args in
+    let p = a.pages.now in
     let h = c.in_ok-header.header in
-    let at : c.node_at-read.result ≡ Ok h = search rules in
-    let e = told_fine (order_in a.by a.heap.now) a.extent a.store.now a.root h (rw at at c.node_at-read.ensures) in
+    let at : c.header-read.result ≡ Ok h = search rules in
+    let e = told_fine (order_of p) p.extent p.store.now a.root h (rw at at c.header-read.ensures) in
     c.start_at.ensures
-    ∙ under_read (order_in a.by a.heap.now) a.extent a.store.now a.root a.lower a.upper (sym c.is_any_between.ensures ∙ c.if-not-is_any_between.false) h.level h.count e
+    ∙ under_read (order_of p) p.extent p.store.now a.root a.lower a.upper (sym c.is_any_between.ensures ∙ c.if-not-is_any_between.false) h.level h.count e

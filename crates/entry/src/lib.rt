@@ -18,6 +18,7 @@ use answer::{Damage, Done, Refusal};
 use htree::place::Failed;
 use htree::root::Rooted;
 use index::Index;
+use memory_store::pages::Pages;
 use memory_store::reader::Header;
 use store::{Extent, PageId, StoreRecord};
 
@@ -48,9 +49,10 @@ fn insert_at(
     requires { Passed extent store.old c b.now n (length s.old) × (rising (order_in by heap.now).cmp (datoms_of n b.now) ≡ true) }
     ensures { Replies extent store.old store.new result (insert_at (env_of (order_in by heap.now) extent store.old) root (datoms_of n b.now) (fetch_page (order_in by heap.now) extent store.old root)) }
 {
-    let read = memory_store::found::node_at(store, extent, c, root, by, heap);
+    let pages = Pages::new(store, extent, by, heap);
+    let read = pages.header(root);
     let Header { level, count } = read.map_err(|fault| Damage { page: root, fault })?;
-    lookup::lookup_all(store, extent, c, root, level, count, b, n, by, heap)?;
+    lookup::lookup_all(&pages, root, level, count, b, n)?;
     answer_of(write::under(store, extent, c, root, level, count, b, n, s, by, heap))
 }
 

@@ -2,51 +2,34 @@
 // rules stand in rules/specs/Held.antt.
 #![tactic(auto)]
 
-ghost use Rattle.std.specs.Prelude.{false, ◌≡◌, ◌*◌, ◌≤◌, length};
-ghost use Rattle.store.specs.Size.{capacity};
+ghost use Rattle.std.specs.Prelude.{◌≡◌, ◌*◌, ◌≤◌, length};
 ghost use Rattle.datom.specs.Datom.{datoms_of};
 ghost use Rattle.index.specs.Order.{order_in};
-ghost use Rattle.rules.specs.Store.{bad_store, fetch_page, env_of};
 ghost use Rattle.rules.specs.Held.{held_at, held_tree, held_counted, held_bytes};
 ghost use Rattle.rules.specs.Calls.{held_call};
+ghost use Rattle.memory_store.specs.Pages.{order_of, fetched_from, read_from};
 ghost use Rattle.batch.specs.Finding.{finding_of};
 
 use answer::{Damage, Refusal};
 use index::Index;
+use memory_store::pages::Pages;
 use memory_store::reader::Header;
 use store::{Extent, PageId, StoreRecord};
 
 // Refusals 16 and 7, at a root that is a page. Its page is read once: the lookups are handed what was found.
-fn held_at(
-    store: &[u8],
-    extent: Extent,
-    c: usize,
-    root: PageId,
-    b: &[u8],
-    n: usize,
-    by: Index,
-    heap: &[u8],
-) -> Result<(), Refusal>
-    requires { (bad_store extent store.now ≡ false) × (c ≡ capacity extent.size) × (32 * n ≤ length b.now) }
-    ensures { finding_of result ≡ held_at (env_of (order_in by heap.now) extent store.now) root (datoms_of n b.now) (fetch_page (order_in by heap.now) extent store.now root) }
+fn held_at(pages: &Pages, root: PageId, b: &[u8], n: usize) -> Result<(), Refusal>
+    requires { 32 * n ≤ length b.now }
+    ensures { finding_of result ≡ held_at (read_from pages.now) root (datoms_of n b.now) (fetched_from pages.now root) }
 {
-    let read = memory_store::found::node_at(store, extent, c, root, by, heap);
+    let read = pages.header(root);
     let Header { level, count } = read.map_err(|fault| Damage { page: root, fault })?;
-    lookup::held_all(store, extent, c, root, level, count, b, n, by, heap)
+    lookup::held_all(pages, root, level, count, b, n)
 }
 
 // Refusals 16 and 7. No page is read for an empty batch, and none at root "none".
-fn held_tree(
-    store: &[u8],
-    extent: Extent,
-    root: PageId,
-    b: &[u8],
-    n: usize,
-    by: Index,
-    heap: &[u8],
-) -> Result<(), Refusal>
-    requires { (bad_store extent store.now ≡ false) × (32 * n ≤ length b.now) }
-    ensures { finding_of result ≡ held_tree (order_in by heap.now) extent store.now root (datoms_of n b.now) }
+fn held_tree(pages: &Pages, root: PageId, b: &[u8], n: usize) -> Result<(), Refusal>
+    requires { 32 * n ≤ length b.now }
+    ensures { finding_of result ≡ held_tree (order_of pages.now) pages.now.extent pages.now.store.now root (datoms_of n b.now) }
 {
     if n == 0 {
         return Ok(());
@@ -54,28 +37,19 @@ fn held_tree(
     if root.is_none() {
         return Err(Refusal::NotHeld(0));
     }
-    let c = store::capacity_of(extent.size);
-    held_at(store, extent, c, root, b, n, by, heap)
+    held_at(pages, root, b, n)
 }
 
 // Refusals 3 to 5 as an insert gives them, then 16 and 7, of a batch of n datoms.
-fn held_counted(
-    store: &[u8],
-    extent: Extent,
-    root: PageId,
-    b: &[u8],
-    n: usize,
-    by: Index,
-    heap: &[u8],
-) -> Result<(), Refusal>
-    requires { (bad_store extent store.now ≡ false) × (32 * n ≤ length b.now) }
-    ensures { finding_of result ≡ held_counted (order_in by heap.now) extent store.now root (datoms_of n b.now) }
+fn held_counted(pages: &Pages, root: PageId, b: &[u8], n: usize) -> Result<(), Refusal>
+    requires { 32 * n ≤ length b.now }
+    ensures { finding_of result ≡ held_counted (order_of pages.now) pages.now.extent pages.now.store.now root (datoms_of n b.now) }
 {
-    entry::check::insert_fault(b, n, by, heap)?;
-    if memory_store::is_bad_root(extent, root) {
+    entry::check::insert_fault(b, n, pages.by, pages.heap)?;
+    if memory_store::is_bad_root(pages.extent, root) {
         return Err(Refusal::NoPage);
     }
-    held_tree(store, extent, root, b, n, by, heap)
+    held_tree(pages, root, b, n)
 }
 
 // Whether the tree under a root holds all datoms of a batch, or why not: the first that it does not hold, or what a call is refused for.
@@ -90,11 +64,9 @@ pub fn held_in(
 ) -> Result<(), Refusal>
     ensures { result ≡ held_bytes (order_in by heap.now) extent store.now root b.now }
 {
-    if memory_store::is_bad(store, extent) {
-        return Err(Refusal::BadStore);
-    }
+    let pages = Pages::in_order(store, extent, by, heap)?;
     let n = batch::count_of(b)?;
-    held_counted(store, extent, root, b, n, by, heap)
+    held_counted(&pages, root, b, n)
 }
 
 // Whether the tree under a root holds every datom of a batch.

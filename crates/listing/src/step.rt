@@ -17,11 +17,7 @@ use memory_store::pages::Pages;
 use store::{Extent, PageId, StoreRecord};
 
 // The index of a level is taken. Beside a pending datom the levels below stay, behind a midpoint they are filled anew from the next child.
-fn advance(
-    pages: &Pages,
-    level: usize,
-    begin: Way,
-) -> Result<Way, Damage>
+fn advance(pages: &Pages, level: usize, begin: Way) -> Result<Way, Damage>
     requires { (level ≤ 7) × Within (fetched_from pages.now (get_or begin.pages level (page 0))) (get_or begin.indices level 0) }
     ensures { result ≡ advanced (order_of pages.now) pages.now.extent pages.now.store.now begin level }
 {
@@ -82,10 +78,7 @@ fn yield_at(
 }
 
 // The begin pages are opened, and the smallest datom under the indices is yielded.
-fn step_on(
-    pages: &Pages,
-    cursor: Cursor,
-) -> Result<Option<Yielded>, Refusal>
+fn step_on(pages: &Pages, cursor: Cursor) -> Result<Option<Yielded>, Refusal>
     requires { cursor.height ≤ 8 }
     ensures { stepped_as cursor result ≡ onward (order_of pages.now).cmp (fetched_from pages.now) cursor (open_frames (fetched_from pages.now) (begin_frames cursor)) }
 {

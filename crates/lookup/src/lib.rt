@@ -6,18 +6,16 @@ pub mod gap;
 
 ghost use Rattle.std.specs.Prelude.{true, false, ◌≡◌, ◌*◌, ◌≤◌, ◌<◌, length, drop, Ok, IfOk};
 ghost use Rattle.store.specs.Page.{is_none};
-ghost use Rattle.store.specs.Size.{capacity};
 ghost use Rattle.datom.specs.Datom.{datoms_of};
 ghost use Rattle.index.specs.Order.{order_in};
 ghost use Rattle.rules.specs.Page.{rising};
 ghost use Rattle.rules.specs.Node.{head_same};
-ghost use Rattle.rules.specs.Tree.{fine, fetch_at};
+ghost use Rattle.rules.specs.Tree.{fetch_at};
 ghost use Rattle.rules.specs.Lookup.{lookup_all};
 ghost use Rattle.rules.specs.Held.{held_all};
-ghost use Rattle.rules.specs.Store.{bad_store, fetch_page, env_of};
 ghost use Rattle.batch.specs.Finding.{finding_of};
-ghost use Rattle.memory_store.specs.Readable.{node_at};
 ghost use Rattle.memory_store.specs.Opened.{opened_of};
+ghost use Rattle.memory_store.specs.Pages.{order_of, fetched_from, read_from, ReadAs};
 ghost use Rattle.lookup.specs.Look.{look_of, path_of, end_of};
 ghost use Rattle.lookup.specs.Path.{unread, Kept};
 ghost use Rattle.lookup.specs.Gap.{Leaves};
@@ -25,8 +23,9 @@ ghost use Rattle.lookup.specs.Gap.{Leaves};
 use answer::{Damage, Fault, Refusal};
 use datom::Datom;
 use index::Index;
-use memory_store::{access, found};
-use store::{Extent, PageId};
+use memory_store::access;
+use memory_store::pages::Pages;
+use store::PageId;
 
 // A page that was read, none where nothing was, and how many datoms it has.
 #[derive(Clone, Copy)]
@@ -71,41 +70,28 @@ fn is_met(page: &[u8], k: usize, i: usize, d: Datom, by: Index, heap: &[u8]) -> 
 
 // Page `page`, which is to be of this level. It may have been read on the last path: what it is opened as is then known, since the store
 // is the same.
-fn open_at(
-    store: &[u8],
-    extent: Extent,
-    c: usize,
-    path: &Path,
-    level: usize,
-    page: PageId,
-    by: Index,
-    heap: &[u8],
-) -> Result<usize, Fault>
-    requires { (bad_store extent store.now ≡ false) × (c ≡ capacity extent.size) × Kept (order_in by heap.now) extent store.now path.now × (level < 8) × (is_none page ≡ false) }
-    ensures { result ≡ opened_of (fetch_at (env_of (order_in by heap.now) extent store.now) level page) }
+fn open_at(pages: &Pages, path: &Path, level: usize, page: PageId) -> Result<usize, Fault>
+    requires { Kept (order_of pages.now) pages.now.extent pages.now.store.now path.now × (level < 8) × (is_none page ≡ false) }
+    ensures { result ≡ opened_of (fetch_at (read_from pages.now) level page) }
 {
     let last = path.steps[level];
     if last.page == page {
         return Ok(last.count);
     }
-    found::open_at(store, extent, c, level, page, by, heap)
+    pages.open(level, page)
 }
 
 // The path of d from the root, which is of this level and count: where it ends, or the page on it that cannot be read.
 fn lookup_one(
-    store: &[u8],
-    extent: Extent,
-    c: usize,
+    pages: &Pages,
     root: PageId,
     level: usize,
     count: usize,
     path: &mut Path,
     d: Datom,
-    by: Index,
-    heap: &[u8],
 ) -> Result<Looked, Damage>
-    requires { (bad_store extent store.now ≡ false) × (c ≡ capacity extent.size) × Kept (order_in by heap.now) extent store.now path.old × (fetch_page (order_in by heap.now) extent store.now root ≡ fine (node_at extent store.now root level count)) }
-    ensures { (end_of result ≡ look_of (path_of (order_in by heap.now) extent store.now d level root)) × Kept (order_in by heap.now) extent store.now path.new × IfOk result (λ looked. Leaves (order_in by heap.now) extent store.now d level root (Ok looked.met) looked.gap) }
+    requires { Kept (order_of pages.now) pages.now.extent pages.now.store.now path.old × ReadAs pages.now root level count }
+    ensures { (end_of result ≡ look_of (path_of (order_of pages.now) pages.now.extent pages.now.store.now d level root)) × Kept (order_of pages.now) pages.now.extent pages.now.store.now path.new × IfOk result (λ looked. Leaves (order_of pages.now) pages.now.extent pages.now.store.now d level root (Ok looked.met) looked.gap) }
 {
     let mut gap = None;
     let mut page = root;
@@ -113,23 +99,23 @@ fn lookup_one(
     let mut k = count;
     // No loop over the levels: the page at level 0 is searched too, and nothing follows it.
     loop {
-        let part = memory_store::part_of(store, extent, page);
-        let i = access::first_not_below(part, k, d, by, heap);
-        if is_met(part, k, i, d, by, heap) {
+        let part = pages.part(page);
+        let i = access::first_not_below(part, k, d, pages.by, pages.heap);
+        if is_met(part, k, i, d, pages.by, pages.heap) {
             return Ok(Looked { met: true, gap });
         }
-        gap = gap::narrow(gap, part, k, i, by, heap);
+        gap = gap::narrow(gap, part, k, i, pages.by, pages.heap);
         if l == 0 {
             return Ok(Looked { met: false, gap });
         }
-        let Some(child) = access::next_midpoint(part, c, k, i) else {
+        let Some(child) = access::next_midpoint(part, pages.capacity, k, i) else {
             return Err(Damage {
                 page: PageId::max(),
                 fault: Fault::Missing,
             });
         };
         l -= 1;
-        let opened = open_at(store, extent, c, path, l, child, by, heap);
+        let opened = open_at(pages, path, l, child);
         k = opened.map_err(|fault| Damage { page: child, fault })?;
         path.steps[l] = Step {
             page: child,
@@ -142,30 +128,26 @@ fn lookup_one(
 // Whether a datom of the batch of n is met on its path from the root, or a page there cannot be read: the first such finding. The root
 // is of this level and count. The batch rises, so the datoms that follow one in its gap need no search of their own.
 pub fn lookup_all(
-    store: &[u8],
-    extent: Extent,
-    c: usize,
+    pages: &Pages,
     root: PageId,
     level: usize,
     count: usize,
     b: &[u8],
     n: usize,
-    by: Index,
-    heap: &[u8],
 ) -> Result<(), Refusal>
-    requires { (bad_store extent store.now ≡ false) × (c ≡ capacity extent.size) × (fetch_page (order_in by heap.now) extent store.now root ≡ fine (node_at extent store.now root level count)) × (32 * n ≤ length b.now) × (rising (order_in by heap.now).cmp (datoms_of n b.now) ≡ true) }
-    ensures { finding_of result ≡ lookup_all (env_of (order_in by heap.now) extent store.now) level root (fetch_page (order_in by heap.now) extent store.now root) 0 (datoms_of n b.now) }
+    requires { ReadAs pages.now root level count × (32 * n ≤ length b.now) × (rising (order_of pages.now).cmp (datoms_of n b.now) ≡ true) }
+    ensures { finding_of result ≡ lookup_all (read_from pages.now) level root (fetched_from pages.now root) 0 (datoms_of n b.now) }
 {
     let mut path = Path::new();
     let mut i = 0;
     // Counted by hand: those that lie in the gap are passed by.
     while i < n {
         let d = datom::datom_at(b, 32 * i);
-        let looked = lookup_one(store, extent, c, root, level, count, &mut path, d, by, heap)?;
+        let looked = lookup_one(pages, root, level, count, &mut path, d)?;
         if looked.met {
             return Err(Refusal::Repeated(i));
         }
-        i = gap::skip(looked.gap, b, n, i + 1, by, heap);
+        i = gap::skip(looked.gap, b, n, i + 1, pages.by, pages.heap);
     }
     Ok(())
 }
@@ -174,24 +156,20 @@ pub fn lookup_all(
 // read. The root is of this level and count. It shares `lookup_one` with `lookup_all` and no more: there a gap is passed by, here each datom is
 // asked for.
 pub fn held_all(
-    store: &[u8],
-    extent: Extent,
-    c: usize,
+    pages: &Pages,
     root: PageId,
     level: usize,
     count: usize,
     b: &[u8],
     n: usize,
-    by: Index,
-    heap: &[u8],
 ) -> Result<(), Refusal>
-    requires { (bad_store extent store.now ≡ false) × (c ≡ capacity extent.size) × (fetch_page (order_in by heap.now) extent store.now root ≡ fine (node_at extent store.now root level count)) × (32 * n ≤ length b.now) }
-    ensures { finding_of result ≡ held_all (env_of (order_in by heap.now) extent store.now) level root (fetch_page (order_in by heap.now) extent store.now root) 0 (datoms_of n b.now) }
+    requires { ReadAs pages.now root level count × (32 * n ≤ length b.now) }
+    ensures { finding_of result ≡ held_all (read_from pages.now) level root (fetched_from pages.now root) 0 (datoms_of n b.now) }
 {
     let mut path = Path::new();
     for i in 0..n {
         let d = datom::datom_at(b, 32 * i);
-        let looked = lookup_one(store, extent, c, root, level, count, &mut path, d, by, heap)?;
+        let looked = lookup_one(pages, root, level, count, &mut path, d)?;
         if !looked.met {
             return Err(Refusal::NotHeld(i));
         }

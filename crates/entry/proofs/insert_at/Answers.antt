@@ -10,41 +10,49 @@ use Rattle.entry.specs.Reply.{replies_refused, replies}
 use Rattle.entry.specs.Under.{at_bad, at_found, at_clear}
 use Rattle.entry.proofs.insert_at.Goals as goal
 
+pub new-pages-requires : goal.new-pages-requires
+new-pages-requires c = c.requires.0.roomy.good
+
 pub returns-in_err-level : goal.returns-in_err-level
 returns-in_err-level c =
     let a = c.args in
-    let w : (f : Fault) × ((c.node_at-read.result ≡ Err f) × (c.from_residual.result ≡ Err (Damaged a.root f))) = search rules in
-    let e = told_faulty (order_in a.by a.heap.now) a.extent a.store.now a.root w.0 (rw w.1.0 at c.node_at-read.ensures) in
+    let of = c.new-pages.ensures in
+    let w : (f : Fault) × ((c.header-read.result ≡ Err f) × (c.from_residual.result ≡ Err (Damaged a.root f))) = search rules in
+    let e = told_faulty (order_in a.by a.heap.now) a.extent a.store.now a.root w.0 (rw (w.1.0, of.bytes, of.extent, of.by, of.heap) at c.header-read.ensures) in
     rw w.1.1 (replies_refused _ _ _ _ (at_bad (order_in a.by a.heap.now) a.extent a.store.now a.root (datoms_of a.n a.b.now) _ e))
 
 pub lookup_all-requires : goal.lookup_all-requires
 lookup_all-requires c =
     let a = c.args in
     let P = c.requires.0 in
-    let at : c.node_at-read.result ≡ Ok c.in_ok-level.field-0 = search rules in
-    let e = told_fine (order_in a.by a.heap.now) a.extent a.store.now a.root _ (rw at at c.node_at-read.ensures) in
-    (P.roomy.good, P.roomy.cap, e, omega (arith, P.batch), c.requires.1)
+    let of = c.new-pages.ensures in
+    let at : c.header-read.result ≡ Ok c.in_ok-level.field-0 = search rules in
+    let e = told_fine (order_in a.by a.heap.now) a.extent a.store.now a.root _ (rw (at, of.bytes, of.extent, of.by, of.heap) at c.header-read.ensures) in
+    rw (of.bytes, of.extent, of.by, of.heap) (e, omega (arith, P.batch), c.requires.1)
 
 pub returns-in_err-lookup_all : goal.returns-in_err-lookup_all
 returns-in_err-lookup_all c =
     let a = c.args in
-    let at : c.node_at-read.result ≡ Ok c.in_ok-level.field-0 = search rules in
-    let e = told_fine (order_in a.by a.heap.now) a.extent a.store.now a.root _ (rw at at c.node_at-read.ensures) in
+    let of = c.new-pages.ensures in
+    let at : c.header-read.result ≡ Ok c.in_ok-level.field-0 = search rules in
+    let e = told_fine (order_in a.by a.heap.now) a.extent a.store.now a.root _ (rw (at, of.bytes, of.extent, of.by, of.heap) at c.header-read.ensures) in
     let p = err_from_is_err_and c.from_residual-in_err-lookup_all.result c.from_residual-in_err-lookup_all.ensures.1 in
     rw (p.1, p.2)
-    (replies_refused _ _ _ _ (at_found (order_in a.by a.heap.now) a.extent a.store.now a.root (datoms_of a.n a.b.now) _ _ e _ c.in_err-lookup_all.ensures))
+    (replies_refused _ _ _ _ (at_found (order_in a.by a.heap.now) a.extent a.store.now a.root (datoms_of a.n a.b.now) _ _ e _ (rw (of.bytes, of.extent, of.by, of.heap) at c.in_err-lookup_all.ensures)))
 
 pub under-requires : goal.under-requires
 under-requires c =
     let a = c.args in
-    let at : c.node_at-read.result ≡ Ok c.in_ok-level.field-0 = search rules in
-    let e = told_fine (order_in a.by a.heap.now) a.extent a.store.now a.root _ (rw at at c.node_at-read.ensures) in
+    let of = c.new-pages.ensures in
+    let at : c.header-read.result ≡ Ok c.in_ok-level.field-0 = search rules in
+    let e = told_fine (order_in a.by a.heap.now) a.extent a.store.now a.root _ (rw (at, of.bytes, of.extent, of.by, of.heap) at c.header-read.ensures) in
     (c.requires.0, e)
 
 pub returns : goal.returns
 returns c =
     let a = c.args in
-    let at : c.node_at-read.result ≡ Ok c.in_ok-level.field-0 = search rules in
-    let e = told_fine (order_in a.by a.heap.now) a.extent a.store.now a.root _ (rw at at c.node_at-read.ensures) in
-    rw (c.answer_of.ensures, at_clear (order_in a.by a.heap.now) a.extent a.store.now a.root (datoms_of a.n a.b.now) _ _ e c.in_ok-lookup_all.ensures)
+    let of = c.new-pages.ensures in
+    let at : c.header-read.result ≡ Ok c.in_ok-level.field-0 = search rules in
+    let e = told_fine (order_in a.by a.heap.now) a.extent a.store.now a.root _ (rw (at, of.bytes, of.extent, of.by, of.heap) at c.header-read.ensures) in
+    rw (c.answer_of.ensures, at_clear (order_in a.by a.heap.now) a.extent a.store.now a.root (datoms_of a.n a.b.now) _ _ e (rw (of.bytes, of.extent, of.by, of.heap) at c.in_ok-lookup_all.ensures))
     (replies _ _ _ _ _ (c.under.ensures [] refl))

@@ -6,27 +6,28 @@ use Rattle.batch.specs.Finding.{given_count}
 use Rattle.held.specs.Ways.{held_of_law, bytes_bad, bytes_refused, bytes_counted}
 use Rattle.held.proofs.held_in.Goals as goal
 
-pub returns-then-is_bad : goal.returns-then-is_bad
-returns-then-is_bad c =
+pub returns-in_err-pages : goal.returns-in_err-pages
+returns-in_err-pages c =
     let a = c.args in
-    bytes_bad (order_in a.by a.heap.now) a.extent a.store.now a.root a.b.now (sym c.is_bad.ensures ∙ c.if-is_bad.true)
+    let p = err_from_is_err_and c.from_residual.result c.from_residual.ensures.1 in
+    let (bad, why) = c.in_err-pages.ensures in
+    rw (p.1, p.2, why) (bytes_bad (order_in a.by a.heap.now) a.extent a.store.now a.root a.b.now bad)
 
 pub returns-in_err-n : goal.returns-in_err-n
 returns-in_err-n c =
     let a = c.args in
-    let good = sym c.is_bad.ensures ∙ c.if-is_bad.false in
-    let p = err_from_is_err_and c.from_residual.result c.from_residual.ensures.1 in
+    let (good, of) = c.in_ok-pages.ensures in
+    let p = err_from_is_err_and c.from_residual-in_err-n.result c.from_residual-in_err-n.ensures.1 in
     rw (p.1, p.2) (bytes_refused (order_in a.by a.heap.now) a.extent a.store.now a.root a.b.now good _ (sym c.in_err-n.ensures))
 
 pub held_counted-requires : goal.held_counted-requires
 held_counted-requires c =
-    let good = sym c.is_bad.ensures ∙ c.if-is_bad.false in
     let G = given_count c.args.b.now _ (sym c.in_ok-n.ensures) in
-    (good, omega (arith, G.whole))
+    omega (arith, G.whole)
 
 pub returns : goal.returns
 returns c =
     let a = c.args in
-    let good = sym c.is_bad.ensures ∙ c.if-is_bad.false in
-    held_of_law _ _ c.held_counted.ensures
+    let (good, of) = c.in_ok-pages.ensures in
+    held_of_law _ _ (rw (of.bytes, of.extent, of.by, of.heap) at c.held_counted.ensures)
     ∙ bytes_counted (order_in a.by a.heap.now) a.extent a.store.now a.root a.b.now good _ (sym c.in_ok-n.ensures)

@@ -3,7 +3,7 @@ use Rattle.std.proofs.Common.{◌≡◌, true, false, refl, sym, ◌∙◌}
 use Rattle.std.proofs.lemmas.Bool.{not-true, not-false}
 use Rattle.std.proofs.lemmas.Result.{err_from_is_err_and}
 use Rattle.datom.specs.Laws.{datoms_from}
-use Rattle.index.specs.Order.{order_in}
+use Rattle.memory_store.specs.Pages.{order_of}
 use Rattle.lookup.specs.Held.{held_on, held_absent, held_lost, held_end}
 use Rattle.lookup.specs.Path.{kept_unread}
 use Rattle.lookup.proofs.held_all.Goals as goal
@@ -11,7 +11,8 @@ use Rattle.lookup.proofs.held_all.Goals as goal
 pub loop-i-init : goal.loop-i-init
 loop-i-init c =
     let a = c.args in
-    (refl, rw c.new-path.ensures (kept_unread (order_in a.by a.heap.now) a.extent a.store.now))
+    let p = a.pages.now in
+    (refl, rw c.new-path.ensures (kept_unread (order_of p) p.extent p.store.now))
 
 pub loop-i-preserved : goal.loop-i-preserved
 loop-i-preserved c =
@@ -32,10 +33,10 @@ returns-then-not-looked c =
 pub returns-in_err-looked : goal.returns-in_err-looked
 returns-in_err-looked c =
     let a = c.args in
-    let p = err_from_is_err_and c.from_residual.result c.from_residual.ensures.1 in
+    let r = err_from_is_err_and c.from_residual.result c.from_residual.ensures.1 in
     let at = datoms_from a.n c.loop-i.i a.b.now c.loop-i-test.true in
     let q = rw c.datom_at-d.ensures at c.in_err-looked.ensures.0 in
-    rw (p.1, p.2) (sym (held_lost _ _ _ _ c.loop-i.i at _ _ q) ∙ c.loop-i.invariant.0)
+    rw (r.1, r.2) (sym (held_lost _ _ _ _ c.loop-i.i at _ _ q) ∙ c.loop-i.invariant.0)
 
 pub returns : goal.returns
 returns c = sym (held_end _ _ _ _ c.loop-i.i _ _ c.loop-i-test.false) ∙ c.loop-i.invariant.0

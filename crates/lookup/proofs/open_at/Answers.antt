@@ -6,4 +6,4 @@ use Rattle.lookup.proofs.open_at.Goals as goal
 pub returns-then-eq : goal.returns-then-eq
 returns-then-eq c =
     let a = c.args in
-    kept_hit c.requires.2 a.level c.requires.3 a.page c.requires.4 (eqb-true _ _ (sym c.eq.ensures ∙ c.if-eq.true))
+    kept_hit c.requires.0 a.level c.requires.1 a.page c.requires.2 (eqb-true _ _ (sym c.eq.ensures ∙ c.if-eq.true))

@@ -1,11 +1,11 @@
 // Insert into a page, and flush: they call each other, the level falling at each call.
-ghost use Rattle.std.specs.Prelude.{false, ◌≡◌, ◌+◌, ◌*◌, ◌≤◌, ◌<◌, length};
-ghost use Rattle.store.specs.Size.{capacity};
+ghost use Rattle.std.specs.Prelude.{◌≡◌, ◌+◌, ◌*◌, ◌≤◌, ◌<◌, length};
 ghost use Rattle.index.specs.Order.{order_in};
 ghost use Rattle.rules.specs.Page.{node_of};
 ghost use Rattle.rules.specs.Tree.{fetch_at, flush, flush_all, insert_into};
-ghost use Rattle.rules.specs.Store.{bad_store, env_of};
+ghost use Rattle.rules.specs.Store.{env_of};
 ghost use Rattle.memory_store.specs.Opened.{opened_of};
+ghost use Rattle.memory_store.specs.Pages.{order_of, read_from};
 ghost use Rattle.htree.specs.Told.{Ready, Tells};
 ghost use Rattle.htree.specs.Load.{Loads, batch_at};
 ghost use Rattle.htree.specs.Flush.{insert_lower};
@@ -15,29 +15,37 @@ use crate::place::{Failed, Placed};
 use answer::{Fault, Refusal};
 use index::Index;
 use memory_store::found;
+use memory_store::pages::Pages;
 use store::{Extent, PageId};
 
 // Page `page`, which was opened at this level, is merged into the area with the batch of n datoms that lies behind it: of so many datoms
 // then, or what is wrong with the page.
 fn load(
-    store: &[u8],
-    extent: Extent,
-    c: usize,
+    pages: &Pages,
     level: usize,
     page: PageId,
     opened: Result<usize, Fault>,
     s: &mut [u8],
     m: usize,
     n: usize,
-    by: Index,
-    heap: &[u8],
 ) -> Result<usize, Fault>
-    requires { (bad_store extent store.now ≡ false) × (c ≡ capacity extent.size) × (c + n ≤ m) × (40 * m + 8 + 32 * n ≤ length s.old) × (opened ≡ opened_of (fetch_at (env_of (order_in by heap.now) extent store.now) level page)) }
-    ensures { Loads (order_in by heap.now) extent store.now level page s.old m n s.new result }
+    requires { (pages.now.capacity + n ≤ m) × (40 * m + 8 + 32 * n ≤ length s.old) × (opened ≡ opened_of (fetch_at (read_from pages.now) level page)) }
+    ensures { Loads (order_of pages.now) pages.now.extent pages.now.store.now level page s.old m n s.new result }
 {
     let k = opened?;
-    let part = memory_store::part_of(store, extent, page);
-    node::merge(part, c, k, s, m, 40 * m + 8, n, by, heap)?;
+    let part = pages.part(page);
+    let behind = 40 * m + 8;
+    node::merge(
+        part,
+        pages.capacity,
+        k,
+        s,
+        m,
+        behind,
+        n,
+        pages.by,
+        pages.heap,
+    )?;
     Ok(k + n)
 }
 
@@ -61,7 +69,8 @@ pub fn insert_into(
     requires { Ready extent store.old c written × ((level + 1) * c + n ≤ m) × ((level + 1) * (40 * m + 8) + 32 * m ≤ length s.old) × (opened ≡ opened_of (fetch_at (env_of (order_in by heap.now) extent store.old) level page)) }
     ensures { Tells extent store.old store.new m s.new written result (insert_into (env_of (order_in by heap.now) extent store.old) level page (batch_at m n s.old)) }
 {
-    let loaded = load(store, extent, c, level, page, opened, s, m, n, by, heap);
+    let pages = Pages::new(store, extent, by, heap);
+    let loaded = load(&pages, level, page, opened, s, m, n);
     let count = loaded.map_err(|fault| Failed {
         refusal: Refusal::Damaged(page, fault),
         written,

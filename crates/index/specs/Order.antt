@@ -7,6 +7,7 @@ use Rattle.datom.specs.Value.{Content, int, str, top, content}
 use Rattle.datom.specs.Datom.{formed_datom, stored_datom, bound_datom}
 use Rattle.index.specs.declared.Index.{Index}
 use Rattle.index.specs.declared.Index.TheVariants.{Eavt, Aevt, Avet}
+use Rattle.index.specs.declared.Order.{Order}
 use Rattle.std.specs.Prelude.{Option, Some, None}
 use Rattle.std.specs.declared.cmp.Ordering as cmp
 use Rattle.std.specs.declared.cmp.Ordering.TheVariants.{Less, Equal, Greater}
@@ -76,6 +77,10 @@ pub record DatomOrd : Type 0 where
 -- the order of a tree, by the constants of the heap in use
 unfoldable pub order_in : Index → List ℕ → DatomOrd
 order_in i h = record { cmp = cmp_parts h (parts_of i); formed = formed_datom; stored = stored_datom h; bound = bound_datom h }
+
+-- and as the code has it
+abbrev pub ord : Order → DatomOrd
+ord o = order_in o.by o.heap.now
 
 -- the tests "below" and "equal"
 unfoldable pub is_less : Ordering → Bool

@@ -5,7 +5,7 @@ pub mod content;
 
 ghost use Rattle.std.specs.Prelude.{◌≡◌};
 ghost use Prim.Native.Nat.{compare};
-ghost use Rattle.index.specs.Order.{and_then, cmp_value, index_of, order_in, named};
+ghost use Rattle.index.specs.Order.{and_then, cmp_value, index_of, ord, order_in, named};
 ghost use Rattle.index.specs.Parts.{place_of, first, second};
 ghost use Rattle.index.specs.Front.{both_integers, by_entity, by_value, second_decides};
 ghost use Rattle.index.specs.Key.{key, turned};
@@ -19,6 +19,22 @@ pub enum Index {
     Eavt,
     Aevt,
     Avet,
+}
+
+// The order of a tree: how the parts of its datoms come, and the heap in use, by whose constants they compare.
+#[derive(Clone, Copy)]
+pub struct Order<'a> {
+    pub by: Index,
+    pub heap: &'a [u8],
+}
+
+impl<'a> Order<'a> {
+    // How two datoms stand to each other in this order.
+    pub fn cmp(self, a: Datom, b: Datom) -> Ordering
+        ensures { result ≡ named ((ord self.entry).cmp a b) }
+    {
+        order_of(a, b, self.by, self.heap)
+    }
 }
 
 // The order that a number names in a store's record, if it names one.

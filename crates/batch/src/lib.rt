@@ -6,7 +6,7 @@ pub mod sort;
 ghost use Rattle.std.specs.Prelude.{◌≡◌, [], ◌+◌, ◌*◌, ◌≤◌, ℕ, Bool, length};
 ghost use Rattle.datom.specs.declared.Datom.{Datom};
 ghost use Rattle.datom.specs.Datom.{datom_at, datoms_of, formed_datom, stored_datom};
-ghost use Rattle.index.specs.Order.{order_in};
+ghost use Rattle.index.specs.Order.{ord};
 ghost use Rattle.answer.specs.declared.Refusal.{Refusal};
 ghost use Rattle.answer.specs.declared.Refusal.TheVariants.{BadDatom, BadConstant};
 ghost use Rattle.rules.specs.Insert.{form_fault, order_fault, has_same, twin_fault};
@@ -16,7 +16,7 @@ ghost use Rattle.batch.specs.Twins.{earlier};
 
 use answer::Refusal;
 use datom::Datom;
-use index::Index;
+use index::Order;
 
 // The most datoms that a batch may have.
 pub const MOST: usize = 128;
@@ -72,9 +72,9 @@ pub fn constant_fault(b: &[u8], n: usize, heap: &[u8]) -> Result<(), Refusal>
 }
 
 // The first datom that is not above the one before it.
-pub fn order_fault(b: &[u8], n: usize, by: Index, heap: &[u8]) -> Result<(), Refusal>
+pub fn order_fault(b: &[u8], n: usize, order: Order) -> Result<(), Refusal>
     requires { 32 * n ≤ length b.now }
-    ensures { finding_of result ≡ order_fault (order_in by heap.now).cmp (datoms_of n b.now) }
+    ensures { finding_of result ≡ order_fault (ord order.entry).cmp (datoms_of n b.now) }
 {
     if n == 0 {
         return Ok(());
@@ -82,7 +82,7 @@ pub fn order_fault(b: &[u8], n: usize, by: Index, heap: &[u8]) -> Result<(), Ref
     let mut last = datom::datom_at(b, 0);
     for i in 1..n {
         let d = datom::datom_at(b, 32 * i);
-        if !index::order_of(last, d, by, heap).is_lt() {
+        if !order.cmp(last, d).is_lt() {
             return Err(Refusal::OutOfOrder(i));
         }
         last = d;
@@ -91,13 +91,13 @@ pub fn order_fault(b: &[u8], n: usize, by: Index, heap: &[u8]) -> Result<(), Ref
 }
 
 // Whether the datom at index i is equal to an earlier one. The last of them is looked at first, as the rule does.
-fn has_twin(b: &[u8], i: usize, by: Index, heap: &[u8]) -> bool
+fn has_twin(b: &[u8], i: usize, order: Order) -> bool
     requires { 32 * i + 32 ≤ length b.now }
-    ensures { result ≡ has_same (order_in by heap.now).cmp (datom_at b.now (32 * i)) (earlier i b.now) }
+    ensures { result ≡ has_same (ord order.entry).cmp (datom_at b.now (32 * i)) (earlier i b.now) }
 {
     let d = datom::datom_at(b, 32 * i);
     for j in (0..i).rev() {
-        if index::order_of(datom::datom_at(b, 32 * j), d, by, heap).is_eq() {
+        if order.cmp(datom::datom_at(b, 32 * j), d).is_eq() {
             return true;
         }
     }
@@ -105,12 +105,12 @@ fn has_twin(b: &[u8], i: usize, by: Index, heap: &[u8]) -> bool
 }
 
 // The first datom that is equal to an earlier one. A batch is small enough to compare each with all before it.
-pub fn twin_fault(b: &[u8], n: usize, by: Index, heap: &[u8]) -> Result<(), Refusal>
+pub fn twin_fault(b: &[u8], n: usize, order: Order) -> Result<(), Refusal>
     requires { 32 * n ≤ length b.now }
-    ensures { finding_of result ≡ twin_fault (order_in by heap.now).cmp 0 [] (datoms_of n b.now) }
+    ensures { finding_of result ≡ twin_fault (ord order.entry).cmp 0 [] (datoms_of n b.now) }
 {
     for i in 0..n {
-        if has_twin(b, i, by, heap) {
+        if has_twin(b, i, order) {
             return Err(Refusal::OutOfOrder(i));
         }
     }

@@ -10,7 +10,7 @@ ghost use Rattle.batch.specs.Finding.{finding_of};
 ghost use Rattle.entry.specs.Checks.{count_for, insert_fault, initialise_fault};
 
 use answer::Refusal;
-use index::Index;
+use index::{Index, Order};
 use store::Extent;
 
 // How many datoms a node in the scratch has room for.
@@ -65,7 +65,7 @@ pub fn insert_fault(b: &[u8], n: usize, by: Index, heap: &[u8]) -> Result<(), Re
     ensures { finding_of result ≡ insert_fault (order_in by heap.now) (datoms_of n b.now) }
 {
     word_fault(b, n, heap)?;
-    batch::order_fault(b, n, by, heap)
+    batch::order_fault(b, n, Order { by, heap })
 }
 
 // Refusals 3, 11 and 4 of an initialise.
@@ -74,5 +74,5 @@ pub fn initialise_fault(b: &[u8], n: usize, by: Index, heap: &[u8]) -> Result<()
     ensures { finding_of result ≡ initialise_fault (order_in by heap.now) (datoms_of n b.now) }
 {
     word_fault(b, n, heap)?;
-    batch::twin_fault(b, n, by, heap)
+    batch::twin_fault(b, n, Order { by, heap })
 }

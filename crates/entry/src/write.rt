@@ -13,7 +13,7 @@ ghost use Rattle.entry.specs.Leaf.{Cleared};
 use crate::check;
 use htree::place::Failed;
 use htree::root::Rooted;
-use index::Index;
+use index::{Index, Order};
 use store::{Extent, PageId};
 
 // The n datoms at the front of the area become those of a leaf: no child beside any of them.
@@ -73,7 +73,7 @@ pub fn sorted(
     ensures { Roots extent store.old store.new 0 result (fresh_tree (env_of (order_in by heap.now) extent store.old) (sort (order_in by heap.now).cmp (datoms_of n b.now))) }
 {
     store::put(s, 0, b);
-    batch::sort::sort(s, n, by, heap);
+    batch::sort::sort(s, n, Order { by, heap });
     leaf(store, extent, c, n, s)
 }
 

@@ -13,7 +13,7 @@ ghost use Rattle.htree.specs.Flush.{insert_lower};
 use crate::place;
 use crate::place::{Failed, Placed};
 use answer::{Fault, Refusal};
-use index::Index;
+use index::{Index, Order};
 use memory_store::found;
 use memory_store::pages::Pages;
 use store::{Extent, PageId};
@@ -35,17 +35,11 @@ fn load(
     let k = opened?;
     let part = pages.part(page);
     let behind = 40 * m + 8;
-    node::merge(
-        part,
-        pages.capacity,
-        k,
-        s,
-        m,
-        behind,
-        n,
-        pages.by,
-        pages.heap,
-    )?;
+    let order = Order {
+        by: pages.by,
+        heap: pages.heap,
+    };
+    node::merge(part, pages.capacity, k, s, m, behind, n, order)?;
     Ok(k + n)
 }
 

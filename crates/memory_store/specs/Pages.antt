@@ -4,8 +4,8 @@ use Rattle.store.specs.declared.PageId.{PageId}
 use Rattle.store.specs.declared.Extent.{Extent}
 use Rattle.answer.specs.declared.Refusal.{Refusal}
 use Rattle.answer.specs.declared.Refusal.TheVariants.{BadStore}
-use Rattle.index.specs.declared.Index.{Index}
-use Rattle.index.specs.Order.{DatomOrd, order_in}
+use Rattle.index.specs.declared.Order.{Order}
+use Rattle.index.specs.Order.{DatomOrd, ord}
 use Rattle.rules.specs.Tree.{Fetched, fine, Env}
 use Rattle.rules.specs.Store.{bad_store, fetch_page, env_of}
 use Rattle.memory_store.specs.Readable.{node_at}
@@ -13,7 +13,7 @@ use Rattle.memory_store.specs.declared.pages.Pages.{Pages}
 
 -- the order of its datoms
 abbrev pub order_of : Pages → DatomOrd
-order_of p = order_in p.by p.heap.now
+order_of p = ord p.order
 
 -- a page as it is read
 abbrev pub fetched_from : Pages → PageId → Fetched
@@ -27,14 +27,13 @@ read_from p = env_of (order_of p) p.extent p.store.now
 abbrev pub ReadAs : Pages → PageId → ℕ → ℕ → Type 0
 ReadAs p page l k = fetched_from p page ≡ fine (node_at p.extent p.store.now page l k)
 
--- the pages of a store with the bytes s, in an order and with a heap h
-pub record AreOf (s : List ℕ) (x : Extent) (i : Index) (h : List ℕ) (p : Pages) : Type 0 where
+-- the pages of a store with the bytes s, in the order o
+pub record AreOf (s : List ℕ) (x : Extent) (o : Order) (p : Pages) : Type 0 where
   pub bytes : p.store.now ≡ s
   pub extent : p.extent ≡ x
-  pub by : p.by ≡ i
-  pub heap : p.heap.now ≡ h
+  pub order : p.order ≡ o
 
 -- and if the store is in order
-abbrev pub OpenedAs : List ℕ → Extent → Index → List ℕ → Result Pages Refusal → Type 0
-OpenedAs s x i h (Ok p) = (bad_store x s ≡ false) × AreOf s x i h p
-OpenedAs s x i h (Err r) = (bad_store x s ≡ true) × (r ≡ BadStore)
+abbrev pub OpenedAs : List ℕ → Extent → Order → Result Pages Refusal → Type 0
+OpenedAs s x o (Ok p) = (bad_store x s ≡ false) × AreOf s x o p
+OpenedAs s x o (Err r) = (bad_store x s ≡ true) × (r ≡ BadStore)

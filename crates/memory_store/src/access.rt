@@ -2,12 +2,12 @@
 // many datoms there is room for. A page also has a header behind the children.
 ghost use Rattle.std.specs.Prelude.{◌≡◌, suc, ◌+◌, ◌*◌, ◌≤◌, true, length, drop};
 ghost use Rattle.datom.specs.Datom.{datoms_of};
-ghost use Rattle.index.specs.Order.{order_in};
+ghost use Rattle.index.specs.Order.{ord};
 ghost use Rattle.rules.specs.Page.{level_of, count_of, children_of, rising};
 ghost use Rattle.rules.specs.Node.{is_midpoint, next_midpoint, rank};
 
 use datom::Datom;
-use index::Index;
+use index::Order;
 use store::PageId;
 
 // The level that the header of a page with room for c datoms tells.
@@ -46,15 +46,15 @@ pub fn next_midpoint(s: &[u8], m: usize, n: usize, from: usize) -> Option<PageId
 
 // The index of the first of k rising datoms that is not below d, by halving. By hand, since `partition_point` is a method of a slice of
 // datoms, and these are bytes.
-pub fn first_not_below(s: &[u8], k: usize, d: Datom, by: Index, heap: &[u8]) -> usize
-    requires { (32 * k ≤ length s.now) × (rising (order_in by heap.now).cmp (datoms_of k s.now) ≡ true) }
-    ensures { result ≡ rank (order_in by heap.now).cmp d (datoms_of k s.now) }
+pub fn first_not_below(s: &[u8], k: usize, d: Datom, order: Order) -> usize
+    requires { (32 * k ≤ length s.now) × (rising (ord order).cmp (datoms_of k s.now) ≡ true) }
+    ensures { result ≡ rank (ord order.entry).cmp d (datoms_of k s.now) }
 {
     let mut lo = 0;
     let mut hi = k;
     while lo < hi {
         let mid = lo + (hi - lo) / 2;
-        if index::order_of(datom::datom_at(s, 32 * mid), d, by, heap).is_lt() {
+        if order.cmp(datom::datom_at(s, 32 * mid), d).is_lt() {
             lo = mid + 1;
         } else {
             hi = mid;

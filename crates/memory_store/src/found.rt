@@ -1,7 +1,7 @@
 // A page as it is read during a call, by the parts of `Pages` one by one.
 ghost use Rattle.std.specs.Prelude.{◌≡◌, false};
 ghost use Rattle.store.specs.Size.{capacity};
-ghost use Rattle.index.specs.Order.{order_in};
+ghost use Rattle.index.specs.Order.{ord};
 ghost use Rattle.rules.specs.Tree.{fetch_at};
 ghost use Rattle.rules.specs.Store.{bad_store, fetch_page, env_of};
 ghost use Rattle.memory_store.specs.Reading.{told};
@@ -10,7 +10,7 @@ ghost use Rattle.memory_store.specs.Opened.{opened_of};
 use crate::pages::Pages;
 use crate::reader::Header;
 use answer::Fault;
-use index::Index;
+use index::Order;
 use store::{Extent, PageId};
 
 // The header of page `page` of a store in order, whose pages hold c datoms.
@@ -19,19 +19,17 @@ pub fn node_at(
     extent: Extent,
     c: usize,
     page: PageId,
-    by: Index,
-    heap: &[u8],
+    order: Order,
 ) -> Result<Header, Fault>
     requires { (bad_store extent store.now ≡ false) × (c ≡ capacity extent.size) }
-    ensures { told extent store.now page result ≡ fetch_page (order_in by heap.now) extent store.now page }
+    ensures { told extent store.now page result ≡ fetch_page (ord order.entry) extent store.now page }
 {
     let capacity = c;
     let pages = Pages {
         store,
         extent,
         capacity,
-        by,
-        heap,
+        order,
     };
     pages.header(page)
 }
@@ -43,19 +41,17 @@ pub fn open_at(
     c: usize,
     level: usize,
     page: PageId,
-    by: Index,
-    heap: &[u8],
+    order: Order,
 ) -> Result<usize, Fault>
     requires { (bad_store extent store.now ≡ false) × (c ≡ capacity extent.size) }
-    ensures { result ≡ opened_of (fetch_at (env_of (order_in by heap.now) extent store.now) level page) }
+    ensures { result ≡ opened_of (fetch_at (env_of (ord order.entry) extent store.now) level page) }
 {
     let capacity = c;
     let pages = Pages {
         store,
         extent,
         capacity,
-        by,
-        heap,
+        order,
     };
     pages.open(level, page)
 }

@@ -6,17 +6,16 @@ ghost use Rattle.rules.specs.Store.{bad_store};
 use crate::reader;
 use crate::reader::Header;
 use answer::{Fault, Refusal};
-use index::Index;
+use index::Order;
 use store::{Extent, PageId};
 
-// The pages of a store in order, how many datoms one has room for, and the order and the heap that its datoms compare by.
+// The pages of a store in order, how many datoms one has room for, and the order of its datoms.
 #[derive(Clone, Copy)]
 pub struct Pages<'a> {
     pub store: &'a [u8],
     pub extent: Extent,
     pub capacity: usize,
-    pub by: Index,
-    pub heap: &'a [u8],
+    pub order: Order<'a>,
     pub ghost in_order: { bad_store extent store.now ≡ false },
     pub ghost sized: { capacity ≡ size.capacity extent.size },
     // Of every count, and said here since behind a reference the check does not know it.
@@ -31,33 +30,27 @@ impl<'a> Pages<'a> {
     ghost use Rattle.memory_store.specs.Pages.{fetched_from, read_from, AreOf, OpenedAs};
 
     // The pages of a store that is in order.
-    pub fn new(store: &'a [u8], extent: Extent, by: Index, heap: &'a [u8]) -> Pages<'a>
+    pub fn new(store: &'a [u8], extent: Extent, order: Order<'a>) -> Pages<'a>
         requires { bad_store extent store.now ≡ false }
-        ensures { AreOf store.now extent by heap.now result }
+        ensures { AreOf store.now extent order.entry result }
     {
         let capacity = store::capacity_of(extent.size);
         Pages {
             store,
             extent,
             capacity,
-            by,
-            heap,
+            order,
         }
     }
 
     // The pages of a store, if it is in order.
-    pub fn in_order(
-        store: &'a [u8],
-        extent: Extent,
-        by: Index,
-        heap: &'a [u8],
-    ) -> Result<Pages<'a>, Refusal>
-        ensures { OpenedAs store.now extent by heap.now result }
+    pub fn in_order(store: &'a [u8], extent: Extent, order: Order<'a>) -> Result<Pages<'a>, Refusal>
+        ensures { OpenedAs store.now extent order.entry result }
     {
         if crate::is_bad(store, extent) {
             return Err(Refusal::BadStore);
         }
-        Ok(Pages::new(store, extent, by, heap))
+        Ok(Pages::new(store, extent, order))
     }
 
     // The page's own part of the store.
@@ -76,7 +69,7 @@ impl<'a> Pages<'a> {
             return Err(Fault::Missing);
         }
         let part = self.part(page);
-        Ok(reader::read_page(part, self.capacity, page, self.by, self.heap)?)
+        Ok(reader::read_page(part, self.capacity, page, self.order)?)
     }
 
     // How many datoms page `page` has, which is to be of this level.

@@ -3,7 +3,7 @@ ghost use Rattle.std.specs.Prelude.{◌≡◌, ℕ, ◌+◌, ◌*◌, ◌≤◌,
 ghost use Rattle.store.specs.Words.{word_at, cells};
 ghost use Rattle.store.specs.Page.{page, page_of};
 ghost use Rattle.datom.specs.Datom.{datom_at, datoms_of, stored_datom};
-ghost use Rattle.index.specs.Order.{DatomOrd, is_less, order_in};
+ghost use Rattle.index.specs.Order.{DatomOrd, is_less, ord, order_in};
 ghost use Rattle.rules.specs.Page.{node_of, all, rising, older, child_rules, read_page};
 ghost use Rattle.memory_store.specs.Reading.{said};
 ghost use Rattle.memory_store.specs.Fours.{FourIntegers, WordsRise, FourWordsRise, FourRise, LetsPlain, FourOlder, SameFrom};
@@ -11,7 +11,7 @@ ghost use Rattle.memory_store.specs.Fours.{FourIntegers, WordsRise, FourWordsRis
 use crate::access;
 use answer::Rule;
 use datom::Value;
-use index::Index;
+use index::{Index, Order};
 use store::PageId;
 
 // What a page that breaks no rule tells of itself: its level, and how many datoms it has.
@@ -93,20 +93,20 @@ fn all_stored(s: &[u8], from: usize, k: usize, heap: &[u8]) -> bool
 
 // Whether the datom at byte `at` is below the one behind it. Both are looked at where they lie: the places of the order's words do not change, so
 // that no turn of a loop asks which order it is.
-fn rises_at(s: &[u8], at: usize, by: Index, heap: &[u8]) -> bool
+fn rises_at(s: &[u8], at: usize, order: Order) -> bool
     requires { at + 64 ≤ length s.now }
-    ensures { result ≡ is_less ((order_in by heap.now).cmp (datom_at s.now at) (datom_at s.now (at + 32))) }
+    ensures { result ≡ is_less ((ord order.entry).cmp (datom_at s.now at) (datom_at s.now (at + 32))) }
 {
-    let p = at + index::first_place(by);
+    let p = at + index::first_place(order.by);
     let x = store::word(s, p);
     let y = store::word(s, p + 32);
     if x != y {
         return x < y;
     }
-    let q = at + index::second_place(by);
+    let q = at + index::second_place(order.by);
     let u = store::word(s, q);
     let v = store::word(s, q + 32);
-    if index::second_decides(u, v, by) {
+    if index::second_decides(u, v, order.by) {
         return u < v;
     }
     index::content::is_below_behind(
@@ -116,16 +116,16 @@ fn rises_at(s: &[u8], at: usize, by: Index, heap: &[u8]) -> bool
         store::word(s, at + 32),
         store::word(s, at + 24),
         store::word(s, at + 56),
-        heap,
+        order.heap,
     )
 }
 
 // The k datoms from index `from` on rise. Each is compared with the next where they lie, so that nothing is carried from turn to turn.
-fn all_rising(s: &[u8], from: usize, k: usize, by: Index, heap: &[u8]) -> bool
+fn all_rising(s: &[u8], from: usize, k: usize, order: Order) -> bool
     requires { (from ≤ k) × (32 * k ≤ length s.now) }
-    ensures { result ≡ rising (order_in by heap.now).cmp (drop from (datoms_of k s.now)) }
+    ensures { result ≡ rising (ord order.entry).cmp (drop from (datoms_of k s.now)) }
 {
-    (from + 1..k).all(|next| rises_at(s, 32 * (next - 1), by, heap))
+    (from + 1..k).all(|next| rises_at(s, 32 * (next - 1), order))
 }
 
 // Whether the child at byte `at` is none or below id. None is the largest word, so the number after it is 0: one test tells for both.
@@ -194,9 +194,9 @@ fn read_children(s: &[u8], c: usize, id: PageId, level: usize, k: usize) -> Resu
 }
 
 // The first broken rule of a page that is to be page `id`, or its level and count.
-pub fn read_page(s: &[u8], c: usize, id: PageId, by: Index, heap: &[u8]) -> Result<Header, Rule>
+pub fn read_page(s: &[u8], c: usize, id: PageId, order: Order) -> Result<Header, Rule>
     requires { 40 * c + 10 ≤ length s.now }
-    ensures { said c s.now result ≡ read_page (order_in by heap.now) c id s.now }
+    ensures { said c s.now result ≡ read_page (ord order.entry) c id s.now }
 {
     let level = access::level_of(s, c);
     let k = access::count_of(s, c);
@@ -206,11 +206,11 @@ pub fn read_page(s: &[u8], c: usize, id: PageId, by: Index, heap: &[u8]) -> Resu
     if c < k {
         return Err(Rule::Count);
     }
-    let plain = plain_front(s, k, by);
-    if !all_stored(s, plain, k, heap) {
+    let plain = plain_front(s, k, order.by);
+    if !all_stored(s, plain, k, order.heap) {
         return Err(Rule::Form);
     }
-    if !all_rising(s, plain, k, by, heap) {
+    if !all_rising(s, plain, k, order) {
         return Err(Rule::Order);
     }
     read_children(s, c, id, level, k)

@@ -7,7 +7,7 @@ pub mod gap;
 ghost use Rattle.std.specs.Prelude.{true, false, ◌≡◌, ◌*◌, ◌≤◌, ◌<◌, length, drop, Ok, IfOk};
 ghost use Rattle.store.specs.Page.{is_none};
 ghost use Rattle.datom.specs.Datom.{datoms_of};
-ghost use Rattle.index.specs.Order.{order_in};
+ghost use Rattle.index.specs.Order.{ord};
 ghost use Rattle.rules.specs.Page.{rising};
 ghost use Rattle.rules.specs.Node.{head_same};
 ghost use Rattle.rules.specs.Tree.{fetch_at};
@@ -22,7 +22,7 @@ ghost use Rattle.lookup.specs.Gap.{Leaves};
 
 use answer::{Damage, Fault, Refusal};
 use datom::Datom;
-use index::Index;
+use index::Order;
 use memory_store::access;
 use memory_store::pages::Pages;
 use store::PageId;
@@ -61,11 +61,11 @@ struct Looked {
 }
 
 // Whether there is a datom at index i, of k, and it is equal to d.
-fn is_met(page: &[u8], k: usize, i: usize, d: Datom, by: Index, heap: &[u8]) -> bool
+fn is_met(page: &[u8], k: usize, i: usize, d: Datom, order: Order) -> bool
     requires { 32 * k ≤ length page.now }
-    ensures { result ≡ head_same (order_in by heap.now).cmp d (drop i (datoms_of k page.now)) }
+    ensures { result ≡ head_same (ord order.entry).cmp d (drop i (datoms_of k page.now)) }
 {
-    i < k && index::order_of(datom::datom_at(page, 32 * i), d, by, heap).is_eq()
+    i < k && order.cmp(datom::datom_at(page, 32 * i), d).is_eq()
 }
 
 // Page `page`, which is to be of this level. It may have been read on the last path: what it is opened as is then known, since the store
@@ -100,11 +100,11 @@ fn lookup_one(
     // No loop over the levels: the page at level 0 is searched too, and nothing follows it.
     loop {
         let part = pages.part(page);
-        let i = access::first_not_below(part, k, d, pages.by, pages.heap);
-        if is_met(part, k, i, d, pages.by, pages.heap) {
+        let i = access::first_not_below(part, k, d, pages.order);
+        if is_met(part, k, i, d, pages.order) {
             return Ok(Looked { met: true, gap });
         }
-        gap = gap::narrow(gap, part, k, i, pages.by, pages.heap);
+        gap = gap::narrow(gap, part, k, i, pages.order);
         if l == 0 {
             return Ok(Looked { met: false, gap });
         }
@@ -147,7 +147,7 @@ pub fn lookup_all(
         if looked.met {
             return Err(Refusal::Repeated(i));
         }
-        i = gap::skip(looked.gap, b, n, i + 1, pages.by, pages.heap);
+        i = gap::skip(looked.gap, b, n, i + 1, pages.order);
     }
     Ok(())
 }

@@ -50,7 +50,7 @@ returns-then-l-eq0 c =
     let p = a.pages.now in
     let m = met_is c.loop-part.invariant c.part-part.ensures c.first_not_below-i.ensures c.is_met.ensures c.if-is_met.false in
     let g = gap_is c.loop-part.invariant c.part-part.ensures c.first_not_below-i.ensures c.narrow-gap.ensures in
-    (going_absent c.loop-part.invariant m c.if-l-eq0.true, c.loop-part.invariant.kept, λ e. rw g (going_free c.loop-part.invariant m (order_preorder p.by p.heap.now) c.if-l-eq0.true))
+    (going_absent c.loop-part.invariant m c.if-l-eq0.true, c.loop-part.invariant.kept, λ e. rw g (going_free c.loop-part.invariant m (order_preorder p.order.by p.order.heap.now) c.if-l-eq0.true))
 
 pub next_midpoint-requires : goal.next_midpoint-requires
 next_midpoint-requires c =
@@ -99,7 +99,7 @@ loop-part-preserved c =
     let n = next_is c.loop-part.invariant c.part-part.ensures c.first_not_below-i.ensures p.sized c.next_midpoint.ensures c.in-Some.is in
     let at : c.open_at-opened.result ≡ Ok c.in_ok-k.k = search rules in
     rw g
-    (going_down c.loop-part.invariant m c.if-l-eq0.false n (order_preorder p.by p.heap.now) (sym at ∙ c.open_at-opened.ensures) (omega (arith, o.low)))
+    (going_down c.loop-part.invariant m c.if-l-eq0.false n (order_preorder p.order.by p.order.heap.now) (sym at ∙ c.open_at-opened.ensures) (omega (arith, o.low)))
 
 pub returns-in_err-k : goal.returns-in_err-k
 returns-in_err-k c =

@@ -3,7 +3,7 @@ use Rattle.std.proofs.Common.{◌≡◌, true, false, arith}
 use Rattle.store.specs.Cells.{cells_end}
 use Rattle.datom.specs.Datom.{datom_of}
 use Rattle.datom.specs.Laws.{datoms_from}
-use Rattle.index.specs.Order.{order_in, is_less}
+use Rattle.index.specs.Order.{ord, is_less}
 use Rattle.index.specs.Named.{less_named_law}
 use Rattle.lookup.specs.Gap.{narrowed}
 use Rattle.lookup.proofs.gap.narrow.Goals as goal
@@ -24,7 +24,7 @@ pub returns-then-is_lt : goal.returns-then-is_lt
 unfolding narrowed
 returns-then-is_lt c =
     let a = c.args in
-    let cmp = (order_in a.by a.heap.now).cmp in
+    let cmp = (ord a.order).cmp in
     let e : is_less (cmp c.datom_at-next.result c.in-Some.high) ≡ true = cc (less_named_law (cmp c.datom_at-next.result c.in-Some.high)) in
     rw (datoms_from a.k a.i a.page.now (omega arith), c.in-Some.is, ← c.datom_at-next.ensures, e)
 
@@ -32,6 +32,6 @@ pub returns : goal.returns
 unfolding narrowed
 returns c =
     let a = c.args in
-    let cmp = (order_in a.by a.heap.now).cmp in
+    let cmp = (ord a.order).cmp in
     let e : is_less (cmp c.datom_at-next.result c.in-Some.high) ≡ false = cc (less_named_law (cmp c.datom_at-next.result c.in-Some.high)) in
     rw (datoms_from a.k a.i a.page.now (omega arith), c.in-Some.is, ← c.datom_at-next.ensures, e)

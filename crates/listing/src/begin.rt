@@ -1,7 +1,7 @@
 // The start of a listing: each bound's way down to level 0, the lower first.
 ghost use Rattle.std.specs.Prelude.{◌&&◌, not, [], ◌≡◌, ◌≤◌};
 ghost use Rattle.store.specs.Page.{is_none};
-ghost use Rattle.index.specs.Order.{order_in, is_less};
+ghost use Rattle.index.specs.Order.{ord, is_less};
 ghost use Rattle.rules.specs.Listing.{cursor_of, refuse_start, join_paths, start_under, start_list};
 ghost use Rattle.rules.specs.Calls.{start_call};
 ghost use Rattle.memory_store.specs.Pages.{order_of};
@@ -13,7 +13,7 @@ use crate::way::Way;
 use crate::{descent, way};
 use answer::{Cursor, Damage, Refusal, Started};
 use datom::Datom;
-use index::Index;
+use index::Order;
 use memory_store::pages::Pages;
 use store::{Extent, PageId, StoreRecord};
 
@@ -91,17 +91,17 @@ fn start_at(
 }
 
 // Whether there can be something to list: a root, and a lower bound below the upper.
-fn is_any_between(root: PageId, lower: Datom, upper: Datom, by: Index, heap: &[u8]) -> bool
-    ensures { result ≡ (is_less ((order_in by heap.now).cmp lower upper) && not (is_none root)) }
+fn is_any_between(root: PageId, lower: Datom, upper: Datom, order: Order) -> bool
+    ensures { result ≡ (is_less ((ord order.entry).cmp lower upper) && not (is_none root)) }
 {
-    index::order_of(lower, upper, by, heap).is_lt() && !root.is_none()
+    order.cmp(lower, upper).is_lt() && !root.is_none()
 }
 
 // The root is read, and its level is where both ways begin.
 fn start_under(pages: &Pages, root: PageId, lower: Datom, upper: Datom) -> Result<Cursor, Refusal>
     ensures { started_as result ≡ start_under (order_of pages.now) pages.now.extent pages.now.store.now root lower upper }
 {
-    if !is_any_between(root, lower, upper, pages.by, pages.heap) {
+    if !is_any_between(root, lower, upper, pages.order) {
         return Ok(nothing());
     }
     let read = pages.header(root);
@@ -116,16 +116,15 @@ fn begun_in(
     root: PageId,
     lower: Datom,
     upper: Datom,
-    by: Index,
-    heap: &[u8],
+    order: Order,
 ) -> Result<Cursor, Refusal>
-    ensures { started_as result ≡ start_list (order_in by heap.now) extent store.now root lower upper }
+    ensures { started_as result ≡ start_list (ord order.entry) extent store.now root lower upper }
 {
-    let pages = Pages::in_order(store, extent, by, heap)?;
-    if !lower.is_bound(heap) {
+    let pages = Pages::in_order(store, extent, order)?;
+    if !lower.is_bound(order.heap) {
         return Err(Refusal::BadBound);
     }
-    if !upper.is_bound(heap) {
+    if !upper.is_bound(order.heap) {
         return Err(Refusal::BadBound);
     }
     if memory_store::is_bad_root(extent, root) {
@@ -149,7 +148,8 @@ fn begun(
     let bad = memory_store::is_bad(store, extent);
     let by = ordered::order_in(recorded, bad, heap)?;
     let used = heap::used_of(heap, recorded.heap);
-    begun_in(store, extent, root, lower, upper, by, used)
+    let order = Order { by, heap: used };
+    begun_in(store, extent, root, lower, upper, order)
 }
 
 // A cursor to the datoms from the lower bound on and below the upper.
@@ -159,12 +159,11 @@ pub fn start_in(
     root: PageId,
     lower: Datom,
     upper: Datom,
-    by: Index,
-    heap: &[u8],
+    order: Order,
 ) -> Started
-    ensures { result ≡ start_list (order_in by heap.now) extent store.now root lower upper }
+    ensures { result ≡ start_list (ord order.entry) extent store.now root lower upper }
 {
-    started(begun_in(store, extent, root, lower, upper, by, heap))
+    started(begun_in(store, extent, root, lower, upper, order))
 }
 
 // A listing from the lower bound up to the upper.

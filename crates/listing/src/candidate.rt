@@ -1,6 +1,6 @@
 // The smallest datom under the indices of a cursor: a running minimum from level 0 up.
 ghost use Rattle.std.specs.Prelude.{◌≡◌, ◌≤◌, drop};
-ghost use Rattle.index.specs.Order.{order_in};
+ghost use Rattle.index.specs.Order.{ord};
 ghost use Rattle.rules.specs.Tree.{fine};
 ghost use Rattle.rules.specs.Listing.{begin_frames, open_frames};
 ghost use Rattle.memory_store.specs.Pages.{order_of, fetched_from};
@@ -10,7 +10,7 @@ ghost use Rattle.listing.specs.Candidate.{pick_one, pick, candidate_below};
 
 use answer::Cursor;
 use datom::Datom;
-use index::Index;
+use index::Order;
 use memory_store::access;
 use memory_store::pages::Pages;
 use std::cmp::Ordering;
@@ -30,15 +30,14 @@ fn against(
     page: PageId,
     x: Datom,
     best: Option<Candidate>,
-    by: Index,
-    heap: &[u8],
+    order: Order,
 ) -> Result<Option<Candidate>, PageId>
-    ensures { result ≡ pick_one (order_in by heap.now) level page x (Ok best) }
+    ensures { result ≡ pick_one (ord order.entry) level page x (Ok best) }
 {
     let Some(smallest) = best else {
         return Ok(Some(Candidate { level, datom: x }));
     };
-    match index::order_of(smallest.datom, x, by, heap) {
+    match order.cmp(smallest.datom, x) {
         Ordering::Less => Ok(best),
         Ordering::Equal => Err(page),
         Ordering::Greater => Ok(Some(Candidate { level, datom: x })),
@@ -65,8 +64,7 @@ fn chosen(
         page,
         datom::datom_at(part, 32 * (index as usize)),
         best,
-        pages.by,
-        pages.heap,
+        pages.order,
     )
 }
 

@@ -1,7 +1,7 @@
 // The way down to level 0 past the datoms below a bound, or past none.
 ghost use Rattle.std.specs.Prelude.{true, ◌≡◌, suc, ◌+◌, ◌*◌, ◌≤◌, length};
 ghost use Rattle.datom.specs.Datom.{datoms_of};
-ghost use Rattle.index.specs.Order.{order_in};
+ghost use Rattle.index.specs.Order.{ord};
 ghost use Rattle.rules.specs.Page.{children_of, rising};
 ghost use Rattle.rules.specs.Node.{rank_by};
 ghost use Rattle.rules.specs.Tree.{at_level};
@@ -11,7 +11,7 @@ ghost use Rattle.listing.specs.Descent.{test_of, next_from, placed_of, descent_o
 use crate::way::Way;
 use answer::{Damage, Fault};
 use datom::Datom;
-use index::Index;
+use index::Order;
 use memory_store::access;
 use memory_store::pages::Pages;
 use store::PageId;
@@ -24,13 +24,13 @@ struct Place {
 }
 
 // The index in a page of k datoms: that of the first which is not below the bound, or 0 where there is none.
-fn index_in(part: &[u8], k: usize, seek: Option<Datom>, by: Index, heap: &[u8]) -> usize
-    requires { (32 * k ≤ length part.now) × (rising (order_in by heap.now).cmp (datoms_of k part.now) ≡ true) }
-    ensures { result ≡ rank_by (test_of (order_in by heap.now) seek) (datoms_of k part.now) }
+fn index_in(part: &[u8], k: usize, seek: Option<Datom>, order: Order) -> usize
+    requires { (32 * k ≤ length part.now) × (rising (ord order).cmp (datoms_of k part.now) ≡ true) }
+    ensures { result ≡ rank_by (test_of (ord order.entry) seek) (datoms_of k part.now) }
 {
     match seek {
         None => 0,
-        Some(d) => access::first_not_below(part, k, d, by, heap),
+        Some(d) => access::first_not_below(part, k, d, order),
     }
 }
 
@@ -51,7 +51,7 @@ fn place_in(pages: &Pages, seek: Option<Datom>, level: usize, page: PageId) -> R
 {
     let k = pages.open(level, page)?;
     let part = pages.part(page);
-    let index = index_in(part, k, seek, pages.by, pages.heap);
+    let index = index_in(part, k, seek, pages.order);
     let next = next_from(part, level, pages.capacity, k, index);
     Ok(Place { index, next })
 }

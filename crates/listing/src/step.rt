@@ -1,7 +1,7 @@
 // A step of a listing.
 ghost use Rattle.std.specs.Prelude.{◌≡◌, ◌≤◌, get_or};
 ghost use Rattle.store.specs.Page.{page};
-ghost use Rattle.index.specs.Order.{order_in};
+ghost use Rattle.index.specs.Order.{ord};
 ghost use Rattle.rules.specs.Listing.{begin_frames, open_frames, onward, step_list};
 ghost use Rattle.rules.specs.Calls.{step_call};
 ghost use Rattle.memory_store.specs.Pages.{order_of, fetched_from};
@@ -11,7 +11,7 @@ use crate::way::Way;
 use crate::{begin, candidate, descent, opening, way};
 use answer::{Cursor, Damage, Fault, Refusal, Stepped};
 use datom::Datom;
-use index::Index;
+use index::Order;
 use memory_store::access;
 use memory_store::pages::Pages;
 use store::{Extent, PageId, StoreRecord};
@@ -95,12 +95,11 @@ fn next_in(
     store: &[u8],
     extent: Extent,
     cursor: Cursor,
-    by: Index,
-    heap: &[u8],
+    order: Order,
 ) -> Result<Option<Yielded>, Refusal>
-    ensures { stepped_as cursor result ≡ step_list (order_in by heap.now) extent store.now cursor }
+    ensures { stepped_as cursor result ≡ step_list (ord order.entry) extent store.now cursor }
 {
-    let pages = Pages::in_order(store, extent, by, heap)?;
+    let pages = Pages::in_order(store, extent, order)?;
     if (way::LEVELS as u64) < cursor.height {
         return Err(Refusal::Damaged(PageId::max(), Fault::TooHigh));
     }
@@ -123,7 +122,8 @@ fn next(
     let bad = memory_store::is_bad(store, extent);
     let by = ordered::order_in(recorded, bad, heap)?;
     let used = heap::used_of(heap, recorded.heap);
-    next_in(store, extent, cursor, by, used)
+    let order = Order { by, heap: used };
+    next_in(store, extent, cursor, order)
 }
 
 // An ended or refused step returns its cursor as it was.
@@ -139,10 +139,10 @@ fn stepped(cursor: Cursor, next: Result<Option<Yielded>, Refusal>) -> Stepped
 }
 
 // The next datom of a listing, for any cursor.
-pub fn step_in(store: &[u8], extent: Extent, cursor: Cursor, by: Index, heap: &[u8]) -> Stepped
-    ensures { result ≡ step_list (order_in by heap.now) extent store.now cursor }
+pub fn step_in(store: &[u8], extent: Extent, cursor: Cursor, order: Order) -> Stepped
+    ensures { result ≡ step_list (ord order.entry) extent store.now cursor }
 {
-    stepped(cursor, next_in(store, extent, cursor, by, heap))
+    stepped(cursor, next_in(store, extent, cursor, order))
 }
 
 // One step of a listing.

@@ -1,30 +1,30 @@
 // Bounds that may be missing.
 ghost use Rattle.std.specs.Prelude.{◌≡◌, ◌*◌, ◌≤◌, length, drop};
 ghost use Rattle.datom.specs.Datom.{datoms_of};
-ghost use Rattle.index.specs.Order.{order_in};
+ghost use Rattle.index.specs.Order.{ord};
 ghost use Rattle.rules.specs.Check.{above_lower, below_upper};
 ghost use Rattle.invariants.specs.Bounds.{bound_of, bound_at};
 
 use datom::Datom;
-use index::Index;
+use index::Order;
 
 // Whether a datom is above a lower bound.
-fn is_above(lower: Option<Datom>, d: Datom, by: Index, heap: &[u8]) -> bool
-    ensures { result ≡ above_lower (order_in by heap.now).cmp (bound_of lower) d }
+fn is_above(lower: Option<Datom>, d: Datom, order: Order) -> bool
+    ensures { result ≡ above_lower (ord order.entry).cmp (bound_of lower) d }
 {
     match lower {
         None => true,
-        Some(x) => index::order_of(x, d, by, heap).is_lt(),
+        Some(x) => order.cmp(x, d).is_lt(),
     }
 }
 
 // Whether a lower bound is below an upper one.
-pub fn is_below(lower: Option<Datom>, upper: Option<Datom>, by: Index, heap: &[u8]) -> bool
-    ensures { result ≡ below_upper (order_in by heap.now).cmp (bound_of lower) (bound_of upper) }
+pub fn is_below(lower: Option<Datom>, upper: Option<Datom>, order: Order) -> bool
+    ensures { result ≡ below_upper (ord order.entry).cmp (bound_of lower) (bound_of upper) }
 {
     match upper {
         None => true,
-        Some(y) => is_above(lower, y, by, heap),
+        Some(y) => is_above(lower, y, order),
     }
 }
 

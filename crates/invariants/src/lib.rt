@@ -5,7 +5,7 @@
 pub mod bound;
 
 ghost use Rattle.std.specs.Prelude.{false, ◌≡◌};
-ghost use Rattle.index.specs.Order.{order_in};
+ghost use Rattle.index.specs.Order.{ord};
 ghost use Rattle.rules.specs.Tree.{fine, at_level};
 ghost use Rattle.rules.specs.Check.{check_at, check_tree};
 ghost use Rattle.rules.specs.Calls.{check_call};
@@ -15,7 +15,7 @@ ghost use Rattle.invariants.specs.Verdict.{verdict_of};
 
 use answer::{Damage, Fault, Flaw, Refusal};
 use datom::Datom;
-use index::Index;
+use index::Order;
 use memory_store::pages::Pages;
 use memory_store::reader::Header;
 use store::{Extent, PageId, StoreRecord};
@@ -39,7 +39,7 @@ fn check_at(
     let mut midpoint = lower;
     for i in 0..=k {
         let next = bound::bound_at(part, k, i, upper);
-        if !bound::is_below(last, next, pages.by, pages.heap) {
+        if !bound::is_below(last, next, pages.order) {
             return Err(Damage {
                 page,
                 fault: Fault::OutOfBounds,
@@ -60,16 +60,10 @@ fn check_at(
 
 // Whether the tree under a root is sound, or the first fault and its page. Document 01: "the check checks 1, 5", "Root "none" is
 // Sound."
-pub fn check_in(
-    store: &[u8],
-    extent: Extent,
-    root: PageId,
-    by: Index,
-    heap: &[u8],
-) -> Result<(), Flaw>
-    ensures { result ≡ check_tree (order_in by heap.now) extent store.now root }
+pub fn check_in(store: &[u8], extent: Extent, root: PageId, order: Order) -> Result<(), Flaw>
+    ensures { result ≡ check_tree (ord order.entry) extent store.now root }
 {
-    let pages = Pages::in_order(store, extent, by, heap)?;
+    let pages = Pages::in_order(store, extent, order)?;
     if memory_store::is_bad_root(extent, root) {
         return Err(Flaw::Refused(Refusal::NoPage));
     }
@@ -90,5 +84,6 @@ pub fn check(store: &[u8], recorded: StoreRecord, root: PageId, heap: &[u8]) -> 
     let bad = memory_store::is_bad(store, extent);
     let by = ordered::order_in(recorded, bad, heap)?;
     let used = heap::used_of(heap, recorded.heap);
-    check_in(store, extent, root, by, used)
+    let order = Order { by, heap: used };
+    check_in(store, extent, root, order)
 }

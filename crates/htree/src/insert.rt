@@ -1,6 +1,6 @@
 // Insert into a page, and flush: they call each other, the level falling at each call.
 ghost use Rattle.std.specs.Prelude.{◌≡◌, ◌+◌, ◌*◌, ◌≤◌, ◌<◌, length};
-ghost use Rattle.index.specs.Order.{order_in};
+ghost use Rattle.index.specs.Order.{ord};
 ghost use Rattle.rules.specs.Page.{node_of};
 ghost use Rattle.rules.specs.Tree.{fetch_at, flush, flush_all, insert_into};
 ghost use Rattle.rules.specs.Store.{env_of};
@@ -13,7 +13,7 @@ ghost use Rattle.htree.specs.Flush.{insert_lower};
 use crate::place;
 use crate::place::{Failed, Placed};
 use answer::{Fault, Refusal};
-use index::{Index, Order};
+use index::Order;
 use memory_store::found;
 use memory_store::pages::Pages;
 use store::{Extent, PageId};
@@ -35,11 +35,7 @@ fn load(
     let k = opened?;
     let part = pages.part(page);
     let behind = 40 * m + 8;
-    let order = Order {
-        by: pages.by,
-        heap: pages.heap,
-    };
-    node::merge(part, pages.capacity, k, s, m, behind, n, order)?;
+    node::merge(part, pages.capacity, k, s, m, behind, n, pages.order)?;
     Ok(k + n)
 }
 
@@ -57,13 +53,12 @@ pub fn insert_into(
     s: &mut [u8],
     m: usize,
     n: usize,
-    by: Index,
-    heap: &[u8],
+    order: Order,
 ) -> Result<Placed, Failed>
-    requires { Ready extent store.old c written × ((level + 1) * c + n ≤ m) × ((level + 1) * (40 * m + 8) + 32 * m ≤ length s.old) × (opened ≡ opened_of (fetch_at (env_of (order_in by heap.now) extent store.old) level page)) }
-    ensures { Tells extent store.old store.new m s.new written result (insert_into (env_of (order_in by heap.now) extent store.old) level page (batch_at m n s.old)) }
+    requires { Ready extent store.old c written × ((level + 1) * c + n ≤ m) × ((level + 1) * (40 * m + 8) + 32 * m ≤ length s.old) × (opened ≡ opened_of (fetch_at (env_of (ord order) extent store.old) level page)) }
+    ensures { Tells extent store.old store.new m s.new written result (insert_into (env_of (ord order.entry) extent store.old) level page (batch_at m n s.old)) }
 {
-    let pages = Pages::new(store, extent, by, heap);
+    let pages = Pages::new(store, extent, order);
     let loaded = load(&pages, level, page, opened, s, m, n);
     let count = loaded.map_err(|fault| Failed {
         refusal: Refusal::Damaged(page, fault),
@@ -72,7 +67,7 @@ pub fn insert_into(
     if level == 0 {
         return place::settle(store, extent, c, written, level, s, m, count);
     }
-    let left = drain(store, extent, c, written, level, s, m, count, by, heap)?;
+    let left = drain(store, extent, c, written, level, s, m, count, order)?;
     place::settle(store, extent, c, left.written, level, s, m, left.datoms)
 }
 
@@ -88,11 +83,10 @@ fn drain(
     s: &mut [u8],
     m: usize,
     n: usize,
-    by: Index,
-    heap: &[u8],
+    order: Order,
 ) -> Result<Placed, Failed>
     requires { Ready extent store.old c written × (0 < level) × (level * c + n ≤ m) × ((level + 1) * (40 * m + 8) + 32 * m ≤ length s.old) }
-    ensures { Tells extent store.old store.new m s.new written result (flush_all (env_of (order_in by heap.now) extent store.old) (insert_lower (order_in by heap.now) extent store.old level) n (node_of m level n s.old)) }
+    ensures { Tells extent store.old store.new m s.new written result (flush_all (env_of (ord order.entry) extent store.old) (insert_lower (ord order.entry) extent store.old level) n (node_of m level n s.old)) }
 {
     let mut left = Placed { datoms: n, written };
     for turn in 0..n {
@@ -111,8 +105,7 @@ fn drain(
             s,
             m,
             left.datoms,
-            by,
-            heap,
+            order,
         )?;
     }
     Ok(left)
@@ -129,18 +122,17 @@ fn flush(
     s: &mut [u8],
     m: usize,
     n: usize,
-    by: Index,
-    heap: &[u8],
+    order: Order,
 ) -> Result<Placed, Failed>
     requires { Ready extent store.old c written × (0 < level) × (level * c + n ≤ m) × ((level + 1) * (40 * m + 8) + 32 * m ≤ length s.old) }
-    ensures { Tells extent store.old store.new m s.new written result (flush (insert_lower (order_in by heap.now) extent store.old level) (node_of m level n s.old)) }
+    ensures { Tells extent store.old store.new m s.new written result (flush (insert_lower (ord order.entry) extent store.old level) (node_of m level n s.old)) }
 {
     let span = node::longest_pending_span(s, m, n);
     let from = span.from;
     let upto = span.upto;
     let child = store::child_at(s, m, upto);
     let lower = level - 1;
-    let opened = found::open_at(store, extent, c, lower, child, by, heap);
+    let opened = found::open_at(store, extent, c, lower, child, order);
     let own = 40 * m + 8;
     node::move_span::<32>(s, 32 * from, own + own, upto - from);
     let back = insert_into(
@@ -154,8 +146,7 @@ fn flush(
         &mut s[own..],
         m,
         upto - from,
-        by,
-        heap,
+        order,
     )?;
     node::splice(s, m, n, from, upto, back.datoms);
     Ok(Placed {

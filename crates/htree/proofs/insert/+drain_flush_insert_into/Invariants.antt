@@ -1,10 +1,10 @@
 use Prim.Native.Nat.{◌+◌, ◌-◌, ◌*◌}
-use Rattle.index.specs.Order.{order_in}
+use Rattle.index.specs.Order.{ord}
 use Rattle.htree.specs.Cycle.{Drains}
 use Rattle.htree.proofs.insert.+drain_flush_insert_into.Given as goal
 
 abbrev pub invariant-drain-loop-turn : goal.invariant-drain-loop-turn
-invariant-drain-loop-turn l = Drains (order_in l.by l.heap) l.extent l.initial.store l.c l.written l.level l.m l.n l.initial.s l.store l.s (l.n - l.turn) l.left.datoms l.left.written
+invariant-drain-loop-turn l = Drains (ord l.order) l.extent l.initial.store l.c l.written l.level l.m l.n l.initial.s l.store l.s (l.n - l.turn) l.left.datoms l.left.written
 
 -- the level falls at each round of the cycle
 abbrev pub decreases-drain : goal.decreases-drain

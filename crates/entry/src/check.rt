@@ -2,7 +2,7 @@
 ghost use Rattle.std.specs.Prelude.{◌||◌, ◌≡◌, ◌*◌, ◌≤◌, length};
 ghost use Rattle.store.specs.Size.{most_datoms, room_for, scratch_need};
 ghost use Rattle.datom.specs.Datom.{datoms_of};
-ghost use Rattle.index.specs.Order.{order_in};
+ghost use Rattle.index.specs.Order.{ord, order_in};
 ghost use Rattle.index.specs.declared.Index.{Index};
 ghost use Rattle.rules.specs.Store.{bad_store, bad_scratch};
 ghost use Rattle.rules.specs.Insert.{word_fault};
@@ -10,7 +10,7 @@ ghost use Rattle.batch.specs.Finding.{finding_of};
 ghost use Rattle.entry.specs.Checks.{count_for, insert_fault, initialise_fault};
 
 use answer::Refusal;
-use index::{Index, Order};
+use index::Order;
 use store::Extent;
 
 // How many datoms a node in the scratch has room for.
@@ -60,19 +60,19 @@ fn word_fault(b: &[u8], n: usize, heap: &[u8]) -> Result<(), Refusal>
 }
 
 // Refusals 3, 11 and 4 of an insert.
-pub fn insert_fault(b: &[u8], n: usize, by: Index, heap: &[u8]) -> Result<(), Refusal>
+pub fn insert_fault(b: &[u8], n: usize, order: Order) -> Result<(), Refusal>
     requires { 32 * n ≤ length b.now }
-    ensures { finding_of result ≡ insert_fault (order_in by heap.now) (datoms_of n b.now) }
+    ensures { finding_of result ≡ insert_fault (ord order.entry) (datoms_of n b.now) }
 {
-    word_fault(b, n, heap)?;
-    batch::order_fault(b, n, Order { by, heap })
+    word_fault(b, n, order.heap)?;
+    batch::order_fault(b, n, order)
 }
 
 // Refusals 3, 11 and 4 of an initialise.
-pub fn initialise_fault(b: &[u8], n: usize, by: Index, heap: &[u8]) -> Result<(), Refusal>
+pub fn initialise_fault(b: &[u8], n: usize, order: Order) -> Result<(), Refusal>
     requires { 32 * n ≤ length b.now }
-    ensures { finding_of result ≡ initialise_fault (order_in by heap.now) (datoms_of n b.now) }
+    ensures { finding_of result ≡ initialise_fault (ord order.entry) (datoms_of n b.now) }
 {
-    word_fault(b, n, heap)?;
-    batch::twin_fault(b, n, Order { by, heap })
+    word_fault(b, n, order.heap)?;
+    batch::twin_fault(b, n, order)
 }

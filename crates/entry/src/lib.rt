@@ -6,7 +6,7 @@ pub mod write;
 
 ghost use Rattle.std.specs.Prelude.{true, ◌≡◌, length};
 ghost use Rattle.datom.specs.Datom.{datoms_of};
-ghost use Rattle.index.specs.Order.{order_in};
+ghost use Rattle.index.specs.Order.{ord};
 ghost use Rattle.rules.specs.Page.{rising};
 ghost use Rattle.rules.specs.Store.{fetch_page, env_of};
 ghost use Rattle.rules.specs.Insert.{insert_at, insert_counted, initialise_counted, insert_bytes, initialise_bytes};
@@ -17,7 +17,7 @@ ghost use Rattle.entry.specs.Checks.{Passed};
 use answer::{Damage, Done, Refusal};
 use htree::place::Failed;
 use htree::root::Rooted;
-use index::Index;
+use index::Order;
 use memory_store::pages::Pages;
 use memory_store::reader::Header;
 use store::{Extent, PageId, StoreRecord};
@@ -43,17 +43,16 @@ fn insert_at(
     b: &[u8],
     n: usize,
     s: &mut [u8],
-    by: Index,
-    heap: &[u8],
+    order: Order,
 ) -> Result<Done, Refusal>
-    requires { Passed extent store.old c b.now n (length s.old) × (rising (order_in by heap.now).cmp (datoms_of n b.now) ≡ true) }
-    ensures { Replies extent store.old store.new result (insert_at (env_of (order_in by heap.now) extent store.old) root (datoms_of n b.now) (fetch_page (order_in by heap.now) extent store.old root)) }
+    requires { Passed extent store.old c b.now n (length s.old) × (rising (ord order).cmp (datoms_of n b.now) ≡ true) }
+    ensures { Replies extent store.old store.new result (insert_at (env_of (ord order.entry) extent store.old) root (datoms_of n b.now) (fetch_page (ord order.entry) extent store.old root)) }
 {
-    let pages = Pages::new(store, extent, by, heap);
+    let pages = Pages::new(store, extent, order);
     let read = pages.header(root);
     let Header { level, count } = read.map_err(|fault| Damage { page: root, fault })?;
     lookup::lookup_all(&pages, root, level, count, b, n)?;
-    answer_of(write::under(store, extent, c, root, level, count, b, n, s, by, heap))
+    answer_of(write::under(store, extent, c, root, level, count, b, n, s, order))
 }
 
 // Refusals 3 to 9, of a batch of n datoms.
@@ -65,20 +64,19 @@ fn insert_counted(
     b: &[u8],
     n: usize,
     s: &mut [u8],
-    by: Index,
-    heap: &[u8],
+    order: Order,
 ) -> Result<Done, Refusal>
     requires { Passed extent store.old c b.now n (length s.old) }
-    ensures { Replies extent store.old store.new result (insert_counted (order_in by heap.now) extent store.old root (datoms_of n b.now)) }
+    ensures { Replies extent store.old store.new result (insert_counted (ord order.entry) extent store.old root (datoms_of n b.now)) }
 {
-    check::insert_fault(b, n, by, heap)?;
+    check::insert_fault(b, n, order)?;
     if memory_store::is_bad_root(extent, root) {
         return Err(Refusal::NoPage);
     }
     if root.is_none() {
         return answer_of(write::fresh(store, extent, c, b, n, s));
     }
-    insert_at(store, extent, c, root, b, n, s, by, heap)
+    insert_at(store, extent, c, root, b, n, s, order)
 }
 
 // Inserts a batch at a root. Nothing is written unless the whole batch may go in.
@@ -88,14 +86,13 @@ pub fn insert_in(
     root: PageId,
     b: &[u8],
     s: &mut [u8],
-    by: Index,
-    heap: &[u8],
+    order: Order,
 ) -> Result<Done, Refusal>
-    ensures { Replies extent store.old store.new result (insert_bytes (order_in by heap.now) extent store.old (length s.old) root b.now) }
+    ensures { Replies extent store.old store.new result (insert_bytes (ord order.entry) extent store.old (length s.old) root b.now) }
 {
     let n = check::count_of(store, extent, b, s.len())?;
     let c = store::capacity_of(extent.size);
-    insert_counted(store, extent, c, root, b, n, s, by, heap)
+    insert_counted(store, extent, c, root, b, n, s, order)
 }
 
 // Refusals 3 to 9 of an initialise, of a batch of n datoms.
@@ -106,14 +103,13 @@ fn initialise_counted(
     b: &[u8],
     n: usize,
     s: &mut [u8],
-    by: Index,
-    heap: &[u8],
+    order: Order,
 ) -> Result<Done, Refusal>
     requires { Passed extent store.old c b.now n (length s.old) }
-    ensures { Replies extent store.old store.new result (initialise_counted (order_in by heap.now) extent store.old (datoms_of n b.now)) }
+    ensures { Replies extent store.old store.new result (initialise_counted (ord order.entry) extent store.old (datoms_of n b.now)) }
 {
-    check::initialise_fault(b, n, by, heap)?;
-    answer_of(write::sorted(store, extent, c, b, n, s, by, heap))
+    check::initialise_fault(b, n, order)?;
+    answer_of(write::sorted(store, extent, c, b, n, s, order))
 }
 
 // Makes a new tree of a batch in any order. It reads no page. With `insert_in` it shares the first two lines: one function of the rest as a closure
@@ -123,14 +119,13 @@ pub fn initialise_in(
     extent: Extent,
     b: &[u8],
     s: &mut [u8],
-    by: Index,
-    heap: &[u8],
+    order: Order,
 ) -> Result<Done, Refusal>
-    ensures { Replies extent store.old store.new result (initialise_bytes (order_in by heap.now) extent store.old (length s.old) b.now) }
+    ensures { Replies extent store.old store.new result (initialise_bytes (ord order.entry) extent store.old (length s.old) b.now) }
 {
     let n = check::count_of(store, extent, b, s.len())?;
     let c = store::capacity_of(extent.size);
-    initialise_counted(store, extent, c, b, n, s, by, heap)
+    initialise_counted(store, extent, c, b, n, s, order)
 }
 
 // Inserts a batch at a root. Nothing is written unless the whole batch may go in.
@@ -148,7 +143,8 @@ pub fn insert(
     let bad = check::is_bad(store, extent, s.len());
     let by = ordered::order_in(recorded, bad, heap)?;
     let used = heap::used_of(heap, recorded.heap);
-    insert_in(store, extent, root, b, s, by, used)
+    let order = Order { by, heap: used };
+    insert_in(store, extent, root, b, s, order)
 }
 
 // Makes a new tree of a batch in any order. It reads no page.
@@ -165,5 +161,6 @@ pub fn initialise(
     let bad = check::is_bad(store, extent, s.len());
     let by = ordered::order_in(recorded, bad, heap)?;
     let used = heap::used_of(heap, recorded.heap);
-    initialise_in(store, extent, b, s, by, used)
+    let order = Order { by, heap: used };
+    initialise_in(store, extent, b, s, order)
 }

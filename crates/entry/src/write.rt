@@ -1,7 +1,7 @@
 // What is written of a batch that passed the checks. The batch is laid into the scratch, where the nodes are.
 ghost use Rattle.std.specs.Prelude.{◌≡◌, ◌+◌, ◌*◌, ◌≤◌, length};
 ghost use Rattle.datom.specs.Datom.{datoms_of};
-ghost use Rattle.index.specs.Order.{DatomOrd, order_in};
+ghost use Rattle.index.specs.Order.{DatomOrd, ord};
 ghost use Rattle.rules.specs.Insert.{sort, fresh_tree};
 ghost use Rattle.rules.specs.Tree.{fine, insert_tree};
 ghost use Rattle.rules.specs.Store.{fetch_page, env_of};
@@ -13,7 +13,7 @@ ghost use Rattle.entry.specs.Leaf.{Cleared};
 use crate::check;
 use htree::place::Failed;
 use htree::root::Rooted;
-use index::{Index, Order};
+use index::Order;
 use store::{Extent, PageId};
 
 // The n datoms at the front of the area become those of a leaf: no child beside any of them.
@@ -66,14 +66,13 @@ pub fn sorted(
     b: &[u8],
     n: usize,
     s: &mut [u8],
-    by: Index,
-    heap: &[u8],
+    order: Order,
 ) -> Result<Rooted, Failed>
     requires { Passed extent store.old c b.now n (length s.old) }
-    ensures { Roots extent store.old store.new 0 result (fresh_tree (env_of (order_in by heap.now) extent store.old) (sort (order_in by heap.now).cmp (datoms_of n b.now))) }
+    ensures { Roots extent store.old store.new 0 result (fresh_tree (env_of (ord order.entry) extent store.old) (sort (ord order.entry).cmp (datoms_of n b.now))) }
 {
     store::put(s, 0, b);
-    batch::sort::sort(s, n, Order { by, heap });
+    batch::sort::sort(s, n, order);
     leaf(store, extent, c, n, s)
 }
 
@@ -88,11 +87,10 @@ pub fn under(
     b: &[u8],
     n: usize,
     s: &mut [u8],
-    by: Index,
-    heap: &[u8],
+    order: Order,
 ) -> Result<Rooted, Failed>
-    requires { Passed extent store.old c b.now n (length s.old) × (fetch_page (order_in by heap.now) extent store.old root ≡ fine (node_at extent store.old root level count)) }
-    ensures { Roots extent store.old store.new 0 result (insert_tree (env_of (order_in by heap.now) extent store.old) level root (datoms_of n b.now)) }
+    requires { Passed extent store.old c b.now n (length s.old) × (fetch_page (ord order) extent store.old root ≡ fine (node_at extent store.old root level count)) }
+    ensures { Roots extent store.old store.new 0 result (insert_tree (env_of (ord order.entry) extent store.old) level root (datoms_of n b.now)) }
 {
     let m = check::room_for(c);
     store::put(s, 40 * m + 8, b);
@@ -107,8 +105,7 @@ pub fn under(
         s,
         m,
         n,
-        by,
-        heap,
+        order,
     )?;
     htree::root::write_root(store, extent, c, up.written, level + 1, s, m, up.datoms)
 }

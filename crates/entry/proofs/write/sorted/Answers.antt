@@ -2,7 +2,7 @@
 use mathlib.Core.Path.{refl, ◌∙◌, ap}
 use native.Mathlib.Omega.{arith}
 use Rattle.datom.specs.Datom.{datoms_of}
-use Rattle.index.specs.Order.{order_in}
+use Rattle.index.specs.Order.{ord}
 use Rattle.rules.specs.Insert.{sort}
 use Rattle.entry.specs.Scratch.{roomy_area, roomy_small}
 use Rattle.entry.specs.Leaf.{batch_put}
@@ -22,5 +22,5 @@ pub returns : goal.returns
 returns c =
     let a = c.args in
     let e = ap (datoms_of a.n) c.put.ensures ∙ batch_put a.n 0 a.s.now a.b.now (omega arith) c.requires.batch in
-    let f = c.sort.ensures.datoms ∙ ap (sort (order_in a.by a.heap.now).cmp) e in
-    λ o h. rw (← f) (c.leaf.ensures (order_in a.by a.heap.now) o h)
+    let f = c.sort.ensures.datoms ∙ ap (sort (ord a.order).cmp) e in
+    λ o h. rw (← f) (c.leaf.ensures (ord a.order) o h)

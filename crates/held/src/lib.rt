@@ -4,14 +4,14 @@
 
 ghost use Rattle.std.specs.Prelude.{◌≡◌, ◌*◌, ◌≤◌, length};
 ghost use Rattle.datom.specs.Datom.{datoms_of};
-ghost use Rattle.index.specs.Order.{order_in};
+ghost use Rattle.index.specs.Order.{ord};
 ghost use Rattle.rules.specs.Held.{held_at, held_tree, held_counted, held_bytes};
 ghost use Rattle.rules.specs.Calls.{held_call};
 ghost use Rattle.memory_store.specs.Pages.{order_of, fetched_from, read_from};
 ghost use Rattle.batch.specs.Finding.{finding_of};
 
 use answer::{Damage, Refusal};
-use index::Index;
+use index::Order;
 use memory_store::pages::Pages;
 use memory_store::reader::Header;
 use store::{Extent, PageId, StoreRecord};
@@ -45,7 +45,7 @@ fn held_counted(pages: &Pages, root: PageId, b: &[u8], n: usize) -> Result<(), R
     requires { 32 * n ≤ length b.now }
     ensures { finding_of result ≡ held_counted (order_of pages.now) pages.now.extent pages.now.store.now root (datoms_of n b.now) }
 {
-    entry::check::insert_fault(b, n, pages.by, pages.heap)?;
+    entry::check::insert_fault(b, n, pages.order)?;
     if memory_store::is_bad_root(pages.extent, root) {
         return Err(Refusal::NoPage);
     }
@@ -59,12 +59,11 @@ pub fn held_in(
     extent: Extent,
     root: PageId,
     b: &[u8],
-    by: Index,
-    heap: &[u8],
+    order: Order,
 ) -> Result<(), Refusal>
-    ensures { result ≡ held_bytes (order_in by heap.now) extent store.now root b.now }
+    ensures { result ≡ held_bytes (ord order.entry) extent store.now root b.now }
 {
-    let pages = Pages::in_order(store, extent, by, heap)?;
+    let pages = Pages::in_order(store, extent, order)?;
     let n = batch::count_of(b)?;
     held_counted(&pages, root, b, n)
 }
@@ -83,5 +82,6 @@ pub fn held(
     let bad = memory_store::is_bad(store, extent);
     let by = ordered::order_in(recorded, bad, heap)?;
     let used = heap::used_of(heap, recorded.heap);
-    held_in(store, extent, root, b, by, used)
+    let order = Order { by, heap: used };
+    held_in(store, extent, root, b, order)
 }

@@ -2,7 +2,7 @@
 use Rattle.std.specs.Prelude.{Some, None}
 use Rattle.answer.specs.declared.Flaw.TheVariants.{Unsound, Refused}
 use Rattle.std.specs.Prelude.{Err, Ok}
-use Rattle.answer.specs.Answers.{Answer, Append, Check, Fetch, Held, Start, Step, done_with, ended_step, stored_as, unchecked, unsound_at, yielding}
+use Rattle.answer.specs.Answers.{Answer, Append, Check, Fetch, Held, Start, Step}
 use Rattle.std.specs.Prelude.{ℕ}
 use Rattle.store.specs.declared.PageId.{PageId}
 use Rattle.answer.specs.declared.Refusal.{Refusal}

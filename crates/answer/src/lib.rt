@@ -131,20 +131,20 @@ impl Refusal {
         ensures { result ≡ detail_of self }
     {
         match self {
-            Refusal::BadDatom(i) => i as u64,
-            Refusal::OutOfOrder(i) => i as u64,
-            Refusal::Repeated(i) => i as u64,
-            Refusal::BadConstant(i) => i as u64,
-            Refusal::NotHeld(i) => i as u64,
+            Refusal::BadDatom(i)
+            | Refusal::OutOfOrder(i)
+            | Refusal::Repeated(i)
+            | Refusal::BadConstant(i)
+            | Refusal::NotHeld(i) => i as u64,
             Refusal::Damaged(p, _) => p.0,
-            Refusal::BadStore => 0,
-            Refusal::TooMany => 0,
-            Refusal::NoPage => 0,
-            Refusal::TooTall => 0,
-            Refusal::NoRoom => 0,
-            Refusal::BadBound => 0,
-            Refusal::HeapFull => 0,
-            Refusal::BadOrder => 0,
+            Refusal::BadStore
+            | Refusal::TooMany
+            | Refusal::NoPage
+            | Refusal::TooTall
+            | Refusal::NoRoom
+            | Refusal::BadBound
+            | Refusal::HeapFull
+            | Refusal::BadOrder => 0,
         }
     }
 
@@ -154,19 +154,19 @@ impl Refusal {
     {
         match self {
             Refusal::Damaged(_, fault) => fault.number(),
-            Refusal::BadStore => 0,
-            Refusal::TooMany => 0,
-            Refusal::BadDatom(_) => 0,
-            Refusal::OutOfOrder(_) => 0,
-            Refusal::NoPage => 0,
-            Refusal::Repeated(_) => 0,
-            Refusal::TooTall => 0,
-            Refusal::NoRoom => 0,
-            Refusal::BadBound => 0,
-            Refusal::BadConstant(_) => 0,
-            Refusal::HeapFull => 0,
-            Refusal::BadOrder => 0,
-            Refusal::NotHeld(_) => 0,
+            Refusal::BadStore
+            | Refusal::TooMany
+            | Refusal::BadDatom(_)
+            | Refusal::OutOfOrder(_)
+            | Refusal::NoPage
+            | Refusal::Repeated(_)
+            | Refusal::TooTall
+            | Refusal::NoRoom
+            | Refusal::BadBound
+            | Refusal::BadConstant(_)
+            | Refusal::HeapFull
+            | Refusal::BadOrder
+            | Refusal::NotHeld(_) => 0,
         }
     }
 }
@@ -193,7 +193,8 @@ pub struct Stored {
     pub bytes: u64,
 }
 
-// A listing's place: the height, and for each end an index and a page for every level.
+// A listing's place: the height, and for each end an index and a page for every level. Four lists, as document 01 has them and
+// `rules/specs/Listing.frames_from` speaks of them, and no list of indices with their pages.
 #[derive(Clone, Copy)]
 pub struct Cursor {
     pub height: u64,
@@ -203,14 +204,16 @@ pub struct Cursor {
     pub end_pages: [PageId; 8],
 }
 
-// Of the start of a listing. The cursor of a refused start has ended.
+// Of the start of a listing. The cursor of a refused start has ended. It stands beside the answer and not in it, since a refusal gives one
+// too: `rules/specs/Listing.refuse_start`.
 #[derive(Clone, Copy)]
 pub struct Started {
     pub answer: Result<(), Refusal>,
     pub cursor: Cursor,
 }
 
-// Of a step: the next datom, or none at the end. An ended or refused step returns its cursor as it was.
+// Of a step: the next datom, or none at the end. An ended or refused step returns its cursor as it was. It stands beside the answer, since
+// `rules/specs/Listing.staying` gives it whatever the answer is and `history/specs/Statement.StepsAlong` goes on with it.
 #[derive(Clone, Copy)]
 pub struct Stepped {
     pub answer: Result<Option<Datom>, Refusal>,

@@ -1,5 +1,6 @@
 // Appends to the heap of constants, after MemoryHeap of the Rust. The heap is lent as its whole slice, and beside it how many of its bytes
-// are used, which is the heap length: those past them are free. The rules stand in rules/specs/Append.antt.
+// are used, which is the heap length: those past them are free. So the C interface has it: include/florinwick.h lends a whole heap and how
+// much of it is used. The rules stand in rules/specs/Append.antt.
 #![tactic(auto)]
 
 ghost use Rattle.std.specs.Prelude.{◌≡◌, ◌+◌, ◌≤◌, length};
@@ -11,12 +12,12 @@ use answer::{Refusal, Stored};
 use datom::Value;
 
 // The tags of a value that names a constant, 01 and 11 in its two highest bits. The offset has the 62 bits below them.
-const INTEGER: u64 = 0x4000_0000_0000_0000;
+const INTEGER: u64 = Value::TAG_EXTERNAL;
 
-const BYTES: u64 = 0xc000_0000_0000_0000;
+const BYTES: u64 = Value::TAG_MASK;
 
 // The first offset that does not fit below a tag.
-const OFFSETS: u64 = 0x4000_0000_0000_0000;
+const OFFSETS: u64 = Value::TAG_EXTERNAL;
 
 // Refusal 12, for a word and n bytes behind it. What is free is rounded down where n would be rounded up, since that might not fit a word.
 fn is_full(heap: &[u8], used: u64, n: usize) -> bool
@@ -45,7 +46,8 @@ fn put_constant(free: &mut [u8], word: u64, bytes: &[u8])
 }
 
 // A constant of a word and the bytes behind it goes to the heap length, or the append is refused. `inline` says that its content has an
-// inline form, so that it belongs on no heap.
+// inline form, so that it belongs on no heap. That and the tag stand beside one another, being arguments of
+// `rules/specs/Append.append_constant`, which the contract names.
 fn append_constant(
     heap: &mut [u8],
     used: u64,

@@ -10,7 +10,7 @@ pub fn florinwick_append_u64(heap: &mut [u8], used: u64, value: u64, area: &mut 
     ensures { HeapReplied result area.old area.new heap.old heap.new used (append_word heap.old used value) }
 {
     let Some(area) = area.as_mut_array() else {
-        return 1;
+        return words::NO_AREA;
     };
     let a = append::append_u64(heap, used, value);
     words::tell_append(area, a)
@@ -21,7 +21,7 @@ pub fn florinwick_append_bytes(heap: &mut [u8], used: u64, bytes: &[u8], area: &
     ensures { HeapReplied result area.old area.new heap.old heap.new used (append_text heap.old used bytes.now) }
 {
     let Some(area) = area.as_mut_array() else {
-        return 1;
+        return words::NO_AREA;
     };
     let a = append::append_bytes(heap, used, bytes);
     words::tell_append(area, a)

@@ -23,9 +23,6 @@ ghost use Rattle.florinwick.specs.Words.{Replied, AreaReplied, need_of};
 use answer::Flaw;
 use store::PageId;
 
-// The number of a check that finds a fault.
-const UNSOUND: u64 = 33;
-
 // Inserts a batch at a root, which is 2^64-1 for none.
 pub fn florinwick_insert(
     store: &mut [u8],
@@ -39,7 +36,7 @@ pub fn florinwick_insert(
     ensures { Replied result store.new area.new (insert_reply (record_in recorded.now) store.old heap.now (length scratch.old) (page root) batch.now area.old) }
 {
     let Some(area) = area.as_mut_array() else {
-        return 1;
+        return words::NO_AREA;
     };
     let stored = recorded::record_in(recorded);
     let a = entry::insert(store, stored, PageId(root), batch, scratch, heap);
@@ -58,7 +55,7 @@ pub fn florinwick_initialise(
     ensures { Replied result store.new area.new (initialise_reply (record_in recorded.now) store.old heap.now (length scratch.old) batch.now area.old) }
 {
     let Some(area) = area.as_mut_array() else {
-        return 1;
+        return words::NO_AREA;
     };
     let stored = recorded::record_in(recorded);
     let a = entry::initialise(store, stored, batch, scratch, heap);
@@ -81,7 +78,7 @@ pub fn florinwick_fetch(store: &[u8], recorded: &[u8], id: u64, area: &mut [u8])
     ensures { AreaReplied result area.old area.new (fetch_words (fetch_answer (extent_of (record_in recorded.now)) store.now (page id))) }
 {
     let Some(area) = area.as_mut_array() else {
-        return 1;
+        return words::NO_AREA;
     };
     let stored = recorded::record_in(recorded);
     match memory_store::fetch_refusal(store, stored.extent(), PageId(id)) {
@@ -101,14 +98,14 @@ pub fn florinwick_check(
     ensures { AreaReplied result area.old area.new (check_words (page root) (check_call (record_in recorded.now) store.now heap.now (page root))) }
 {
     let Some(area) = area.as_mut_array() else {
-        return 1;
+        return words::NO_AREA;
     };
     let stored = recorded::record_in(recorded);
     match invariants::check(store, stored, PageId(root), heap) {
         Ok(()) => words::plain(area, 0),
         Err(Flaw::Unsound(page, fault)) => {
-            words::put_words(area, UNSOUND, 0, fault.number(), page.0);
-            UNSOUND
+            words::put_words(area, words::UNSOUND, 0, fault.number(), page.0);
+            words::UNSOUND
         }
         Err(Flaw::Refused(refusal)) => words::refuse(area, root, refusal),
     }
@@ -126,7 +123,7 @@ pub fn florinwick_held(
     ensures { AreaReplied result area.old area.new (held_words (page root) (held_call (record_in recorded.now) store.now heap.now (page root) batch.now)) }
 {
     let Some(area) = area.as_mut_array() else {
-        return 1;
+        return words::NO_AREA;
     };
     let stored = recorded::record_in(recorded);
     match held::held(store, stored, PageId(root), batch, heap) {

@@ -84,7 +84,7 @@ pub fn florinwick_list_start(
     ensures { Begins result area.old area.new cursor.old cursor.new (page root) (start_in (record_in recorded.now) store.now heap.now (page root) lower.now upper.now cursor.old) }
 {
     let Some(area) = area.as_mut_array() else {
-        return 1;
+        return words::NO_AREA;
     };
     let Some(cursor) = cursor.as_mut_array() else {
         return words::refuse(area, root, Refusal::BadStore);
@@ -117,7 +117,7 @@ fn keep_step(
             );
             words::plain(area, 0)
         }
-        Ok(None) => words::plain(area, 32),
+        Ok(None) => words::plain(area, words::ENDED),
         Err(refusal) => words::refuse_named(area, 0, refusal),
     }
 }
@@ -134,7 +134,7 @@ pub fn florinwick_list_step(
     ensures { Steps result area.old area.new cursor.old cursor.new datom.old datom.new (step_in (record_in recorded.now) store.now heap.now cursor.old datom.old) }
 {
     let Some(area) = area.as_mut_array() else {
-        return 1;
+        return words::NO_AREA;
     };
     let Some(cursor) = cursor.as_mut_array() else {
         return words::refuse(area, 0, Refusal::BadStore);

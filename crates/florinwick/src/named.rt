@@ -21,7 +21,7 @@ pub fn florinwick_insert_named(
     ensures { Replied result store.new area.new (insert_named_reply (record_in recorded.now) store.old heap.now (length scratch.old) (page root) batch.now area.old) }
 {
     let Some(area) = area.as_mut_array() else {
-        return 1;
+        return words::NO_AREA;
     };
     let stored = recorded::record_in(recorded);
     let a = entry::insert(store, stored, PageId(root), batch, scratch, heap);

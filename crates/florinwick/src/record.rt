@@ -25,7 +25,7 @@ fn insert_laid(
     ensures { Replied result store.new area.new (insert_reply (record_in recorded.now) store.old heap.now (length scratch.old) (page root) (handed_bytes n scratch.old) area.old) }
 {
     let Some(area) = area.as_mut_array() else {
-        return 1;
+        return words::NO_AREA;
     };
     let stored = recorded::record_in(recorded);
     let a = records::insert_laid(store, stored, PageId(root), n, scratch, heap);

@@ -1,6 +1,6 @@
 // The answer's four words, into the caller's area.
 ghost use Rattle.std.specs.Prelude.{◌≡◌};
-ghost use Rattle.answer.specs.Table.{answer_words, refused_words, named_answer, named_words, append_words, plain};
+ghost use Rattle.answer.specs.Table.{number_of, detail_of, answer_words, refused_words, named_answer, named_words, append_words, plain};
 ghost use Rattle.florinwick.specs.Words.{WordsIn, words};
 
 use answer::{Done, Refusal, Stored};
@@ -8,6 +8,14 @@ use store::PageId;
 
 // How many bytes four words have.
 pub const AREA: usize = 32;
+
+// The numbers of include/florinwick.h beside those of the refusals: the C interface. That of an area which has no room for four words, which
+// is BadStore's too; of a listing's end; of a check that finds a fault.
+pub const NO_AREA: u64 = 1;
+
+pub const ENDED: u64 = 32;
+
+pub const UNSOUND: u64 = 33;
 
 // The four words, into an area of their size.
 pub fn put_words(area: &mut [u8; AREA], number: u64, root: u64, pages: u64, detail: u64)
@@ -27,23 +35,35 @@ pub fn plain(area: &mut [u8; AREA], number: u64) -> u64
     number
 }
 
-// A refusal's number, index or page, and the root that the call was given.
-pub fn refuse(area: &mut [u8; AREA], root: u64, refusal: Refusal) -> u64
-    ensures { (result ≡ (refused_words root refusal).number) × WordsIn (refused_words root refusal) area.new }
+// What a call has done, in two words, with its number 0.
+fn put_done(area: &mut [u8; AREA], root: u64, pages: u64) -> u64
+    ensures { (result ≡ 0) × WordsIn (words 0 root pages 0) area.new }
+{
+    put_words(area, 0, root, pages, 0);
+    0
+}
+
+// A refusal's number, index or page, the root that the call was given, and the word where pages written would stand.
+fn put_refusal(area: &mut [u8; AREA], root: u64, pages: u64, refusal: Refusal) -> u64
+    ensures { (result ≡ number_of refusal) × WordsIn (words (number_of refusal) root pages (detail_of refusal)) area.new }
 {
     let number = refusal.number();
-    put_words(area, number, root, 0, refusal.detail());
+    put_words(area, number, root, pages, refusal.detail());
     number
 }
 
-// The same, with the number of the fault that it names. `refuse` and `tell` have twins for that and no parameter: docs/TRACE.md names each of
-// the four with a promise of its own.
+// A refusal and the root that the call was given.
+pub fn refuse(area: &mut [u8; AREA], root: u64, refusal: Refusal) -> u64
+    ensures { (result ≡ (refused_words root refusal).number) × WordsIn (refused_words root refusal) area.new }
+{
+    put_refusal(area, root, 0, refusal)
+}
+
+// The same, with the number of the fault that it names.
 pub fn refuse_named(area: &mut [u8; AREA], root: u64, refusal: Refusal) -> u64
     ensures { (result ≡ (named_words root refusal).number) × WordsIn (named_words root refusal) area.new }
 {
-    let number = refusal.number();
-    put_words(area, number, root, refusal.fault(), refusal.detail());
-    number
+    put_refusal(area, root, refusal.fault(), refusal)
 }
 
 // An answer goes to the area, and its number back to the caller. A refused call's root is the one it was given.
@@ -51,10 +71,7 @@ pub fn tell(area: &mut [u8; AREA], root: PageId, a: Result<Done, Refusal>) -> u6
     ensures { (result ≡ (answer_words root a).number) × WordsIn (answer_words root a) area.new }
 {
     match a {
-        Ok(done) => {
-            put_words(area, 0, done.root.0, done.pages, 0);
-            0
-        }
+        Ok(done) => put_done(area, done.root.0, done.pages),
         Err(refusal) => refuse(area, root.0, refusal),
     }
 }
@@ -64,10 +81,7 @@ pub fn tell_named(area: &mut [u8; AREA], root: PageId, a: Result<Done, Refusal>)
     ensures { (result ≡ (named_answer root a).number) × WordsIn (named_answer root a) area.new }
 {
     match a {
-        Ok(done) => {
-            put_words(area, 0, done.root.0, done.pages, 0);
-            0
-        }
+        Ok(done) => put_done(area, done.root.0, done.pages),
         Err(refusal) => refuse_named(area, root.0, refusal),
     }
 }
@@ -77,10 +91,7 @@ pub fn tell_append(area: &mut [u8; AREA], a: Result<Stored, Refusal>) -> u64
     ensures { (result ≡ (append_words a).number) × WordsIn (append_words a) area.new }
 {
     match a {
-        Ok(stored) => {
-            put_words(area, 0, stored.value.0, stored.bytes, 0);
-            0
-        }
+        Ok(stored) => put_done(area, stored.value.0, stored.bytes),
         Err(refusal) => refuse(area, 0, refusal),
     }
 }

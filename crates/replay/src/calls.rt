@@ -6,14 +6,12 @@ use crate::lent::{Answer, Cursor, Lent};
 use crate::record::Record;
 use crate::tally::{Place, Tally};
 use crate::{lent, names, record};
+use florinwick::words;
 use index::Index;
 use store::StoreRecord;
 
 // Both oracles gave the answer.
 const BOTH: u64 = 3;
-
-// The number of a check that finds a fault.
-const UNSOUND: u64 = 33;
 
 // Bytes go into an area from byte `at` on, if it has room for them; whether it has.
 fn put(area: &mut [u8], at: u64, bytes: &[u8]) -> bool {
@@ -126,7 +124,7 @@ impl Session<'_> {
                 .tally
                 .settle(answer.number() == 0 && is_page, Place::Sound),
             fault => self.tally.settle(
-                answer.number() == UNSOUND && fault == 1 && is_page,
+                answer.number() == words::UNSOUND && fault == 1 && is_page,
                 Place::Unsound,
             ),
         }

@@ -2,6 +2,7 @@
 ghost use Rattle.std.specs.Prelude.{◌≤◌};
 
 use crate::record;
+use florinwick::words;
 use store::StoreRecord;
 
 // The store: the largest is the tree of three levels, 619 pages of 8192 bytes.
@@ -185,12 +186,12 @@ impl<'a> Lent<'a> {
         Answer(area)
     }
 
-    // The next datom of a listing, none at its end, or the number of a refusal.
+    // The next datom of a listing, none at its end, or the number of a refusal, by the numbers of the C interface.
     pub fn next_datom(&self, cursor: &mut Cursor) -> Result<Option<[u8; 32]>, u64> {
         let mut datom = [0u8; 32];
         match self.step(cursor, &mut datom).number() {
             0 => Ok(Some(datom)),
-            32 => Ok(None),
+            words::ENDED => Ok(None),
             number => Err(number),
         }
     }

@@ -64,8 +64,5 @@ fn answer(lent: &mut Lent, recorded: Record) -> Option<Answer> {
 
 // Whether a call answers with the recorded words.
 pub fn is_answered(lent: &mut Lent, recorded: Record) -> bool {
-    match answer(lent, recorded) {
-        Some(told) => told.0.as_slice() == recorded.part(24, 32),
-        None => false,
-    }
+    answer(lent, recorded).is_some_and(|told| told.0.as_slice() == recorded.part(24, 32))
 }

@@ -8,7 +8,7 @@ use std::io;
 
 const SIZE: u64 = 8192;
 
-// A tree of d(0), d(1), ..: its root, and whether every batch went in.
+// A tree of d(0), d(1), ..: its root, and beside it whether every batch went in, since a tree that is not whole is told of too.
 #[derive(Clone, Copy)]
 struct Tree {
     root: u64,

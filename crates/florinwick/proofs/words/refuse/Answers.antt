@@ -2,5 +2,4 @@
 use Rattle.florinwick.proofs.words.refuse.Goals as goal
 
 pub returns : goal.returns
-returns c =
-    (c.number-number.ensures, rw (c.number-number.ensures, c.detail.ensures) at c.put_words.ensures)
+returns c = c.put_refusal.ensures

@@ -2,5 +2,4 @@
 use Rattle.florinwick.proofs.words.refuse_named.Goals as goal
 
 pub returns : goal.returns
-returns c =
-    (c.number-number.ensures, rw (c.number-number.ensures, c.fault.ensures, c.detail.ensures) at c.put_words.ensures)
+returns c = rw c.fault.ensures at c.put_refusal.ensures

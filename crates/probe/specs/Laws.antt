@@ -1,5 +1,5 @@
 -- The ways through a look at bytes, and what is known of a readable page.
-use Rattle.std.specs.Prelude.{ℕ, zero, suc, ◌+◌, ◌*◌, ◌≤◌, ◌<◌, Bool, true, false, List, [], ◌∷◌, ◌≡◌, refl, eqb, length, drop, get_or, Result, Ok, Err}
+use Rattle.std.specs.Prelude.{ℕ, zero, suc, ◌+◌, ◌*◌, ◌≤◌, ◌<◌, Bool, true, false, List, [], ◌∷◌, ◌≡◌, refl, eqb, length, drop, get_or, Result, Ok, Err, Option, Some, None}
 use Rattle.std.proofs.Common.{add-zero, mul-zero, arith, sym, ◌∙◌}
 use Rattle.std.proofs.Math.Path.{ap}
 use borrow.Author.Tests.{eqb-false, eq-eqb, ne_eqb}
@@ -30,12 +30,12 @@ look_fits s c e some = omega (arith, (known_size (length s) (λ z. some (e ∙ z
 
 -- one law for each answer of a look
 module _ (t : DatomOrd) (s : List ℕ) (id c : ℕ) (e : c ≡ capacity (length s)) where
-  pub look_none : c ≡ 0 → shown s (Err nothing) ≡ seen t s id
+  pub look_none : c ≡ 0 → shown s (Err None) ≡ seen t s id
   unfolding shown seen
   look_none z = rw (eq-eqb (capacity (length s)) 0 (sym e ∙ z))
 
   module _ (some : c ≡ 0 → ⊥) where
-    pub look_broken : (r : Rule) → said c s (Err r) ≡ read_page t c (page id) s → shown s (Err (rule_number r)) ≡ seen t s id
+    pub look_broken : (r : Rule) → said c s (Err r) ≡ read_page t c (page id) s → shown s (Err (Some r)) ≡ seen t s id
     unfolding shown seen said
     look_broken r q = rw (ne_eqb (capacity (length s)) 0 (λ z. some (e ∙ z)), ← e, ← q)
 
@@ -76,8 +76,8 @@ held t s id h e = side (eqb (capacity (length s)) 0) refl (read_page t (capacity
         }
 
 -- from what a look showed to what an entry answers
-module _ (t : DatomOrd) (s : List ℕ) (id : ℕ) {v : Result Header ℕ} where
-  pub of_unread : (f : Node → ℕ) {n : ℕ} → v ≡ Err n → shown s v ≡ seen t s id → nothing ≡ of_node f (seen t s id)
+module _ (t : DatomOrd) (s : List ℕ) (id : ℕ) {v : Result Header (Option Rule)} where
+  pub of_unread : (f : Node → ℕ) {n : Option Rule} → v ≡ Err n → shown s v ≡ seen t s id → nothing ≡ of_node f (seen t s id)
   unfolding shown
   of_unread f e q = ap (of_node f) (ap (shown s) (sym e) ∙ q)
 
@@ -131,8 +131,8 @@ module _ (f : Datom → ℕ) (b : List ℕ) where
   of_others e = rw (ne_eqb (length b) 32 e)
 
 -- a page written anew
-module _ (t : DatomOrd) (s free : List ℕ) (id : ℕ) {v : Result Header ℕ} where
-  pub not_written : {n : ℕ} → v ≡ Err n → shown s v ≡ seen t s id → (0 ≡ wrote_of s free (seen t s id)) × (free ≡ rewritten s free (seen t s id))
+module _ (t : DatomOrd) (s free : List ℕ) (id : ℕ) {v : Result Header (Option Rule)} where
+  pub not_written : {n : Option Rule} → v ≡ Err n → shown s v ≡ seen t s id → (0 ≡ wrote_of s free (seen t s id)) × (free ≡ rewritten s free (seen t s id))
   unfolding shown wrote_of rewritten
   not_written e q = let z = ap (shown s) (sym e) ∙ q in (ap (wrote_of s free) z, ap (rewritten s free) z)
 

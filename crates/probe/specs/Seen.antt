@@ -10,6 +10,7 @@ use Rattle.std.specs.Prelude.{Option, Some, None}
 use Rattle.std.specs.declared.cmp.Ordering.{Ordering}
 use Rattle.std.specs.declared.cmp.Ordering.TheVariants.{Less, Equal, Greater}
 use Rattle.index.specs.Order.{DatomOrd, named}
+use Rattle.answer.specs.declared.Rule.{Rule}
 use Rattle.answer.specs.Names.{rule_number}
 use Rattle.rules.specs.Page.{Node, Read, broken, good, node_of, encode_page, read_page}
 use Rattle.rules.specs.Node.{rank, next_midpoint}
@@ -37,9 +38,14 @@ of_read (good n) = holds n
 unfoldable pub seen : DatomOrd → List ℕ → ℕ → Seen
 seen t s id = cond (eqb (capacity (length s)) 0) (unread nothing) (of_read (read_page t (capacity (length s)) (page id) s))
 
+-- the number of a broken rule, or of bytes that no page has so many of
+abbrev pub unread_number : Option Rule → ℕ
+unread_number (Some r) = rule_number r
+unread_number None = nothing
+
 -- the code's answer
-unfoldable pub shown : List ℕ → Result Header ℕ → Seen
-shown s (Err n) = unread n
+unfoldable pub shown : List ℕ → Result Header (Option Rule) → Seen
+shown s (Err r) = unread (unread_number r)
 shown s (Ok h) = holds (node_of (capacity (length s)) h.level h.count s)
 
 abbrev pub rule_of : Seen → ℕ

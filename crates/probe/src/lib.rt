@@ -8,6 +8,7 @@ ghost use Rattle.answer.specs.Table.{fetch_words};
 ghost use Rattle.rules.specs.Store.{fetch_answer};
 ghost use Rattle.probe.specs.Seen.{nothing, in_good_order, seen, shown, rule_of, level_of, count_of, word_of, child_of, next_of, first_of, order_of, wrote_of, rewritten};
 
+use answer::Rule;
 use index::Index;
 use memory_store::reader::Header;
 use std::cmp::Ordering;
@@ -16,22 +17,23 @@ use store::{Extent, PageId};
 // Where there is nothing to say: an entry for C answers with one word.
 const NOTHING: u64 = 0xffff_ffff_ffff_ffff;
 
-// The header of bytes that are a readable page, or the number of the first broken rule.
-fn look_at(bytes: &[u8], id: u64, by: Index, heap: &[u8]) -> Result<Header, u64>
+// The header of bytes that are a readable page, or the first broken rule: none where no page has that many bytes.
+fn look_at(bytes: &[u8], id: u64, by: Index, heap: &[u8]) -> Result<Header, Option<Rule>>
     ensures { shown bytes.now result ≡ seen (order_in by heap.now) bytes.now id }
 {
     let c = store::capacity_of(bytes.len() as u64);
     if c == 0 {
-        return Err(NOTHING);
+        return Err(None);
     }
-    memory_store::reader::read_page(bytes, c, PageId(id), by, heap).map_err(|rule| rule.number())
+    memory_store::reader::read_page(bytes, c, PageId(id), by, heap).map_err(Some)
 }
 
 fn rule_in(bytes: &[u8], id: u64, by: Index, heap: &[u8]) -> u64
     ensures { result ≡ rule_of (seen (order_in by heap.now) bytes.now id) }
 {
     match look_at(bytes, id, by, heap) {
-        Err(rule) => rule,
+        Err(Some(rule)) => rule.number(),
+        Err(None) => NOTHING,
         Ok(_) => 0,
     }
 }
@@ -134,10 +136,9 @@ fn in_order(a: &[u8], b: &[u8], by: Index, heap: &[u8]) -> u64
 pub fn probe_fetch(store: &[u8], size: u64, count: u64, page: u64) -> u64
     ensures { result ≡ (fetch_words (fetch_answer (record { size = size; count = count }) store.now (record { 0 = page }))).number }
 {
-    match memory_store::fetch_refusal(store, Extent { size, count }, PageId(page)) {
-        Ok(()) => 0,
-        Err(refusal) => refusal.number(),
-    }
+    memory_store::fetch_refusal(store, Extent { size, count }, PageId(page))
+        .err()
+        .map_or(0, |refusal| refusal.number())
 }
 
 fn write_in(bytes: &[u8], id: u64, free: &mut [u8], by: Index, heap: &[u8]) -> u64

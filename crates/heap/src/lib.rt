@@ -5,13 +5,14 @@
 ghost use Rattle.std.specs.Prelude.{◌≡◌, ◌+◌, ◌≤◌, false, length, take};
 ghost use Rattle.heap.specs.Constant.{bad_heap, word_there, bytes_there, integer_at, bytes_at, valid_int, padded, valid_str};
 
-// Integers below this one have an inline form.
+// Integers below this one have an inline form. It is `datom::Value::TAG_EXTERNAL` too, of a crate above this one.
 pub const LEAST_INTEGER: u64 = 0x4000_0000_0000_0000;
 
 // Byte strings shorter than this have one.
 pub const LEAST_LENGTH: u64 = 8;
 
-// Whether so many used bytes of a heap's slice are more than it has, or no whole words.
+// Whether so many used bytes of a heap's slice are more than it has, or no whole words. The number is beside the slice for the C interface:
+// include/florinwick.h lends a whole heap and how much of it is used.
 pub fn is_bad(heap: &[u8], used: u64) -> bool
     ensures { result ≡ bad_heap used heap.now }
 {

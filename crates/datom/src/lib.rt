@@ -262,11 +262,8 @@ fn joined(bytes: &[u8]) -> u64
     ensures { result ≡ little bytes.now }
 {
     let mut word = 0;
-    let mut i = bytes.len();
-    while 0 < i {
-        i -= 1;
-        let byte = bytes[i] as u64;
-        word = byte + 256 * word;
+    for i in (0..bytes.len()).rev() {
+        word = u64::from(bytes[i]) + 256 * word;
     }
     word
 }

@@ -75,6 +75,7 @@ fn order_of_bytes(a: &[u8], b: &[u8]) -> Ordering
 {
     let end = a.len().min(b.len());
     let mut i = 0;
+    // No count over a range: eight at a time, as long as both have eight.
     while 8 <= end - i {
         let x = store::word(a, i).swap_bytes();
         let y = store::word(b, i).swap_bytes();

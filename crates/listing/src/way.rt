@@ -9,8 +9,8 @@ use store::PageId;
 // Document 01: "a height of at most 8", so an end has a place for each level below it.
 pub const LEVELS: usize = 8;
 
-// Two arrays beside each other, as a cursor has them, whose shape C knows: an array of pairs would be taken apart and put together again at
-// each step.
+// Two arrays beside each other, as a cursor has them, whose form document 01 gives and whose bytes C keeps in that order: an array of pairs would be
+// taken apart and put together again at each step.
 #[derive(Clone, Copy)]
 pub struct Way {
     pub indices: [u64; LEVELS],

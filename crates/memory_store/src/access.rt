@@ -44,8 +44,7 @@ pub fn next_midpoint(s: &[u8], m: usize, n: usize, from: usize) -> Option<PageId
         .find(|child| !child.is_none())
 }
 
-// The index of the first of k rising datoms that is not below d, by halving. By hand, since `partition_point` is a method of a slice of
-// datoms, and these are bytes.
+// The index of the first of k rising datoms that is not below d, by halving.
 pub fn first_not_below(s: &[u8], k: usize, d: Datom, order: Order) -> usize
     requires { (32 * k ≤ length s.now) × (rising (ord order).cmp (datoms_of k s.now) ≡ true) }
     ensures { result ≡ rank (ord order.entry).cmp d (datoms_of k s.now) }

@@ -4,7 +4,7 @@ use native.Mathlib.Omega.{arith}
 use mathlib.Core.Path.{◌∙◌, ap}
 use Rattle.datom.specs.declared.Datom.{Datom}
 use Rattle.datom.specs.Datom.{datoms_of}
-use Rattle.index.specs.Order.{order_in}
+use Rattle.index.specs.Order.{ord}
 use Rattle.rules.specs.Page.{node_of}
 use Rattle.rules.specs.Node.{rank}
 use Rattle.probe.specs.Seen.{of_datom}
@@ -18,7 +18,7 @@ pub returns-then-sought-ne32 : goal.returns-then-sought-ne32
 unfolding node_of
 returns-then-sought-ne32 c =
     let a = c.args in
-    of_others _ _ c.if-sought-ne32.true ∙ of_good _ _ _ c.in-Ok.is c.look_at.ensures (λ n. of_datom (λ d. rank (order_in a.by a.heap.now).cmp d n.datoms) a.sought.now)
+    of_others _ _ c.if-sought-ne32.true ∙ of_good _ _ _ c.in-Ok.is c.look_at.ensures (λ n. of_datom (λ d. rank (ord a.order).cmp d n.datoms) a.sought.now)
 
 pub first_not_below-requires : goal.first_not_below-requires
 first_not_below-requires c =
@@ -29,8 +29,8 @@ pub returns : goal.returns
 unfolding node_of
 returns c =
     let a = c.args in
-    let place : Datom → ℕ = λ d. rank (order_in a.by a.heap.now).cmp d (datoms_of c.in-Ok.header.count a.bytes.now) in
+    let place : Datom → ℕ = λ d. rank (ord a.order).cmp d (datoms_of c.in-Ok.header.count a.bytes.now) in
     c.first_not_below.ensures
     ∙ (ap place c.datom_at.ensures
     ∙ (of_datom_law place a.sought.now c.if-sought-ne32.false
-    ∙ of_good _ _ _ c.in-Ok.is c.look_at.ensures (λ n. of_datom (λ d. rank (order_in a.by a.heap.now).cmp d n.datoms) a.sought.now)))
+    ∙ of_good _ _ _ c.in-Ok.is c.look_at.ensures (λ n. of_datom (λ d. rank (ord a.order).cmp d n.datoms) a.sought.now)))

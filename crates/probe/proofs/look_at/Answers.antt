@@ -1,7 +1,7 @@
 -- `look_at` meets its contract. Assumes nothing.
 use Rattle.std.specs.Prelude.{◌≡◌, ◌⊎◌, Ok, Err, Some}
 use Rattle.std.proofs.Common.{sym, ◌∙◌, ap, inl, inr, rules}
-use Rattle.index.specs.Order.{order_in}
+use Rattle.index.specs.Order.{ord}
 use Rattle.answer.specs.declared.Rule.{Rule}
 use Rattle.memory_store.specs.declared.reader.Header.{Header}
 use Rattle.memory_store.specs.Reading.{said}
@@ -17,7 +17,7 @@ read_page-requires c = look_fits c.args.bytes.now _ c.capacity_of-c.ensures c.if
 pub returns : goal.returns
 returns c =
     let a = c.args in
-    let t = order_in a.by a.heap.now in
+    let t = ord a.order in
     let ways : ((h : Header) × ((c.read_page.result ≡ Ok h) × (c.map_err.result ≡ Ok h))) ⊎ ((r : Rule) × ((c.read_page.result ≡ Err r) × (c.map_err.result ≡ Err (Some r)))) = search rules in
     elim ways [
       | inl w ↦ rw w.1.1 (look_good t a.bytes.now a.id _ c.capacity_of-c.ensures c.if-c-eq0.false w.0 (ap (said _ a.bytes.now) (sym w.1.0) ∙ c.read_page.ensures))

@@ -1,7 +1,7 @@
 -- `write_in` meets its contract. Assumes nothing.
 use native.Mathlib.Omega.{arith}
 use mathlib.Core.Path.{◌∙◌}
-use Rattle.index.specs.Order.{order_in}
+use Rattle.index.specs.Order.{ord}
 use Rattle.probe.specs.Laws.{good_held, not_written, no_place, written}
 use Rattle.probe.proofs.write_in.Goals as goal
 
@@ -20,5 +20,5 @@ write_page-requires c =
 pub returns : goal.returns
 returns c =
     let a = c.args in
-    let w = written (order_in a.by a.heap.now) a.bytes.now a.free.now a.id c.in-Ok.is c.look_at.ensures (omega arith) in
+    let w = written (ord a.order) a.bytes.now a.free.now a.id c.in-Ok.is c.look_at.ensures (omega arith) in
     (w.0, c.write_page.ensures ∙ (rw c.capacity_of-c.ensures w.1))

@@ -9,8 +9,8 @@ use store::PageId;
 // How many bytes four words have.
 pub const AREA: usize = 32;
 
-// The numbers of include/florinwick.h beside those of the refusals: the C interface. That of an area which has no room for four words, which
-// is BadStore's too; of a listing's end; of a check that finds a fault.
+// The numbers of include/florinwick.h beside those of the refusals: the C interface. That of an area which has another length than four words,
+// which is BadStore's too; of a listing's end; of a check that finds a fault.
 pub const NO_AREA: u64 = 1;
 
 pub const ENDED: u64 = 32;

@@ -11,7 +11,7 @@ use Rattle.std.specs.declared.cmp.Ordering.TheVariants.{Less, Greater}
 use Rattle.index.specs.Order.{and_then, cmp_bytes, named}
 use Rattle.index.specs.Key.{turned, swapped}
 use Rattle.index.specs.Keys.{power}
-use Rattle.index.specs.Compare.{cmp_lt, cmp_gt, cmp_eq, cmp_same, digit}
+use Rattle.index.specs.Compare.{cmp_lt, cmp_gt, cmp_eq, cmp_same, digit, three, below, same, above}
 
 -- the n low bytes of a number as the digits of another, the lowest of them highest
 turn : ℕ → ℕ → ℕ
@@ -74,6 +74,14 @@ module _ (a b : List ℕ) (i : ℕ) (p : Bytes a) (q : Bytes b) (h : i + 8 ≤ l
   pub words_greater : swapped (word_at b i) < swapped (word_at a i) → Greater ≡ named (cmp_bytes (drop i a) (drop i b))
   unfolding and_then named
   words_greater l = rw by_word (simp (cmp_gt _ _ l))
+
+  pub words_apart : (swapped (word_at a i) ≡ swapped (word_at b i) → ⊥) → named (compare (swapped (word_at a i)) (swapped (word_at b i))) ≡ named (cmp_bytes (drop i a) (drop i b))
+  unfolding named
+  words_apart ne = elim (three (swapped (word_at a i)) (swapped (word_at b i))) [
+    | below h ↦ rw (cmp_lt _ _ h) (words_less h)
+    | same e ↦ absurd (ne e)
+    | above h ↦ rw (cmp_gt _ _ h) (words_greater h)
+  ]
 
   pub words_on : swapped (word_at a i) ≡ swapped (word_at b i) → cmp_bytes (drop (i + 8) a) (drop (i + 8) b) ≡ cmp_bytes (drop i a) (drop i b)
   unfolding and_then

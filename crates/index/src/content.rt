@@ -79,11 +79,8 @@ fn order_of_bytes(a: &[u8], b: &[u8]) -> Ordering
     while 8 <= end - i {
         let x = store::word(a, i).swap_bytes();
         let y = store::word(b, i).swap_bytes();
-        if x < y {
-            return Ordering::Less;
-        }
-        if y < x {
-            return Ordering::Greater;
+        if x != y {
+            return x.cmp(&y);
         }
         i += 8;
     }
@@ -193,7 +190,7 @@ fn texts_rise(a: Value, b: Value, heap: &[u8]) -> bool
 }
 
 // Whether value, entity, last word of a datom are below those of another: what is left of every order behind its first words. Where long
-// texts rise, as they do all along a page, their first bytes tell.
+// texts rise, as they do all along a page, their first bytes tell. It takes words, as `order_of_behind` does.
 pub fn is_below_behind(a: Value, b: Value, x: u64, y: u64, s: u64, t: u64, heap: &[u8]) -> bool
     ensures { result ≡ is_less (and_then (cmp_value heap.now a b) (and_then (compare x y) (compare s t))) }
 {

@@ -49,8 +49,8 @@ pub fn index_of(number: u64) -> Option<Index>
     }
 }
 
-// Where the first two words that an order goes by stand in a datom's bytes: two functions of a row
-// for each order, as `index/specs/Parts` has `first` and `second`: of a number for which word, a caller would have to say that it is one of two.
+// Where the first two words that an order goes by stand in a datom's bytes. Two functions and not one that is told which word: it would be told by a
+// number, of which there are two.
 pub fn first_place(by: Index) -> usize
     ensures { result ≡ place_of (first by) }
 {

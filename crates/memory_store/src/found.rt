@@ -1,4 +1,4 @@
-// A page as it is read during a call, by the parts of `Pages` one by one.
+// A page as it is read during a call, by the parts of `Pages` one by one: for an insert, which writes to the store that it reads.
 ghost use Rattle.std.specs.Prelude.{◌≡◌, false};
 ghost use Rattle.store.specs.Size.{capacity};
 ghost use Rattle.index.specs.Order.{ord};

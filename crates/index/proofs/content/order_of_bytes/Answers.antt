@@ -1,9 +1,11 @@
 -- `content::order_of_bytes` meets its contract: the rests compare as the whole does. Assumes nothing.
 use native.Mathlib.Omega.{arith}
-use mathlib.Core.Path.{refl, ◌∙◌, ap}
+use mathlib.Core.Path.{◌≡◌, refl, sym, ◌∙◌, ap}
 use Rattle.index.specs.Order.{named}
 use Rattle.index.specs.Key.{swapped}
-use Rattle.index.specs.Eight.{words_less, words_greater, words_on, swap_is}
+use Rattle.store.specs.Words.{word_at}
+use Rattle.index.specs.Named.{numbers_named}
+use Rattle.index.specs.Eight.{words_apart, words_on, swap_is}
 use Rattle.index.proofs.content.order_of_bytes.Goals as goal
 
 pub loop-i-init : goal.loop-i-init
@@ -19,18 +21,12 @@ pub returns-then-x-y : goal.returns-then-x-y
 returns-then-x-y c =
     let a = c.args in
     let l = c.loop-i in
-    words_less a.a.now a.b.now l.i (λ i. (c.shared_slice_known-1.given i).fits) (λ i. (c.shared_slice_known-2-1.given i).fits)
-    (omega arith) (omega arith)
-    (omega (arith, c.swap_bytes-x.ensures ∙ swap_is c.word.result (omega arith) ∙ ap swapped c.word.ensures, c.swap_bytes-y.ensures ∙ swap_is c.word-in-loop-i.result (omega arith) ∙ ap swapped c.word-in-loop-i.ensures, c.if-x-y.true))
-    ∙ ap named l.invariant.1
-
-pub returns-then-y-x : goal.returns-then-y-x
-returns-then-y-x c =
-    let a = c.args in
-    let l = c.loop-i in
-    words_greater a.a.now a.b.now l.i (λ i. (c.shared_slice_known-1.given i).fits) (λ i. (c.shared_slice_known-2-1.given i).fits)
-    (omega arith) (omega arith)
-    (omega (arith, c.swap_bytes-x.ensures ∙ swap_is c.word.result (omega arith) ∙ ap swapped c.word.ensures, c.swap_bytes-y.ensures ∙ swap_is c.word-in-loop-i.result (omega arith) ∙ ap swapped c.word-in-loop-i.ensures, c.if-y-x.true))
+    let x : c.swap_bytes-x.result ≡ swapped (word_at a.a.now l.i) = c.swap_bytes-x.ensures ∙ swap_is c.word.result (omega arith) ∙ ap swapped c.word.ensures in
+    let y : c.swap_bytes-y.result ≡ swapped (word_at a.b.now l.i) = c.swap_bytes-y.ensures ∙ swap_is c.word-in-loop-i.result (omega arith) ∙ ap swapped c.word-in-loop-i.ensures in
+    c.cmp.ensures ∙ numbers_named c.swap_bytes-x.result c.swap_bytes-y.result
+    ∙ rw (x, y)
+    (words_apart a.a.now a.b.now l.i (λ i. (c.shared_slice_known-1.given i).fits) (λ i. (c.shared_slice_known-2-1.given i).fits)
+    (omega arith) (omega arith) (λ e. c.if-x-y.true (x ∙ e ∙ sym y)))
     ∙ ap named l.invariant.1
 
 pub overflow_add-i : goal.overflow_add-i
@@ -46,7 +42,7 @@ loop-i-preserved c =
       omega arith,
       words_on a.a.now a.b.now l.i (λ i. (c.shared_slice_known-1.given i).fits) (λ i. (c.shared_slice_known-2-1.given i).fits)
           (omega arith) (omega arith)
-          (omega (arith, c.swap_bytes-x.ensures ∙ swap_is c.word.result (omega arith) ∙ ap swapped c.word.ensures, c.swap_bytes-y.ensures ∙ swap_is c.word-in-loop-i.result (omega arith) ∙ ap swapped c.word-in-loop-i.ensures, c.if-x-y.false, c.if-y-x.false))
+          (omega (arith, c.swap_bytes-x.ensures ∙ swap_is c.word.result (omega arith) ∙ ap swapped c.word.ensures, c.swap_bytes-y.ensures ∙ swap_is c.word-in-loop-i.result (omega arith) ∙ ap swapped c.word-in-loop-i.ensures, c.if-x-y.false))
           ∙ l.invariant.1,
     )
 

@@ -34,7 +34,7 @@ fn check_at(
     requires { ReadAs pages.now page level k }
     ensures { verdict_of result ≡ check_at (order_of pages.now).cmp (fetched_from pages.now) level page (bound_of lower) (bound_of upper) (at_level level (fetched_from pages.now page)) }
 {
-    let part = pages.part(page);
+    let part = memory_store::fetch(pages.store, pages.extent, page);
     let mut last = lower;
     let mut midpoint = lower;
     for i in 0..=k {

@@ -133,25 +133,6 @@ fn begun_in(
     start_under(&pages, root, lower, upper)
 }
 
-// As begun_in, in the order that the record names.
-fn begun(
-    store: &[u8],
-    recorded: StoreRecord,
-    root: PageId,
-    lower: Datom,
-    upper: Datom,
-    heap: &[u8],
-) -> Result<Cursor, Refusal>
-    ensures { started_as result ≡ start_call recorded store.now heap.now root lower upper }
-{
-    let extent = recorded.extent();
-    let bad = memory_store::is_bad(store, extent);
-    let by = ordered::order_in(recorded, bad, heap)?;
-    let used = heap::used_of(heap, recorded.heap);
-    let order = Order { by, heap: used };
-    begun_in(store, extent, root, lower, upper, order)
-}
-
 // A cursor to the datoms from the lower bound on and below the upper.
 pub fn start_in(
     store: &[u8],
@@ -177,5 +158,14 @@ pub fn start(
 ) -> Started
     ensures { result ≡ start_call recorded store.now heap.now root lower upper }
 {
-    started(begun(store, recorded, root, lower, upper, heap))
+    let extent = recorded.extent();
+    let bad = memory_store::is_bad(store, extent);
+    match ordered::order_in(recorded, bad, heap) {
+        Err(refusal) => refused(refusal),
+        Ok(by) => {
+            let used = heap::used_of(heap, recorded.heap);
+            let order = Order { by, heap: used };
+            start_in(store, extent, root, lower, upper, order)
+        }
+    }
 }

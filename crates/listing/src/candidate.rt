@@ -55,7 +55,7 @@ fn chosen(
     requires { fetched_from pages.now page ≡ fine (node_in (fetched_from pages.now page)) }
     ensures { result ≡ pick (order_of pages.now) level page (drop index (node_in (fetched_from pages.now page)).datoms) (Ok best) }
 {
-    let part = pages.part(page);
+    let part = memory_store::fetch(pages.store, pages.extent, page);
     if access::count_of(part, pages.capacity) as u64 <= index {
         return Ok(best);
     }

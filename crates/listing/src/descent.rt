@@ -50,7 +50,7 @@ fn place_in(pages: &Pages, seek: Option<Datom>, level: usize, page: PageId) -> R
     ensures { result ≡ placed_of (test_of (order_of pages.now) seek) level (at_level level (fetched_from pages.now page)) }
 {
     let k = pages.open(level, page)?;
-    let part = pages.part(page);
+    let part = memory_store::fetch(pages.store, pages.extent, page);
     let index = index_in(part, k, seek, pages.order);
     let next = next_from(part, level, pages.capacity, k, index);
     Ok(Place { index, next })

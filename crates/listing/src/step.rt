@@ -23,7 +23,7 @@ fn advance(pages: &Pages, level: usize, begin: Way) -> Result<Way, Damage>
 {
     let index = begin.indices[level];
     let page = begin.pages[level];
-    let part = pages.part(page);
+    let part = memory_store::fetch(pages.store, pages.extent, page);
     let count = access::count_of(part, pages.capacity);
     let i = index as usize;
     let mut next = begin;
@@ -109,23 +109,6 @@ fn next_in(
     step_on(&pages, cursor)
 }
 
-// As next_in, in the order that the record names.
-fn next(
-    store: &[u8],
-    recorded: StoreRecord,
-    cursor: Cursor,
-    heap: &[u8],
-) -> Result<Option<Yielded>, Refusal>
-    ensures { stepped_as cursor result ≡ step_call recorded store.now heap.now cursor }
-{
-    let extent = recorded.extent();
-    let bad = memory_store::is_bad(store, extent);
-    let by = ordered::order_in(recorded, bad, heap)?;
-    let used = heap::used_of(heap, recorded.heap);
-    let order = Order { by, heap: used };
-    next_in(store, extent, cursor, order)
-}
-
 // An ended or refused step returns its cursor as it was.
 fn stepped(cursor: Cursor, next: Result<Option<Yielded>, Refusal>) -> Stepped
     ensures { result ≡ stepped_as cursor next }
@@ -149,5 +132,14 @@ pub fn step_in(store: &[u8], extent: Extent, cursor: Cursor, order: Order) -> St
 pub fn step(store: &[u8], recorded: StoreRecord, cursor: Cursor, heap: &[u8]) -> Stepped
     ensures { result ≡ step_call recorded store.now heap.now cursor }
 {
-    stepped(cursor, next(store, recorded, cursor, heap))
+    let extent = recorded.extent();
+    let bad = memory_store::is_bad(store, extent);
+    match ordered::order_in(recorded, bad, heap) {
+        Err(refusal) => stepped(cursor, Err(refusal)),
+        Ok(by) => {
+            let used = heap::used_of(heap, recorded.heap);
+            let order = Order { by, heap: used };
+            step_in(store, extent, cursor, order)
+        }
+    }
 }

@@ -23,7 +23,8 @@ pub fn narrow(gap: Option<Datom>, page: &[u8], k: usize, i: usize, order: Order)
     let Some(high) = gap else {
         return Some(next);
     };
-    if order.cmp(next, high).is_lt() {
+    let is_below = order.cmp(next, high).is_lt();
+    if is_below {
         return Some(next);
     }
     Some(high)

@@ -1,4 +1,4 @@
-// A page as it is read during a call, by the parts of `Pages` one by one: for an insert, which writes to the store that it reads.
+// A page as it is read during a call, by the parts of `Pages` one by one: `Pages` reads by it, and a flush, which writes to the store that it reads.
 ghost use Rattle.std.specs.Prelude.{◌≡◌, false};
 ghost use Rattle.store.specs.Size.{capacity};
 ghost use Rattle.index.specs.Order.{ord};
@@ -7,7 +7,7 @@ ghost use Rattle.rules.specs.Store.{bad_store, fetch_page, env_of};
 ghost use Rattle.memory_store.specs.Reading.{told};
 ghost use Rattle.memory_store.specs.Opened.{opened_of};
 
-use crate::pages::Pages;
+use crate::reader;
 use crate::reader::Header;
 use answer::Fault;
 use index::Order;
@@ -24,14 +24,11 @@ pub fn node_at(
     requires { (bad_store extent store.now ≡ false) × (c ≡ capacity extent.size) }
     ensures { told extent store.now page result ≡ fetch_page (ord order.entry) extent store.now page }
 {
-    let capacity = c;
-    let pages = Pages {
-        store,
-        extent,
-        capacity,
-        order,
-    };
-    pages.header(page)
+    if extent.count <= page.0 {
+        return Err(Fault::Missing);
+    }
+    let part = crate::part_of(store, extent, page);
+    Ok(reader::read_page(part, c, page, order)?)
 }
 
 // How many datoms page `page` has, which is to be of this level.
@@ -46,12 +43,9 @@ pub fn open_at(
     requires { (bad_store extent store.now ≡ false) × (c ≡ capacity extent.size) }
     ensures { result ≡ opened_of (fetch_at (env_of (ord order.entry) extent store.now) level page) }
 {
-    let capacity = c;
-    let pages = Pages {
-        store,
-        extent,
-        capacity,
-        order,
-    };
-    pages.open(level, page)
+    let header = node_at(store, extent, c, page, order)?;
+    if header.level != level {
+        return Err(Fault::WrongLevel);
+    }
+    Ok(header.count)
 }

@@ -3,7 +3,7 @@ ghost use Rattle.std.specs.Prelude.{◌≡◌, ◌^◌, ◌<◌, false};
 ghost use Rattle.store.specs.Size as size;
 ghost use Rattle.rules.specs.Store.{bad_store};
 
-use crate::reader;
+use crate::found;
 use crate::reader::Header;
 use answer::{Fault, Refusal};
 use index::Order;
@@ -65,21 +65,20 @@ impl<'a> Pages<'a> {
     pub fn header(&self, page: PageId) -> Result<Header, Fault>
         ensures { told self.now.extent self.now.store.now page result ≡ fetched_from self.now page }
     {
-        if self.extent.count <= page.0 {
-            return Err(Fault::Missing);
-        }
-        let part = self.part(page);
-        Ok(reader::read_page(part, self.capacity, page, self.order)?)
+        found::node_at(self.store, self.extent, self.capacity, page, self.order)
     }
 
     // How many datoms page `page` has, which is to be of this level.
     pub fn open(&self, level: usize, page: PageId) -> Result<usize, Fault>
         ensures { result ≡ opened_of (fetch_at (read_from self.now) level page) }
     {
-        let header = self.header(page)?;
-        if header.level != level {
-            return Err(Fault::WrongLevel);
-        }
-        Ok(header.count)
+        found::open_at(
+            self.store,
+            self.extent,
+            self.capacity,
+            level,
+            page,
+            self.order,
+        )
     }
 }

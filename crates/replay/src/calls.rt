@@ -179,10 +179,12 @@ impl Session<'_> {
         if recorded.word(1) == BOTH {
             self.tally.add(Place::ByBoth, 1);
         }
-        match index::index_of(self.lent.stored.order) {
-            Some(Index::Aevt) => self.tally.add(Place::InAevt, 1),
-            Some(Index::Avet) => self.tally.add(Place::InAvet, 1),
-            Some(Index::Eavt) | None => {}
+        let by = index::index_of(self.lent.stored.order);
+        if matches!(by, Some(Index::Aevt)) {
+            self.tally.add(Place::InAevt, 1);
+        }
+        if matches!(by, Some(Index::Avet)) {
+            self.tally.add(Place::InAvet, 1);
         }
     }
 

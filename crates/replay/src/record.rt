@@ -1,6 +1,6 @@
 // Reading the recorded answers: a record is its length in bytes and then so many bytes, in words (docs/ORACLE.md, "Format"). What a
 // record does not have reads as 0 or as an empty part, and then differs from what was answered.
-ghost use Rattle.std.specs.Prelude.{◌≤◌};
+ghost use Rattle.std.specs.Prelude.{◌≤◌, length, IfOk, IfSome};
 
 use std::io;
 use std::io::{ErrorKind, Read};
@@ -67,7 +67,9 @@ fn read_full<R: Read>(input: &mut R, buffer: &mut [u8]) -> io::Result<bool> {
 }
 
 // The next record, from the input; none at the end, at a record of no bytes, or where no whole record follows.
-pub fn next<'a, R: Read>(input: &mut R, buffer: &'a mut [u8]) -> io::Result<Option<Record<'a>>> {
+pub fn next<'a, R: Read>(input: &mut R, buffer: &'a mut [u8]) -> io::Result<Option<Record<'a>>>
+    ensures { IfOk result (λ read. IfSome read (λ recorded. length recorded.0.now ≤ length buffer.old)) }
+{
     let mut head = [0u8; 8];
     if !read_full(input, &mut head)? {
         return Ok(None);

@@ -6,7 +6,6 @@ use mathlib.Core.Path.{◌≡◌, refl, ap, ◌∙◌, sym}
 use Rattle.std.specs.Prelude.{ℕ, ◌+◌, Ok, Err}
 use Rattle.answer.specs.declared.Fault.{Fault}
 use Rattle.memory_store.specs.Pages.{order_of}
-use Rattle.memory_store.specs.Readable.{opens}
 use Rattle.memory_store.specs.Opened.{opened_node}
 use Rattle.invariants.specs.Bounds.{bound_of}
 use Rattle.invariants.specs.Walk.{page_faulty}
@@ -15,16 +14,12 @@ use Rattle.invariants.specs.Verdict.{verdict_of}
 use Rattle.invariants.proofs.+check_at.Goals as goal
 use Rattle.invariants.proofs.+check_at.Goals.{Joined-not-is_none, then-not-is_none+in_ok-n+in_ok-check_at, else-not-is_none}
 
-pub part-part-requires : goal.part-part-requires
-part-part-requires t c =
-    let P = c.args.pages.now in (opens (order_of P) P.extent P.store.now c.args.page c.args.level c.args.k P.in_order c.requires).used
-
 pub loop-i-init : goal.loop-i-init
 loop-i-init t c =
     let a = c.args in
     let P = a.pages.now in
     along_start (order_of P) P.extent P.store.now P.capacity a.level a.page a.k _ (bound_of a.lower) (bound_of a.upper) P.in_order P.sized c.requires
-    (c.part-part.ensures ∙ sym (opens (order_of P) P.extent P.store.now a.page a.level a.k P.in_order c.requires).bytes)
+    c.fetch-part.ensures
 
 pub bound_at-next-requires : goal.bound_at-next-requires
 bound_at-next-requires t c = along_datoms c.loop-i.invariant
@@ -71,7 +66,7 @@ returns-in_err-check_at t c =
 -- the walk past index i
 passed :
     (t : ℕ) (c : Joined-not-is_none t) →
-    Along (order_of c.args.pages.now) c.args.pages.now.extent c.args.pages.now.store.now c.args.pages.now.capacity c.args.level c.args.page c.args.k c.part-part.result.now (bound_of c.args.lower)
+    Along (order_of c.args.pages.now) c.args.pages.now.extent c.args.pages.now.store.now c.args.pages.now.capacity c.args.level c.args.page c.args.k c.fetch-part.result.now (bound_of c.args.lower)
     (bound_of c.args.upper) (c.loop-i.i + 1) (bound_of c.bound_at-next.result) (bound_of c.if-not-is_none.midpoint)
 passed t c = elim c.if-not-is_none.branch [
   | then-not-is_none+in_ok-n+in_ok-check_at w ↦

@@ -9,14 +9,6 @@ use Rattle.memory_store.specs.Opened.{opened_node}
 use Rattle.listing.specs.Descent.{place_lost, place_at, test_of}
 use Rattle.listing.proofs.descent.place_in.Goals as goal
 
-pub part-part-requires : goal.part-part-requires
-part-part-requires c =
-    let a = c.args in
-    let p = a.pages.now in
-    let k = c.in_ok-k.k in
-    let e = opened_node (order_of p) p.extent p.store.now a.page a.level k c.in_ok-k.ensures in
-    (opens (order_of p) p.extent p.store.now a.page a.level k p.in_order e).used
-
 pub index_in-index-requires : goal.index_in-index-requires
 index_in-index-requires c =
     let a = c.args in
@@ -24,7 +16,7 @@ index_in-index-requires c =
     let k = c.in_ok-k.k in
     let e = opened_node (order_of p) p.extent p.store.now a.page a.level k c.in_ok-k.ensures in
     let w = opens (order_of p) p.extent p.store.now a.page a.level k p.in_order e in
-    rw (c.part-part.ensures) (omega (arith, w.few, w.wide), w.rise)
+    rw (c.fetch-part.ensures, w.bytes) (omega (arith, w.few, w.wide), w.rise)
 
 pub next_from-next-requires : goal.next_from-next-requires
 next_from-next-requires c =
@@ -33,7 +25,7 @@ next_from-next-requires c =
     let k = c.in_ok-k.k in
     let e = opened_node (order_of p) p.extent p.store.now a.page a.level k c.in_ok-k.ensures in
     let w = opens (order_of p) p.extent p.store.now a.page a.level k p.in_order e in
-    rw (c.part-part.ensures, p.sized) (w.few, omega (arith, w.wide))
+    rw (c.fetch-part.ensures, w.bytes, p.sized) (w.few, omega (arith, w.wide))
 
 pub returns-in_err-k : goal.returns-in_err-k
 returns-in_err-k c =
@@ -49,5 +41,5 @@ returns c =
     let k = c.in_ok-k.k in
     let e = opened_node (order_of p) p.extent p.store.now a.page a.level k c.in_ok-k.ensures in
     let w = opens (order_of p) p.extent p.store.now a.page a.level k p.in_order e in
-    place_at (order_of p) p.extent p.store.now a.page (test_of (order_of p) a.seek) a.level k e _ p.capacity _ _ c.part-part.ensures p.sized
+    place_at (order_of p) p.extent p.store.now a.page (test_of (order_of p) a.seek) a.level k e _ p.capacity _ _ (c.fetch-part.ensures ∙ w.bytes) p.sized
     c.index_in-index.ensures c.next_from-next.ensures

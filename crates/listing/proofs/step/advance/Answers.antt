@@ -9,12 +9,6 @@ use Rattle.memory_store.specs.FetchLaws.{in_order}
 use Rattle.listing.specs.AdvanceLaws.{within_open, within_most, within_children, adv_bottom, adv_pending, adv_child, adv_stuck}
 use Rattle.listing.proofs.step.advance.Goals as goal
 
-pub part-part-requires : goal.part-part-requires
-part-part-requires c =
-    let a = c.args in
-    let p = a.pages.now in
-    (within_open (order_of p) p.extent p.store.now (get_or a.begin.pages a.level (page 0)) _ p.in_order c.requires.1).used
-
 pub count_of-count-requires : goal.count_of-count-requires
 count_of-count-requires c =
     let a = c.args in
@@ -24,7 +18,7 @@ count_of-count-requires c =
     let good = p.in_order in
     let within = c.requires.1 in
     let o = within_open (order_of p) p.extent p.store.now q _ good within in
-    rw (c.part-part.ensures, p.sized) o.wide
+    rw (c.fetch-part.ensures, o.bytes, p.sized) o.wide
 
 pub overflow_add-next : goal.overflow_add-next
 overflow_add-next c =
@@ -53,7 +47,7 @@ is_midpoint_at-requires c =
     let good = p.in_order in
     let within = c.requires.1 in
     let o = within_open (order_of p) p.extent p.store.now q _ good within in
-    rw (c.count_of-count.ensures, c.part-part.ensures, p.sized)
+    rw (c.count_of-count.ensures, c.fetch-part.ensures, o.bytes, p.sized)
     (o.few, (omega (arith, o.wide), within_most (order_of p) p.extent p.store.now q _ good within))
 
 pub returns-then-not-is_midpoint_at : goal.returns-then-not-is_midpoint_at
@@ -66,7 +60,7 @@ returns-then-not-is_midpoint_at c =
     let within = c.requires.1 in
     let o = within_open (order_of p) p.extent p.store.now q _ good within in
     let kids = within_children (order_of p) p.extent p.store.now q _ good within in
-    let mid = rw (c.count_of-count.ensures, c.part-part.ensures, p.sized) at c.is_midpoint_at.ensures in
+    let mid = rw (c.count_of-count.ensures, c.fetch-part.ensures, o.bytes, p.sized) at c.is_midpoint_at.ensures in
     adv_pending (order_of p) p.extent p.store.now b a.level c.if-level-eq0.false (ap (λ ks. is_midpoint ks (get_or b.indices a.level 0)) kids ∙ sym mid ∙ c.if-not-is_midpoint_at.true)
 
 pub overflow_add-i : goal.overflow_add-i
@@ -90,7 +84,7 @@ next_midpoint-requires c =
     let good = p.in_order in
     let within = c.requires.1 in
     let o = within_open (order_of p) p.extent p.store.now q _ good within in
-    rw (c.count_of-count.ensures, c.part-part.ensures, p.sized)
+    rw (c.count_of-count.ensures, c.fetch-part.ensures, o.bytes, p.sized)
     (o.few, omega (arith, o.wide))
 
 pub returns-in_default : goal.returns-in_default
@@ -103,8 +97,8 @@ returns-in_default c =
     let within = c.requires.1 in
     let o = within_open (order_of p) p.extent p.store.now q _ good within in
     let kids = within_children (order_of p) p.extent p.store.now q _ good within in
-    let mid = rw (c.count_of-count.ensures, c.part-part.ensures, p.sized) at c.is_midpoint_at.ensures in
-    let next = rw (c.count_of-count.ensures, c.part-part.ensures, p.sized, ← kids) at c.next_midpoint.ensures in
+    let mid = rw (c.count_of-count.ensures, c.fetch-part.ensures, o.bytes, p.sized) at c.is_midpoint_at.ensures in
+    let next = rw (c.count_of-count.ensures, c.fetch-part.ensures, o.bytes, p.sized, ← kids) at c.next_midpoint.ensures in
     rw c.max.ensures (adv_stuck (order_of p) p.extent p.store.now b a.level c.if-level-eq0.false (ap (λ ks. is_midpoint ks (get_or b.indices a.level 0)) kids ∙ sym mid ∙ c.if-not-is_midpoint_at.false) (omega arith) (sym next ∙ c.in_default.is))
 
 pub returns : goal.returns
@@ -117,7 +111,7 @@ returns c =
     let within = c.requires.1 in
     let o = within_open (order_of p) p.extent p.store.now q _ good within in
     let kids = within_children (order_of p) p.extent p.store.now q _ good within in
-    let mid = rw (c.count_of-count.ensures, c.part-part.ensures, p.sized) at c.is_midpoint_at.ensures in
-    let next = rw (c.count_of-count.ensures, c.part-part.ensures, p.sized, ← kids) at c.next_midpoint.ensures in
+    let mid = rw (c.count_of-count.ensures, c.fetch-part.ensures, o.bytes, p.sized) at c.is_midpoint_at.ensures in
+    let next = rw (c.count_of-count.ensures, c.fetch-part.ensures, o.bytes, p.sized, ← kids) at c.next_midpoint.ensures in
     c.descend.ensures
     ∙ adv_child (order_of p) p.extent p.store.now b a.level c.if-level-eq0.false (ap (λ ks. is_midpoint ks (get_or b.indices a.level 0)) kids ∙ sym mid ∙ c.if-not-is_midpoint_at.false) _ (sym next ∙ c.in-Some.is)

@@ -20,9 +20,9 @@ returns-in_default c =
     let a = c.args in
     rw (datoms_from a.k a.i a.page.now (omega arith), c.in_default.is, c.datom_at-next.ensures)
 
-pub returns-then-is_lt : goal.returns-then-is_lt
+pub returns-then-is_below : goal.returns-then-is_below
 unfolding narrowed
-returns-then-is_lt c =
+returns-then-is_below c =
     let a = c.args in
     let cmp = (ord a.order).cmp in
     let e : is_less (cmp c.datom_at-next.result c.in-Some.high) ≡ true = cc (less_named_law (cmp c.datom_at-next.result c.in-Some.high)) in

@@ -1,0 +1,2 @@
+-- That the promises of `Pages` leave one answer.
+pub mod Once

@@ -35,11 +35,13 @@ fn check_at(
     ensures { verdict_of result ≡ check_at (order_of pages.now).cmp (fetched_from pages.now) level page (bound_of lower) (bound_of upper) (at_level level (fetched_from pages.now page)) }
 {
     let part = memory_store::fetch(pages.store, pages.extent, page);
+    // By itself, so that no turn of the loop looks for it behind the reference.
+    let order = pages.order;
     let mut last = lower;
     let mut midpoint = lower;
     for i in 0..=k {
         let next = bound::bound_at(part, k, i, upper);
-        if !bound::is_below(last, next, pages.order) {
+        if !bound::is_below(last, next, order) {
             return Err(Damage {
                 page,
                 fault: Fault::OutOfBounds,
